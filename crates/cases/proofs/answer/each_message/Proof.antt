@@ -1,0 +1,28 @@
+use borrow.Author.Needs.{needs}
+use Rattle.cases.proofs.answer.each_message.Statement.{statement}
+use Rattle.cases.proofs.answer.each_message.Tie as tie
+
+abbrev Inv-loop : tie.InvT-loop
+Inv-loop b n at₀ left₀ at left = Unit {0}
+
+abbrev μ-loop : tie.MeasureT-loop
+μ-loop b n at₀ left₀ at left = left
+
+pub each-message-spec : {M : Type 1} → statement M
+each-message-spec =
+    tie.close
+    (tie.spec
+    Inv-loop
+    μ-loop
+    (λ c. search needs)
+    (λ c κs. search needs)
+    (λ c. search needs)
+    (λ c κs. search needs)
+    (λ c. search needs)
+    (λ c. search needs)
+    (λ c. search needs)
+    (λ c. search needs)
+    (λ c. search needs)
+    (λ c. search needs)
+    (λ c. search needs)
+    (λ c. search needs))

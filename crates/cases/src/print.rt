@@ -1,0 +1,40 @@
+// What is written.
+
+pub fn say(text: &[u8]) {
+    io::write_all(1, text);
+}
+
+// A space, a word, a space and a number.
+pub fn field(name: &[u8], n: u64) {
+    say(b" ");
+    say(name);
+    say(b" ");
+    io::print_decimal(1, n);
+}
+
+pub fn hex_field(name: &[u8], n: u64, width: usize) {
+    say(b" ");
+    say(name);
+    say(b" ");
+    io::print_hex(1, n, width);
+}
+
+// Two digits.
+pub fn hex_byte(x: u8) {
+    io::print_hex(1, x as u64, 2);
+}
+
+// A space, a word, a space and bytes, two digits each; '-' for none.
+pub fn bytes_field(name: &[u8], b: &[u8]) {
+    say(b" ");
+    say(name);
+    say(b" ");
+    if b.len() == 0 {
+        say(b"-");
+    }
+    let mut i: usize = 0;
+    while i < b.len() {
+        hex_byte(b[i]);
+        i += 1;
+    }
+}

@@ -1,0 +1,23 @@
+use Rattle.isdb_tlv.specs.Bytes.{be}
+use native.Mathlib.Omega.{arith}
+use native.Mathlib.Nat.{add-zero}
+use borrow.Author.Needs.{needs}
+use Rattle.isdb_tlv.proofs.bytes.u16_at.Statement.{statement}
+use Rattle.isdb_tlv.proofs.bytes.u16_at.Tie as tie
+
+returns : tie.Need-returns
+unfolding be
+returns c = simp add-zero (omega arith)
+
+pub u16-at-spec : {M : Type 1} → statement M
+u16-at-spec =
+    tie.close
+    (tie.spec
+    (λ c. search needs)
+    (λ c κs. search needs)
+    (λ c. search needs)
+    (λ c. search needs)
+    (λ c. search needs)
+    (λ c κs. search needs)
+    (λ c. search needs)
+    returns)

@@ -1,0 +1,21 @@
+use borrow.Author.Needs.{needs}
+use Rattle.isdb_tlv.proofs.ip.flow_v6.Statement.{statement}
+use Rattle.isdb_tlv.proofs.ip.flow_v6.Tie as tie
+
+returns : tie.Need-returns
+returns c = cc
+
+pub flow-v6-spec : {M : Type 1} → statement M
+flow-v6-spec =
+    tie.close
+    (tie.spec
+    (λ c κs. search needs)
+    (λ c. search needs)
+    (λ c κs. search needs)
+    (λ c κs. search needs)
+    (λ c. search needs)
+    (λ c κs. search needs)
+    (λ c κs. search needs)
+    (λ c. search needs)
+    (λ c κs. search needs)
+    returns)

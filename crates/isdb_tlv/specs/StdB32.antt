@@ -1,0 +1,154 @@
+-- ARIB STD-B32 Part 3: TLV packets (3.5) and header-compressed IP (3.7) as a conforming sender writes them, and what it
+-- means to read them right.
+use Prim.Native.Nat.{ℕ, _^_, _<_}
+use mathlib.Core.Path.{_≡_}
+use mathlib.Core.List.{List, [], _∷_, _++_}
+use lib.ListN.{length, drop, getD}
+use Rattle.isdb_tlv.specs.Bytes.{be}
+use Rattle.isdb_tlv.specs.Fields.{Field, field, bits, packed, written}
+use Rattle.isdb_tlv.specs.Tlv.{typeByte, packetType}
+use Rattle.isdb_tlv.specs.Ip.{datagram, compressedOf}
+use Rattle.isdb_tlv.specs.declared.tlv.PacketType.{PacketType}
+use Rattle.isdb_tlv.specs.declared.tlv.PacketType.the-variants.{Ipv4, Ipv6, Compressed, Control, Null, Other}
+use Rattle.isdb_tlv.specs.declared.ip.Address.the-variants.{V4, V6}
+use Rattle.isdb_tlv.specs.declared.ip.MaybeFlow.{MaybeFlow}
+use Rattle.isdb_tlv.specs.declared.ip.MaybeFlow.the-variants.{None as noFlow, Some as someFlow}
+use Rattle.isdb_tlv.specs.declared.ip.MaybeContext.the-variants.{Some as someContext}
+
+-- 3.5: a TLV packet is the bits 01 and 111111, a type, a length and so many bytes of data
+pub record Tlv : Type 0 where
+  pub kind : PacketType
+  pub content : List ℕ
+
+abbrev pub tlvHeader : Tlv → List Field
+tlvHeader t = field 1 0x7F ∷ field 1 (typeByte (t .kind)) ∷ field 2 (length (t .content)) ∷ []
+
+unfoldable pub tlvSent : Tlv → List ℕ
+tlvSent t = written (tlvHeader t) ++ t .content
+
+-- a kind that the standard defines
+abbrev pub Defined : PacketType → Type 0
+Defined Ipv4 = Unit {0}
+Defined Ipv6 = Unit {0}
+Defined Compressed = Unit {0}
+Defined Control = Unit {0}
+Defined Null = Unit {0}
+Defined (Other v) = ⊥
+
+-- such a kind, and content of at most 65,535 bytes
+pub record TlvConforming (t : Tlv) : Type 0 where
+  pub kind : Defined (t .kind)
+  pub short : length (t .content) < 2 ^ 16
+
+pub record TlvRead (t : Tlv) : Type 0 where
+  pub sync : getD (tlvSent t) 0 0 ≡ 0x7F
+  pub kind : packetType (getD (tlvSent t) 1 0) ≡ t .kind
+  pub contentLength : be 2 (tlvSent t) 2 ≡ length (t .content)
+  pub content : drop 4 (tlvSent t) ≡ t .content
+
+-- 3.7: what follows the header type
+pub data Header : Type 0 where
+  -- 20h: an IPv4 header without total length, checksum and options, and the ports: IHL, type of service, identification,
+  -- flags with fragment offset, time to live, source, destination, source port, destination port
+  ipv4 : ℕ → ℕ → ℕ → ℕ → ℕ → ℕ → ℕ → ℕ → ℕ → Header
+  -- 21h: the identification of the IPv4 header
+  ipv4Id : ℕ → Header
+  -- 60h: an IPv6 header without payload length, and the ports: traffic class, flow label, hop limit, source and
+  -- destination in halves, source port, destination port
+  ipv6 : ℕ → ℕ → ℕ → ℕ → ℕ → ℕ → ℕ → ℕ → ℕ → Header
+  -- 61h: nothing
+  ipv6Id : Header
+
+abbrev pub headerType : Header → ℕ
+headerType (ipv4 l t i f h s d p q) = 0x20
+headerType (ipv4Id i) = 0x21
+headerType (ipv6 t f h sh sl dh dl p q) = 0x60
+headerType ipv6Id = 0x61
+
+abbrev pub headerFields : Header → List Field
+headerFields (ipv4 ihl tos id fragment ttl source destination sport dport) =
+    field 1 (packed (bits 4 4 ∷ bits 4 ihl ∷ []))
+    ∷ field 1 tos
+    ∷ field 2 id
+    ∷ field 2 fragment
+    ∷ field 1 ttl
+    ∷ field 1 17
+    ∷ field 4 source
+    ∷ field 4 destination
+    ∷ field 2 sport
+    ∷ field 2 dport
+    ∷ []
+headerFields (ipv4Id id) = field 2 id ∷ []
+headerFields (ipv6 trafficClass flowLabel hopLimit sh sl dh dl sport dport) =
+    field 4 (packed (bits 4 6 ∷ bits 8 trafficClass ∷ bits 20 flowLabel ∷ []))
+    ∷ field 1 17
+    ∷ field 1 hopLimit
+    ∷ field 8 sh
+    ∷ field 8 sl
+    ∷ field 8 dh
+    ∷ field 8 dl
+    ∷ field 2 sport
+    ∷ field 2 dport
+    ∷ []
+headerFields ipv6Id = []
+
+-- a compressed packet: context id 12 bits, sequence number 4, header type 8, then the header and the payload
+pub record Hcfb : Type 0 where
+  pub context : ℕ
+  pub sequence : ℕ
+  pub header : Header
+  pub payload : List ℕ
+
+abbrev pub hcfbFields : Hcfb → List Field
+hcfbFields p =
+    field 2 (packed (bits 12 (p .context) ∷ bits 4 (p .sequence) ∷ []))
+    ∷ field 1 (headerType (p .header))
+    ∷ headerFields (p .header)
+
+unfoldable pub hcfbSent : Hcfb → List ℕ
+hcfbSent p = written (hcfbFields p) ++ p .payload
+
+-- every value fits its field
+pub data HeaderConforming : Header → Type 0 where
+  ipv4Fits : {ihl tos id fragment ttl source destination sport dport : ℕ}
+      → ihl < 2 ^ 4 → tos < 2 ^ 8 → id < 2 ^ 16 → fragment < 2 ^ 16 → ttl < 2 ^ 8
+      → source < 2 ^ 32 → destination < 2 ^ 32 → sport < 2 ^ 16 → dport < 2 ^ 16
+      → HeaderConforming (ipv4 ihl tos id fragment ttl source destination sport dport)
+  ipv4IdFits : {id : ℕ} → id < 2 ^ 16 → HeaderConforming (ipv4Id id)
+  ipv6Fits : {trafficClass flowLabel hopLimit sh sl dh dl sport dport : ℕ}
+      → trafficClass < 2 ^ 8 → flowLabel < 2 ^ 20 → hopLimit < 2 ^ 8
+      → sh < 2 ^ 64 → sl < 2 ^ 64 → dh < 2 ^ 64 → dl < 2 ^ 64 → sport < 2 ^ 16 → dport < 2 ^ 16
+      → HeaderConforming (ipv6 trafficClass flowLabel hopLimit sh sl dh dl sport dport)
+  ipv6IdFits : HeaderConforming ipv6Id
+
+pub record HcfbConforming (p : Hcfb) : Type 0 where
+  pub context : p .context < 2 ^ 12
+  pub sequence : p .sequence < 2 ^ 4
+  pub header : HeaderConforming (p .header)
+
+-- the flow, where the header carries one
+abbrev pub flowIn : Header → MaybeFlow
+flowIn (ipv4 l t i f h source destination sport dport) =
+    someFlow (record { src = V4 source; dst = V4 destination; sport = sport; dport = dport })
+flowIn (ipv4Id i) = noFlow
+flowIn (ipv6 t f h sh sl dh dl sport dport) =
+    someFlow (record { src = V6 sh sl; dst = V6 dh dl; sport = sport; dport = dport })
+flowIn ipv6Id = noFlow
+
+-- where the payload starts
+abbrev pub startOf : Header → ℕ
+startOf (ipv4 l t i f h s d p q) = 23
+startOf (ipv4Id i) = 5
+startOf (ipv6 t f h sh sl dh dl p q) = 45
+startOf ipv6Id = 3
+
+pub record HcfbRead (p : Hcfb) : Type 0 where
+  pub fields : compressedOf (hcfbSent p) ≡ datagram (someContext (p .context)) (flowIn (p .header)) (startOf (p .header))
+  pub payload : drop (startOf (p .header)) (hcfbSent p) ≡ p .payload
+
+-- proved in proofs/StdB32.antt
+abbrev pub TlvTheorem : Type 0
+TlvTheorem = (t : Tlv) → TlvConforming t → TlvRead t
+
+abbrev pub HcfbTheorem : Type 0
+HcfbTheorem = (p : Hcfb) → HcfbConforming p → HcfbRead p

@@ -1,0 +1,96 @@
+// TLV-SI in transmission control packets: TLV-NIT (table id 40h, 41h) and AMT (FEh), sections of the extended format with
+// a CRC (ARIB STD-B60, 5). The layout around them is not public, so they are found by their header and CRC.
+ghost use mathlib.Core.Path.{_≡_};
+ghost use Prim.Native.Nat.{_+_, _≤_, _<_};
+ghost use lib.ListN.{length, take, drop};
+ghost use Rattle.isdb_tlv.specs.Si.{isTlvSi, sectionAt, nextSection};
+use crate::bytes;
+use crate::crc;
+
+// A section found in a control packet's data.
+pub struct Section {
+    // Where it starts.
+    pub offset: usize,
+    pub table_id: u8,
+    // Table id extension: the network id of a TLV-NIT.
+    pub extension: u16,
+    pub version: u8,
+    // Of the whole section, CRC included.
+    pub length: usize,
+}
+
+impl Section {
+    // The whole section, a part of the data it was found in.
+    pub fn bytes(self, data: &[u8]) -> &[u8]
+        ensures { λ r. ⌜ now r ≡ take (self .length) (drop (self .offset) (now («data» .entry))) ⌝ }
+    {
+        let offset = self.offset;
+        let length = self.length;
+        bytes::part(data, offset, length)
+    }
+}
+
+pub enum MaybeSection {
+    None,
+    Some(Section),
+}
+
+fn is_tlv_si(id: u8) -> bool
+    ensures { λ r. ⌜ r ≡ isTlvSi id ⌝ }
+{
+    match id {
+        0x40 => true,
+        0x41 => true,
+        0xFE => true,
+        _ => false,
+    }
+}
+
+// The section that starts at i, if one does.
+fn section_at(data: &[u8], i: usize) -> MaybeSection
+    requires { ⌜ i + 3 ≤ length (now «data») ⌝ }
+    ensures { λ r. ⌜ r ≡ sectionAt (now («data» .entry)) i ⌝ }
+{
+    let table_id = data[i];
+    if !is_tlv_si(table_id) {
+        return MaybeSection::None;
+    }
+    if data[i + 1] < 128 {
+        return MaybeSection::None;
+    }
+    let length = bytes::get_u12(data, i + 1) as usize + 3;
+    if length < 12 {
+        return MaybeSection::None;
+    }
+    if data.len() - i < length {
+        return MaybeSection::None;
+    }
+    let end = i + length;
+    if crc::crc32(&data[i..end]) != 0 {
+        return MaybeSection::None;
+    }
+    MaybeSection::Some(Section {
+        offset: i,
+        table_id,
+        extension: bytes::get_u16(data, i + 3),
+        version: data[i + 5] / 2 % 32,
+        length,
+    })
+}
+
+// The first section at or behind a place. To go on from one: the place behind it, offset + length.
+pub fn next_section(data: &[u8], at: usize) -> MaybeSection
+    ensures { λ r. ⌜ r ≡ nextSection (now («data» .entry)) at ⌝ }
+{
+    let mut i = at;
+    while i < data.len() {
+        if data.len() - i < 3 {
+            return MaybeSection::None;
+        }
+        match section_at(data, i) {
+            MaybeSection::Some(s) => return MaybeSection::Some(s),
+            MaybeSection::None => i += 1,
+        }
+    }
+    MaybeSection::None
+}
