@@ -53,7 +53,7 @@ fn more(word: &[u8], b: &[u8]) {
     if check::same(word, b"sections") {
         return sections(b);
     }
-    say(b" no such reading");
+    crate::tables::answer(word, b)
 }
 
 fn packet_type(t: PacketType) {

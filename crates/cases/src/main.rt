@@ -1,7 +1,9 @@
-// Runs the readings of isdb_tlv on cases from standard input, a line each: a word that names the reading, a space, and
+// Runs the readings of isdb_tlv and isdb_mmt on cases from standard input, a line each: a word that names the reading, a space, and
 // bytes in hexadecimal. It writes the line again, with what was found behind it.
 mod answer;
+mod descriptors;
 mod print;
+mod tables;
 mod text;
 
 fn main() {

@@ -7,10 +7,11 @@ use native.Mathlib.Omega.{arith}
 use lib.Arith.{bin-ind}
 use lib.ListN.{getD}
 use lib.Bits.{bitXor, differ, xor-step, xor-comm, xor-self, xor-zero-r, xor-lt, xor-block, xor-mod, xor-shr, xor-shifted}
-use Rattle.isdb_tlv.specs.Crc.{gate, feed, feedBits, feedByte, crcFrom}
+use Rattle.isdb_tlv.specs.Crc.{gate, feed, feedBits, feedByte, crcFrom, crcOf}
+use Rattle.isdb_tlv.specs.Fields.{bytesOf}
 use Rattle.isdb_tlv.proofs.CrcTable.{right, entry, itself}
 use Rattle.isdb_tlv.proofs.Table.{every}
-use mathlib.Core.List.{List}
+use mathlib.Core.List.{List, [], _∷_, _++_}
 use native.Mathlib.Numerals.{add-one}
 use lib.Dec.{T}
 use lib.ListN.{length, drop}
@@ -142,3 +143,42 @@ module _ (z b : ℕ) (hz : z < 2 ^ 32) (hb : b < 256) where
 -- a byte of the section goes in
 pub crc-step : (z i : ℕ) (s : List ℕ) → i < length s → crcFrom z (drop i s) ≡ crcFrom (feedByte z (getD s i 0)) (drop (i + 1) s)
 crc-step z i s h = rw (add-one, drop-cons s i 0)
+
+-- the register holds 32 bits
+byte-lt : (z b : ℕ) → feedByte z b < 2 ^ 32
+unfolding feedByte
+byte-lt z b = feed-lt _ _
+
+pub crc-lt : (m : List ℕ) {z : ℕ} → z < 2 ^ 32 → crcFrom z m < 2 ^ 32
+crc-lt [] h = h
+crc-lt (b ∷ m) {z} h = crc-lt m (byte-lt z b)
+
+-- one list behind another
+pub crc-append : (z : ℕ) (m r : List ℕ) → crcFrom z (m ++ r) ≡ crcFrom (crcFrom z m) r
+crc-append z [] r = refl
+crc-append z (b ∷ m) r = crc-append (feedByte z b) m r
+
+-- the register's own high byte leaves nothing but a shift
+own-byte : (z b : ℕ) → z < 2 ^ 32 → b ≡ z / 2 ^ 24 → feedByte z b ≡ z * 256 % 2 ^ 32
+unfolding feedByte feed
+own-byte z b hz e =
+    let l = z % 2 ^ 24 in
+    let whole : z ≡ b * 2 ^ 24 + l = omega arith in
+    let shifted : z * 256 % 2 ^ 32 ≡ l * 256 = omega arith in
+    ap (feedBits 8 b) whole ∙ by-table b l b (omega arith) (omega arith)
+    ∙ ap (λ (x : ℕ). bitXor (l * 256) (feedBits 8 x 0)) (xor-self b) ∙ xor-zero-r (l * 256) ∙ sym shifted
+
+-- so its four bytes leave nothing
+own-bytes : (z : ℕ) → z < 2 ^ 32 → crcFrom z (bytesOf 4 z) ≡ 0
+unfolding bytesOf
+own-bytes z h =
+    let y = z * 256 % 2 ^ 32 in
+    let x = y * 256 % 2 ^ 32 in
+    let w = x * 256 % 2 ^ 32 in
+    rw (own-byte z (z / 256 / 256 / 256 % 256) h (omega arith), own-byte y (z / 256 / 256 % 256) (omega arith) (omega arith))
+    (rw (own-byte x (z / 256 % 256) (omega arith) (omega arith), own-byte w (z % 256) (omega arith) (omega arith)) (omega arith))
+
+-- a message with its own CRC behind it has the CRC 0
+pub crc-closed : (m : List ℕ) → crcOf (m ++ bytesOf 4 (crcOf m)) ≡ 0
+unfolding crcOf
+crc-closed m = crc-append 0xFFFF_FFFF m _ ∙ own-bytes (crcOf m) (crc-lt m (omega arith))

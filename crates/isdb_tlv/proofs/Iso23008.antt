@@ -12,7 +12,7 @@ use lib.Seq.{take-at, drop-at, getD-drop}
 use borrow.Author.Tests.{lt-ltb, le-ltb, le-leb, lt-leb, ne-eqb, eqb-true, leb-true, leb-false}
 use Rattle.isdb_tlv.specs.Bytes.{be}
 use Rattle.isdb_tlv.specs.Fields.{Field, field, bits, packed, written}
-use Rattle.isdb_tlv.specs.Mmtp.{fecType, entries, extensionAt, fixedSize, afterFixed, mmtpOf}
+use Rattle.isdb_tlv.specs.Mmtp.{fecType, payloadType, entries, extensionAt, fixedSize, afterFixed, mmtpOf}
 use Rattle.isdb_tlv.specs.Iso23008.{Entry, Extension, noExtension, multiType, otherType, Mmtp, entrySent, entriesSent}
 use Rattle.isdb_tlv.specs.Iso23008.{extensionBytes, extensionSent, extensionFlag, counterSent, counterFlag, header, front, sent}
 use Rattle.isdb_tlv.specs.Iso23008.{EntryConforming, EntriesConforming, ExtensionConforming, Conforming}
@@ -123,6 +123,11 @@ fec-bits : (a b : ℕ) → fecType (a * 4 + b) ≡ fecType b
 unfolding fecType
 fec-bits a b = let e : (a * 4 + b) % 4 ≡ b % 4 = omega arith in rw e
 
+-- and six are the payload type
+payload-bits : (a b : ℕ) → payloadType (a * 64 + b) ≡ payloadType b
+unfolding payloadType
+payload-bits a b = let e : (a * 64 + b) % 64 ≡ b % 64 = omega arith in rw e
+
 abbrev fixed : Mmtp → List ℕ
 fixed p = written (header p) ++ counterSent (p .packetCounter)
 
@@ -139,10 +144,10 @@ module _ (p : Mmtp) (c : Conforming p) where
       rw (append-assoc (fixed p), append-assoc (written (header p)))
       (read (header p) (omega (arith, counted, extended)) k (counterSent (p .packetCounter) ++ (extensionSent (p .extension) ++ p .payload)))
 
-  first : getD (sent p) 0 0 ≡ counterFlag (p .packetCounter) * 32 + p .fec * 8 + extensionFlag (p .extension) * 2 + p .rap
+  first : getD (sent p) 0 0 ≡ counterFlag (p .packetCounter) * 32 + p .fec * 8 + p .reserved * 4 + extensionFlag (p .extension) * 2 + p .rap
   first = omega (arith, be-one (sent p) 0 ∙ of-header 0)
 
-  second : getD (sent p) 1 0 ≡ p .payloadType
+  second : getD (sent p) 1 0 ≡ p .reserved2 * 64 + p .payloadType
   second = omega (arith, be-one (sent p) 1 ∙ of-header 1)
 
   long : 12 ≤ length (sent p)
@@ -167,7 +172,7 @@ module _ (p : Mmtp) (c : Conforming p) where
       let zero : getD s 0 0 / 64 ≡ 0 = omega (arith, first, counted, extended) in
       let rap : getD s 0 0 % 2 ≡ p .rap = omega (arith, first) in
       let eighth : getD s 0 0 / 8 ≡ counterFlag (p .packetCounter) * 4 + p .fec = omega (arith, first, extended) in
-      rw (le-ltb (length s) 12 long, zero, behind-fixed, eighth, fec-bits, rap, second, of-header 2, of-header 4)
+      rw (le-ltb (length s) 12 long, zero, behind-fixed, eighth, fec-bits, rap, second, payload-bits, of-header 2, of-header 4)
 
   payload : drop (length (front p)) (sent p) ≡ p .payload
   unfolding sent

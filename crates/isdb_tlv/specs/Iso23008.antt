@@ -25,9 +25,12 @@ pub data Extension : Type 0 where
   multiType : List Entry → Entry → Extension
   otherType : ℕ → List ℕ → Extension
 
+-- reserved bits as the sender likes
 pub record Mmtp : Type 0 where
   pub fec : ℕ
+  pub reserved : ℕ
   pub rap : ℕ
+  pub reserved2 : ℕ
   pub payloadType : ℕ
   pub packetId : ℕ
   pub deliveryTimestamp : ℕ
@@ -71,8 +74,8 @@ counterFlag (some c) = 1
 -- id, delivery timestamp, packet sequence number
 abbrev pub header : Mmtp → List Field
 header p =
-    field 1 (packed (bits 2 0 ∷ bits 1 (counterFlag (p .packetCounter)) ∷ bits 2 (p .fec) ∷ bits 1 0 ∷ bits 1 (extensionFlag (p .extension)) ∷ bits 1 (p .rap) ∷ []))
-    ∷ field 1 (packed (bits 2 0 ∷ bits 6 (p .payloadType) ∷ []))
+    field 1 (packed (bits 2 0 ∷ bits 1 (counterFlag (p .packetCounter)) ∷ bits 2 (p .fec) ∷ bits 1 (p .reserved) ∷ bits 1 (extensionFlag (p .extension)) ∷ bits 1 (p .rap) ∷ []))
+    ∷ field 1 (packed (bits 2 (p .reserved2) ∷ bits 6 (p .payloadType) ∷ []))
     ∷ field 2 (p .packetId)
     ∷ field 4 (p .deliveryTimestamp)
     ∷ field 4 (p .sequenceNumber)
@@ -103,7 +106,9 @@ ExtensionConforming (otherType type b) = (0 < type) × (type < 2 ^ 16) × (lengt
 
 pub record Conforming (p : Mmtp) : Type 0 where
   pub fec : p .fec < 2 ^ 2
+  pub reserved : p .reserved < 2
   pub rap : p .rap < 2
+  pub reserved2 : p .reserved2 < 2 ^ 2
   pub payloadType : p .payloadType < 2 ^ 6
   pub packetId : p .packetId < 2 ^ 16
   pub deliveryTimestamp : p .deliveryTimestamp < 2 ^ 32

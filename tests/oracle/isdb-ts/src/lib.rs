@@ -19,3 +19,13 @@ pub enum Error {
 }
 
 pub type Result<T> = std::result::Result<T, Error>;
+
+/// A PID field, as its 16 bits stand.
+#[derive(Debug, Clone, Copy, PartialEq, Eq)]
+pub struct Pid(pub u16);
+
+impl Pid {
+    pub fn from_wire(bits: u16) -> Self {
+        Self(bits)
+    }
+}

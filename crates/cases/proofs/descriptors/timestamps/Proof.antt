@@ -1,0 +1,35 @@
+use borrow.Author.Needs.{needs}
+use Rattle.cases.proofs.descriptors.timestamps.Statement.{statement}
+use Rattle.cases.proofs.descriptors.timestamps.Tie as tie
+
+abbrev Inv-loop : tie.InvT-loop
+Inv-loop b at₀ left₀ t9 at left = Unit {0}
+
+abbrev μ-loop : tie.MeasureT-loop
+μ-loop b at₀ left₀ t9 at left = left
+
+pub timestamps-spec : {M : Type 1} → statement M
+timestamps-spec =
+    tie.close
+    (tie.spec
+    Inv-loop
+    μ-loop
+    (λ c. search needs)
+    (λ c κs. search needs)
+    (λ c. search needs)
+    (λ c κs. search needs)
+    (λ c. search needs)
+    (λ c κs. search needs)
+    (λ c. search needs)
+    (λ c. search needs)
+    (λ c. search needs)
+    (λ c κs. search needs)
+    (λ c. search needs)
+    (λ c κs. search needs)
+    (λ c. search needs)
+    (λ c κs. search needs)
+    (λ c κs. search needs)
+    (λ c. search needs)
+    (λ c. search needs)
+    (λ c. search needs)
+    (λ c. search needs))

@@ -1,0 +1,45 @@
+use borrow.Author.Needs.{needs}
+use Rattle.cases.proofs.tables.mpt_table.Statement.{statement}
+use Rattle.cases.proofs.tables.mpt_table.Tie as tie
+
+abbrev Inv-loop : tie.InvT-loop
+Inv-loop b at₀ left₀ at left = Unit {0}
+
+abbrev μ-loop : tie.MeasureT-loop
+μ-loop b at₀ left₀ at left = left
+
+pub mpt-table-spec : {M : Type 1} → statement M
+mpt-table-spec =
+    tie.close
+    (tie.spec
+    Inv-loop
+    μ-loop
+    (λ c. search needs)
+    (λ c κs. search needs)
+    (λ c. search needs)
+    (λ c κs. search needs)
+    (λ c. search needs)
+    (λ c. search needs)
+    (λ c κs. search needs)
+    (λ c. search needs)
+    (λ c. search needs)
+    (λ c κs. search needs)
+    (λ c. search needs)
+    (λ c κs. search needs)
+    (λ c. search needs)
+    (λ c κs. search needs)
+    (λ c κs. search needs)
+    (λ c κs. search needs)
+    (λ c. search needs)
+    (λ c κs. search needs)
+    (λ c κs. search needs)
+    (λ c. search needs)
+    (λ c κs. search needs)
+    (λ c. search needs)
+    (λ c. search needs)
+    (λ c. search needs)
+    (λ c κs. search needs)
+    (λ c. search needs)
+    (λ c. search needs)
+    (λ c. search needs)
+    (λ c. search needs))

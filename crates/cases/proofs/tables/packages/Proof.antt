@@ -1,0 +1,33 @@
+use borrow.Author.Needs.{needs}
+use Rattle.cases.proofs.tables.packages.Statement.{statement}
+use Rattle.cases.proofs.tables.packages.Tie as tie
+
+abbrev Inv-loop : tie.InvT-loop
+Inv-loop b at₀ left₀ t10 t11 at left = Unit {0}
+
+abbrev μ-loop : tie.MeasureT-loop
+μ-loop b at₀ left₀ t10 t11 at left = left
+
+pub packages-spec : {M : Type 1} → statement M
+packages-spec =
+    tie.close
+    (tie.spec
+    Inv-loop
+    μ-loop
+    (λ c. search needs)
+    (λ c κs. search needs)
+    (λ c. search needs)
+    (λ c. search needs)
+    (λ c. search needs)
+    (λ c. search needs)
+    (λ c κs. search needs)
+    (λ c κs. search needs)
+    (λ c κs. search needs)
+    (λ c. search needs)
+    (λ c κs. search needs)
+    (λ c κs. search needs)
+    (λ c κs. search needs)
+    (λ c. search needs)
+    (λ c. search needs)
+    (λ c. search needs)
+    (λ c. search needs))

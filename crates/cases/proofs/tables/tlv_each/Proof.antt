@@ -1,0 +1,30 @@
+use borrow.Author.Needs.{needs}
+use Rattle.cases.proofs.tables.tlv_each.Statement.{statement}
+use Rattle.cases.proofs.tables.tlv_each.Tie as tie
+
+abbrev Inv-loop : tie.InvT-loop
+Inv-loop pad b at₀ left₀ t8 at left = Unit {0}
+
+abbrev μ-loop : tie.MeasureT-loop
+μ-loop pad b at₀ left₀ t8 at left = left
+
+pub tlv-each-spec : {M : Type 1} → statement M
+tlv-each-spec =
+    tie.close
+    (tie.spec
+    Inv-loop
+    μ-loop
+    (λ c. search needs)
+    (λ c κs. search needs)
+    (λ c. search needs)
+    (λ c. search needs)
+    (λ c. search needs)
+    (λ c. search needs)
+    (λ c κs. search needs)
+    (λ c κs. search needs)
+    (λ c κs. search needs)
+    (λ c κs. search needs)
+    (λ c. search needs)
+    (λ c. search needs)
+    (λ c. search needs)
+    (λ c. search needs))

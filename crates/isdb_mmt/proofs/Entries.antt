@@ -1,0 +1,142 @@
+-- The entries of a table's loop: each leads on to a place ahead and lies within the loop, so that steps from one to the next go
+-- over all of them. Assumes nothing.
+use Prim.Native.Nat.{ℕ, zero, suc, _+_, _-_, _≤_, _<_}
+use mathlib.Core.Path.{_≡_, refl, sym, ap, _∙_}
+use mathlib.Core.Bool.{true, false, not, true≢false}
+use mathlib.Core.List.{List, [], _∷_, map}
+use native.Mathlib.Nat.{zero-add, add-zero, add-assoc}
+use native.Mathlib.Omega.{arith}
+use lib.Dec.{ltb, leb}
+use lib.ListN.{length}
+use borrow.Author.Tests.{ltb-false, leb-true, leb-false}
+use Rattle.isdb_tlv.specs.Walk.{turn, Ahead, walk-at}
+use Rattle.isdb_tlv.proofs.Guards.{cond-elim, either}
+use Rattle.isdb_mmt.specs.Part.{partOf}
+use Rattle.isdb_mmt.specs.Timestamp.{isSome}
+use Rattle.isdb_mmt.specs.Desc.{splitOf, broken}
+use Rattle.isdb_mmt.specs.Section.{length12, entryAt, Loop, ended, entryItem, entriesFrom, entriesTold}
+use Rattle.isdb_mmt.specs.declared.table.section.Entry.{Entry}
+use Rattle.isdb_mmt.specs.declared.table.section.EntryStep.{EntryStep}
+use Rattle.isdb_mmt.specs.declared.table.section.EntryStep.the-variants.{End, Malformed as malformed, Entry as entry}
+use Rattle.isdb_mmt.specs.declared.table.section.Entries.{Entries}
+
+-- an entry at `at`, with `k` bytes of fields: its descriptors stand behind their length and end where the next entry stands
+pub record Lies (s : List ℕ) (k at : ℕ) (e : Entry) (next : ℕ) : Type 0 where
+  pub here : e .at ≡ at
+  pub starts : e .descriptors .start ≡ at + k + 2
+  pub ends : e .descriptors .start + e .descriptors .length ≡ next
+  pub within : next ≤ length s
+
+abbrev pub Inside : List ℕ → ℕ → ℕ → EntryStep → Type 0
+Inside s k at End = length s ≤ at
+Inside s k at malformed = at < length s
+Inside s k at (entry e next) = Lies s k at e next
+
+module _ (s : List ℕ) (k : ℕ) where
+  pub entry-inside : (at : ℕ) → Inside s k at (entryAt s k at)
+  unfolding entryAt
+  entry-inside at =
+      cond-elim (Inside s k at) (leb (length s) at) (λ e. leb-true (length s) at e) (λ e.
+      let a = leb-false (length s) at e in
+      cond-elim (Inside s k at) (ltb (length s - at) (k + 2)) (λ e1. a) (λ e1.
+      cond-elim (Inside s k at) (ltb (length s - (at + k + 2)) (length12 s (at + k))) (λ e2. a) (λ e2.
+      let b = ltb-false (length s - at) (k + 2) e1 in
+      let d = ltb-false (length s - (at + k + 2)) (length12 s (at + k)) e2 in
+      record { here = refl; starts = refl; ends = refl; within = omega arith })))
+
+  pub entry-lies : {at next : ℕ} {e : Entry} → entryAt s k at ≡ entry e next → Lies s k at e next
+  entry-lies {at} e = rw e at (entry-inside at)
+
+  ahead-of : (at : ℕ) (d : EntryStep) → Inside s k at d → Ahead (length s) at (entryItem s d)
+  ahead-of at End w = tt
+  ahead-of at malformed w = tt
+  ahead-of at (entry e next) w = omega (arith, w .starts, w .ends, w .within)
+
+  -- the entries from a place on: what stands there, and the entries from where it leads
+  pub entries-at : (at : ℕ) → entriesFrom s k at ≡ turn (entriesFrom s k) (entryItem s (entryAt s k at))
+  unfolding entriesFrom
+  entries-at at =
+      walk-at (λ p. entryItem s (entryAt s k p)) (ended true) (length s) (λ p. ahead-of p (entryAt s k p) (entry-inside p)) at
+
+-- what a table makes of its entries, by steps: at an entry, that one's and those from the next place on
+module _ {A : Type 0} (f : Entry → A) (s : List ℕ) (k : ℕ) where
+  abbrev pub onward : EntryStep → List A
+  onward End = []
+  onward malformed = []
+  onward (entry e next) = f e ∷ map f (entriesFrom s k next .found)
+
+  mapped : (d : EntryStep) → map f (turn (entriesFrom s k) (entryItem s d) .found) ≡ onward d
+  mapped End = refl
+  mapped malformed = refl
+  mapped (entry e next) = refl
+
+  pub mapped-at : (at : ℕ) → map f (entriesFrom s k at .found) ≡ onward (entryAt s k at)
+  mapped-at at = ap (λ (l : Loop). map f (l .found)) (entries-at s k at) ∙ mapped (entryAt s k at)
+
+-- of one loop, one breaks at most
+pub broken-le : (s : List ℕ) {m : ℕ} → m ≡ broken s → m ≤ 1
+broken-le s e = rw e (cond-elim (λ n. n ≤ 1) (isSome (splitOf s .broke)) (λ d. omega arith) (λ d. omega arith))
+
+-- what is told of a loop says whether it is whole
+module _ (s : List ℕ) (k at : ℕ) {r : Entries} (e : r ≡ entriesTold (entriesFrom s k at)) where
+  pub is-whole : not (r .whole) ≡ false → entriesFrom s k at .whole ≡ true
+  unfolding entriesTold
+  is-whole h = either (entriesFrom s k at .whole) (λ d. d) (λ d. absurd (true≢false (rw (e, d) at h)))
+
+  pub not-whole : not (r .whole) ≡ true → entriesFrom s k at .whole ≡ false
+  unfolding entriesTold
+  not-whole h = either (entriesFrom s k at .whole) (λ d. absurd (true≢false (sym (rw (e, d) at h)))) (λ d. d)
+
+-- an entry takes two bytes at least, so no more loops break than there are bytes
+module _ (s : List ℕ) (k : ℕ) where
+  breaks-step : (at : ℕ) → ((next : ℕ) → at < next → next ≤ length s → entriesFrom s k next .breaks ≤ length s - next)
+      → (d : EntryStep) → Inside s k at d → turn (entriesFrom s k) (entryItem s d) .breaks ≤ length s - at
+  breaks-step at h End w = omega arith
+  breaks-step at h malformed w = omega arith
+  breaks-step at h (entry e next) w =
+      let a : at < next = omega (arith, w .starts, w .ends) in
+      let b : broken (partOf s (e .descriptors)) ≤ 1 = broken-le (partOf s (e .descriptors)) refl in
+      omega (arith, h next a (w .within), w .within)
+
+  breaks-within : (n at : ℕ) → length s - at < n → entriesFrom s k at .breaks ≤ length s - at
+  breaks-within zero at h = absurd (omega arith)
+  breaks-within (suc n) at h =
+      rw (entries-at s k at)
+      (breaks-step at (λ next a b. breaks-within n next (omega arith)) (entryAt s k at) (entry-inside s k at))
+
+  pub breaks-le : (at : ℕ) {r : Entries} → r ≡ entriesTold (entriesFrom s k at) → r .breaks ≤ length s - at
+  unfolding entriesTold
+  breaks-le at e = rw e (breaks-within (suc (length s - at)) at (omega arith))
+
+-- n entries before these, and b descriptor loops that broke
+abbrev pub plus : ℕ → ℕ → Loop → Entries
+plus n b l = record { count = n + length (l .found); breaks = b + l .breaks; whole = l .whole }
+
+pub plus-zero : (l : Loop) → plus 0 0 l ≡ entriesTold l
+unfolding entriesTold
+plus-zero l = rw (zero-add (length (l .found)), zero-add (l .breaks))
+
+-- the turns of the count
+module _ (s : List ℕ) (k at n b : ℕ) {r : Entries} (e : plus n b (entriesFrom s k at) ≡ r) where
+  pub count-end : entryAt s k at ≡ End → record { count = n; breaks = b; whole = true } ≡ r
+  count-end d = rw (entries-at s k at, d, add-zero n, add-zero b) at e
+
+  pub count-malformed : entryAt s k at ≡ malformed → record { count = n; breaks = b; whole = false } ≡ r
+  count-malformed d = rw (entries-at s k at, d, add-zero n, add-zero b) at e
+
+  pub count-on : {x : Entry} {next m : ℕ} → entryAt s k at ≡ entry x next → m ≡ broken (partOf s (x .descriptors))
+      → plus (n + 1) (b + m) (entriesFrom s k next) ≡ r
+  count-on {x} {next} {m} d h =
+      let l = entriesFrom s k next in
+      let i : n + 1 + length (l .found) ≡ n + suc (length (l .found)) = omega arith in
+      rw (i, h, add-assoc b (broken (partOf s (x .descriptors))) (l .breaks)) (rw (entries-at s k at, d) at e)
+
+-- a loop as it was counted
+module _ (l : Loop) {r : Entries} (e : r ≡ entriesTold l) where
+  pub whole-told : l .whole ≡ r .whole
+  unfolding entriesTold
+  whole-told = rw e
+
+  pub count-told : length (l .found) ≡ r .count
+  unfolding entriesTold
+  count-told = rw e

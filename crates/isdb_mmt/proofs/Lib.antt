@@ -1,0 +1,19 @@
+-- Laws that belong to no one function, a file a subject.
+pub mod Floats
+pub mod Locations
+pub mod Timestamps
+pub mod Descriptors
+pub mod Entries
+pub mod Fields
+pub mod Assets
+pub mod Packages
+pub mod Services
+pub mod Nits
+pub mod Standing
+pub mod StdB60
+pub mod StdB60Sections
+pub mod Places
+pub mod Units
+pub mod Pieces
+pub mod StdB60Tables
+pub mod StdB60Short

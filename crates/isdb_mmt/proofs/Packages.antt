@@ -1,0 +1,70 @@
+-- The packages and the IP deliveries of a PLT, one behind another: a loop which counts them down goes over all of them.
+-- Assumes nothing.
+use Prim.Native.Nat.{ℕ, zero, suc, _+_, _-_, _≤_, _<_}
+use mathlib.Core.Path.{_≡_, refl}
+use mathlib.Core.Bool.{true, false, not}
+use mathlib.Core.List.{List}
+use mathlib.Core.Option.{Option, none, some}
+use native.Mathlib.Omega.{arith}
+use lib.Dec.{ltb, eqb}
+use lib.ListN.{length, getD, drop}
+use lib.Seq.{getD-drop}
+use mir.Val.{Fits}
+use mir.Syntax.{w8}
+use Rattle.isdb_tlv.proofs.Guards.{cond-elim}
+use Rattle.isdb_mmt.specs.Timestamp.{isSome}
+use Rattle.isdb_mmt.specs.Plt.{packageAt, packagesEnd, deliverySize, deliveryAt, alsoDelivery, deliveriesFrom, deliveriesWhole}
+use Rattle.isdb_mmt.specs.declared.table.mpt.Place.{Place}
+use Rattle.isdb_mmt.specs.declared.table.mpt.Place.the-variants.{None as nowhere, At}
+use Rattle.isdb_mmt.specs.declared.table.plt.Package.{Package}
+use Rattle.isdb_mmt.specs.declared.table.plt.PackageStep.the-variants.{Malformed as noPackage, Package as onePackage}
+use Rattle.isdb_mmt.specs.declared.table.plt.IpDelivery.{IpDelivery}
+use Rattle.isdb_mmt.specs.declared.table.plt.DeliveryStep.the-variants.{Malformed as noDelivery, Delivery as delivery}
+
+-- the location of an IP delivery takes 256 bytes at most
+abbrev Small : Place → Type 0
+Small nowhere = Unit {0}
+Small (At n) = n ≤ 256
+
+small : (s : List ℕ) → getD s 1 0 < 256 → Small (deliverySize s)
+unfolding deliverySize
+small s h =
+    let t = getD s 0 0 in
+    cond-elim Small (eqb t 1) (λ e. omega arith) (λ e.
+    cond-elim Small (eqb t 2) (λ e1. omega arith) (λ e1.
+    cond-elim Small (not (eqb t 5)) (λ e2. tt) (λ e2.
+    cond-elim Small (ltb (length s) 2) (λ e3. tt) (λ e3. omega arith))))
+
+pub size-le : (s : List ℕ) (p : ℕ) {n : ℕ} → ((i : ℕ) → Fits w8 (getD s i 0)) → deliverySize (drop p s) ≡ At n → n ≤ 256
+size-le s p h e = rw e at (small (drop p s) (rw (getD-drop p s 1 0) (h (p + 1) .fits)))
+
+also-some : (x : IpDelivery) (o : Option (List IpDelivery)) → isSome (alsoDelivery x o) ≡ isSome o
+also-some x none = refl
+also-some x (some l) = refl
+
+module _ (s : List ℕ) (at : ℕ) where
+  -- the turns of the loop that steps over n packages
+  pub end-none : (n : ℕ) → 0 < n → packageAt s at ≡ noPackage → packagesEnd n s at ≡ nowhere
+  end-none zero h e = absurd (omega arith)
+  end-none (suc n) h e = rw e
+
+  pub end-on : (n : ℕ) {p : Package} {next : ℕ} → 0 < n → packageAt s at ≡ onePackage p next
+      → packagesEnd n s at ≡ packagesEnd (n - 1) s next
+  end-on zero h e = absurd (omega arith)
+  end-on (suc n) h e = let i : suc n - 1 ≡ n = omega arith in rw (e, i)
+
+  -- the turns of the loop that asks whether n deliveries are whole
+  pub whole-zero : deliveriesWhole 0 s at ≡ true
+  unfolding deliveriesWhole
+  whole-zero = refl
+
+  pub whole-none : (n : ℕ) → 0 < n → deliveryAt s at ≡ noDelivery → deliveriesWhole n s at ≡ false
+  unfolding deliveriesWhole
+  whole-none zero h e = absurd (omega arith)
+  whole-none (suc n) h e = rw e
+
+  pub whole-on : (n : ℕ) {x : IpDelivery} {next : ℕ} → 0 < n → deliveryAt s at ≡ delivery x next
+      → deliveriesWhole n s at ≡ deliveriesWhole (n - 1) s next
+  unfolding deliveriesWhole
+  whole-on zero h e = absurd (omega arith)
+  whole-on (suc n) {x} {next} h e = let i : suc n - 1 ≡ n = omega arith in rw (e, i) (also-some x (deliveriesFrom n s next))

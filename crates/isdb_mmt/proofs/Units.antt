@@ -1,0 +1,123 @@
+-- The units of an MPU payload: each leads on to a place ahead and its data lie within the declared bytes, so that steps from one
+-- to the next go over all of them; and a kind and its code name each other. Assumes nothing.
+use Prim.Native.Nat.{ℕ, suc, _+_, _-_, _%_, _≤_}
+use mathlib.Core.Path.{_≡_, refl, sym, _∙_}
+use mathlib.Core.Bool.{Bool, not}
+use mathlib.Core.List.{List}
+use mathlib.Core.Option.{Option, none, some}
+use native.Mathlib.Nat.{zero-add}
+use native.Mathlib.Omega.{arith}
+use lib.Dec.{ltb, leb, eqb}
+use lib.ListN.{length}
+use borrow.Author.Tests.{ltb-false, eqb-true, eqb-false}
+use Rattle.isdb_tlv.specs.Bytes.{be}
+use Rattle.isdb_tlv.specs.Walk.{turn, Ahead, walk-at}
+use Rattle.isdb_tlv.proofs.Guards.{cond-elim}
+use Rattle.isdb_mmt.proofs.Places.{Lies}
+use Rattle.isdb_mmt.specs.Mpu.{fragmentCode, fragmentType, indicatorCode, indicator, unitIn, unitAt, unitStep, also, item, unitsFrom, counted}
+use Rattle.isdb_mmt.specs.declared.mpu.FragmentType.{FragmentType}
+use Rattle.isdb_mmt.specs.declared.mpu.FragmentationIndicator.{FragmentationIndicator}
+use Rattle.isdb_mmt.specs.declared.mpu.FragmentationIndicator.the-variants.{Complete, Head, Middle, Last}
+use Rattle.isdb_mmt.specs.declared.mpu.Unit.{Unit as DataUnit}
+use Rattle.isdb_mmt.specs.declared.mpu.UnitStep.{UnitStep}
+use Rattle.isdb_mmt.specs.declared.mpu.UnitStep.the-variants.{End, Malformed, Unit as found}
+use Rattle.isdb_mmt.specs.declared.mpu.UnitCount.{UnitCount}
+use Rattle.isdb_mmt.specs.declared.mpu.UnitCount.the-variants.{Malformed as notWhole, Count}
+
+pub fragment-code : (c : ℕ) → fragmentCode (fragmentType c) ≡ c % 16
+unfolding fragmentType
+fragment-code c =
+    let P : FragmentType → Type 0 = λ t. fragmentCode t ≡ c % 16 in
+    cond-elim P (eqb (c % 16) 0) (λ e. sym (eqb-true (c % 16) 0 e)) (λ e0.
+    cond-elim P (eqb (c % 16) 1) (λ e. sym (eqb-true (c % 16) 1 e)) (λ e1.
+    cond-elim P (eqb (c % 16) 2) (λ e. sym (eqb-true (c % 16) 2 e)) (λ e2. refl)))
+
+pub indicator-code : (c : ℕ) → indicatorCode (indicator c) ≡ c % 4
+unfolding indicator
+indicator-code c =
+    let P : FragmentationIndicator → Type 0 = λ f. indicatorCode f ≡ c % 4 in
+    cond-elim P (eqb (c % 4) 0) (λ e. sym (eqb-true (c % 4) 0 e)) (λ e0.
+    cond-elim P (eqb (c % 4) 1) (λ e. sym (eqb-true (c % 4) 1 e)) (λ e1.
+    cond-elim P (eqb (c % 4) 2) (λ e. sym (eqb-true (c % 4) 2 e)) (λ e2.
+    let n0 = eqb-false (c % 4) 0 e0 in
+    let n1 = eqb-false (c % 4) 1 e1 in
+    let n2 = eqb-false (c % 4) 2 e2 in
+    omega arith)))
+
+pub indicator-of : (f : FragmentationIndicator) → indicator (indicatorCode f) ≡ f
+unfolding indicator
+indicator-of Complete = refl
+indicator-of Head = refl
+indicator-of Middle = refl
+indicator-of Last = refl
+
+abbrev pub Inside : List ℕ → ℕ → UnitStep → Type 0
+Inside s at End = Unit {0}
+Inside s at Malformed = Unit {0}
+Inside s at (found u next) = Lies s at (u .«data») next
+
+module _ (s : List ℕ) (timed : Bool) where
+  in-inside : (at from end : ℕ) → at ≤ from → end ≤ length s → Inside s at (unitIn s timed from end)
+  unfolding unitIn
+  in-inside at from end h w =
+      cond-elim (Inside s at) timed
+      (λ e. cond-elim (Inside s at) (ltb (end - from) 14) (λ d. tt) (λ d.
+      let a = ltb-false (end - from) 14 d in
+      record { ahead = omega arith; within = w; starts = omega arith; ends = omega arith }))
+      (λ e. cond-elim (Inside s at) (ltb (end - from) 4) (λ d. tt) (λ d.
+      let a = ltb-false (end - from) 4 d in
+      record { ahead = omega arith; within = w; starts = omega arith; ends = omega arith }))
+
+module _ (s : List ℕ) (timed aggregated : Bool) where
+  at-inside : (at : ℕ) → Inside s at (unitAt s timed aggregated at)
+  unfolding unitAt
+  at-inside at =
+      let n = be 2 s at in
+      cond-elim (Inside s at) (not aggregated) (λ e. in-inside s timed at at (length s) (omega arith) (omega arith)) (λ e.
+      cond-elim (Inside s at) (ltb (length s - at) 2) (λ e1. tt) (λ e1.
+      cond-elim (Inside s at) (ltb (length s - (at + 2)) n) (λ e2. tt) (λ e2.
+      let a = ltb-false (length s - at) 2 e1 in
+      let b = ltb-false (length s - (at + 2)) n e2 in
+      in-inside s timed at (at + 2) (at + 2 + n) (omega arith) (omega arith))))
+
+  pub unit-inside : (at : ℕ) → Inside s at (unitStep s timed aggregated at)
+  unfolding unitStep
+  unit-inside at =
+      cond-elim (Inside s at) (ltb (length s) 8) (λ e. tt) (λ e.
+      cond-elim (Inside s at) (leb at 8) (λ e1. at-inside at) (λ e1.
+      cond-elim (Inside s at) (leb (length s) at) (λ e2. tt) (λ e2. at-inside at)))
+
+  -- a unit that was found
+  pub unit-lies : {at next : ℕ} {u : DataUnit} → unitStep s timed aggregated at ≡ found u next → Lies s at (u .«data») next
+  unit-lies {at} e = rw e at (unit-inside at)
+
+  ahead-of : (at : ℕ) (r : UnitStep) → Inside s at r → Ahead (length s) at (item r)
+  ahead-of at End l = tt
+  ahead-of at Malformed l = tt
+  ahead-of at (found u next) l = (omega (arith, l .ahead, l .within), l .ahead)
+
+  -- the units from a place on: what stands there, and the units from where it leads
+  pub units-at : (at : ℕ) → unitsFrom s timed aggregated at ≡ turn (unitsFrom s timed aggregated) (item (unitStep s timed aggregated at))
+  unfolding unitsFrom
+  units-at at =
+      walk-at (λ p. item (unitStep s timed aggregated p)) none (length s) (λ p. ahead-of p (unitStep s timed aggregated p) (unit-inside p)) at
+
+-- k units before these
+abbrev pub plus : ℕ → Option (List DataUnit) → UnitCount
+plus k none = notWhole
+plus k (some l) = Count (k + length l)
+
+pub plus-zero : (o : Option (List DataUnit)) → plus 0 o ≡ counted o
+unfolding counted
+plus-zero none = refl
+plus-zero (some l) = rw zero-add
+
+plus-also : (k : ℕ) (u : DataUnit) (o : Option (List DataUnit)) → plus (k + 1) o ≡ plus k (also u o)
+plus-also k u none = refl
+plus-also k u (some l) = let e : k + 1 + length l ≡ k + suc (length l) = omega arith in rw e
+
+pub one-more : (s : List ℕ) (timed aggregated : Bool) (at k : ℕ) {u : DataUnit} {next : ℕ} {r : UnitCount}
+    → unitStep s timed aggregated at ≡ found u next → plus k (unitsFrom s timed aggregated at) ≡ r
+    → plus (k + 1) (unitsFrom s timed aggregated next) ≡ r
+one-more s timed aggregated at k {u} {next} d e =
+    plus-also k u (unitsFrom s timed aggregated next) ∙ (rw (units-at s timed aggregated at, d) at e)

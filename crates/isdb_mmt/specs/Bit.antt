@@ -1,0 +1,72 @@
+-- MH-BIT: ARIB STD-B60, Table 7-21.
+use Prim.Native.Nat.{ℕ, zero, suc, _+_, _-_, _*_, _/_, _%_}
+use mathlib.Core.List.{List, [], _∷_, map}
+use mathlib.Core.Bool.{Bool, true, false}
+use lib.ListN.{length, getD, take, drop}
+use Rattle.isdb_tlv.specs.Guards.{if_then_else_, _<?_, _≤?_, _=?_, _≠?_}
+use Rattle.isdb_tlv.specs.Bytes.{be}
+use Rattle.isdb_mmt.specs.Part.{part}
+use Rattle.isdb_mmt.specs.Desc.{broken}
+use Rattle.isdb_mmt.specs.Section.{length12, longSectionOf, bodyOf, entryAt, Loop, entriesFrom}
+use Rattle.isdb_mmt.specs.declared.table.section.SectionHeader.{SectionHeader}
+use Rattle.isdb_mmt.specs.declared.table.section.SectionError.{SectionError}
+use Rattle.isdb_mmt.specs.declared.table.section.SectionError.the-variants.{Malformed}
+use Rattle.isdb_mmt.specs.declared.table.section.LongSection.{LongSection}
+use Rattle.isdb_mmt.specs.declared.table.section.LongSection.the-variants.{Ok as good, Err as bad}
+use Rattle.isdb_mmt.specs.declared.table.section.Entry.{Entry}
+use Rattle.isdb_mmt.specs.declared.table.section.EntryStep.{EntryStep}
+use Rattle.isdb_mmt.specs.declared.table.section.EntryStep.the-variants.{End as ended, Malformed as malformed, Entry as entry}
+use Rattle.isdb_mmt.specs.declared.table.bit.Bit.{Bit}
+use Rattle.isdb_mmt.specs.declared.table.bit.BitResult.{BitResult}
+use Rattle.isdb_mmt.specs.declared.table.bit.BitResult.the-variants.{Ok, Err}
+use Rattle.isdb_mmt.specs.declared.table.bit.BitParsed.{BitParsed}
+use Rattle.isdb_mmt.specs.declared.table.bit.Broadcaster.{Broadcaster}
+use Rattle.isdb_mmt.specs.declared.table.bit.BroadcasterStep.{BroadcasterStep}
+use Rattle.isdb_mmt.specs.declared.table.bit.BroadcasterStep.the-variants.{End, Malformed as notWhole, Broadcaster as broadcaster}
+
+abbrev pub told : BitResult → ℕ → BitParsed
+told r n = record { result = r; breaks = n }
+
+-- reserved 3 bits, broadcast view propriety 1, length of the first descriptor loop 12, that loop, then broadcasters, which
+-- are to end with the body
+abbrev pub bitFields : List ℕ → Loop → Bit
+bitFields s l =
+    record {
+      «broadcast_view_propriety» = getD s 0 0 / 16 % 2 =? 1;
+      descriptors = part 2 (length12 s 0);
+      broadcasters = length (l .found);
+    }
+
+abbrev pub bitLoop : SectionHeader → List ℕ → Loop → BitParsed
+bitLoop h s l =
+    told (if l .whole then Ok h (bitFields s l) else Err Malformed) (broken (take (length12 s 0) (drop 2 s)) + l .breaks)
+
+unfoldable pub bitBody : SectionHeader → List ℕ → BitParsed
+bitBody h s =
+    if length s <? 2 then told (Err Malformed) 0
+    else if length s <? length12 s 0 + 2 then told (Err Malformed) 0
+    else bitLoop h s (entriesFrom s 1 (length12 s 0 + 2))
+
+abbrev pub bitIn : List ℕ → LongSection → BitParsed
+bitIn s (bad e) = told (Err e) 0
+bitIn s (good h n) = bitBody h (bodyOf s n)
+
+unfoldable pub bitOf : List ℕ → BitParsed
+bitOf s = bitIn s (longSectionOf s)
+
+-- a broadcaster: id 8 bits, reserved 4, descriptors' length 12
+abbrev pub broadcasterOf : List ℕ → Entry → Broadcaster
+broadcasterOf s e = record { «broadcaster_id» = getD s (e .at) 0; descriptors = e .descriptors }
+
+abbrev pub broadcasterIn : List ℕ → EntryStep → BroadcasterStep
+broadcasterIn s ended = End
+broadcasterIn s malformed = notWhole
+broadcasterIn s (entry e next) = broadcaster (broadcasterOf s e) next
+
+-- what stands at a place of the body
+unfoldable pub broadcasterStep : List ℕ → ℕ → BroadcasterStep
+broadcasterStep s at = broadcasterIn s (entryAt s 1 at)
+
+-- the broadcasters of a body
+unfoldable pub broadcastersOf : List ℕ → List Broadcaster
+broadcastersOf s = map (broadcasterOf s) (entriesFrom s 1 (length12 s 0 + 2) .found)

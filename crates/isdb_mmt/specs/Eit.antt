@@ -1,0 +1,76 @@
+-- MH-EIT: ARIB STD-B60, Table 7-18.
+use Prim.Native.Nat.{ℕ, _+_, _-_, _*_, _/_, _%_}
+use mathlib.Core.List.{List, map}
+use mathlib.Core.Bool.{Bool}
+use lib.ListN.{length, getD}
+use Rattle.isdb_tlv.specs.Guards.{if_then_else_, _<?_, _=?_}
+use Rattle.isdb_tlv.specs.Bytes.{be}
+use Rattle.isdb_mmt.specs.Section.{longSectionOf, bodyOf, entryAt, Loop, entriesFrom}
+use Rattle.isdb_mmt.specs.declared.table.section.SectionHeader.{SectionHeader}
+use Rattle.isdb_mmt.specs.declared.table.section.SectionError.{SectionError}
+use Rattle.isdb_mmt.specs.declared.table.section.SectionError.the-variants.{Malformed}
+use Rattle.isdb_mmt.specs.declared.table.section.LongSection.{LongSection}
+use Rattle.isdb_mmt.specs.declared.table.section.LongSection.the-variants.{Ok as good, Err as bad}
+use Rattle.isdb_mmt.specs.declared.table.section.Entry.{Entry}
+use Rattle.isdb_mmt.specs.declared.table.section.EntryStep.{EntryStep}
+use Rattle.isdb_mmt.specs.declared.table.section.EntryStep.the-variants.{End as ended, Malformed as malformed, Entry as entry}
+use Rattle.isdb_mmt.specs.declared.table.eit.Eit.{Eit}
+use Rattle.isdb_mmt.specs.declared.table.eit.EitResult.{EitResult}
+use Rattle.isdb_mmt.specs.declared.table.eit.EitResult.the-variants.{Ok, Err}
+use Rattle.isdb_mmt.specs.declared.table.eit.EitParsed.{EitParsed}
+use Rattle.isdb_mmt.specs.declared.table.eit.Event.{Event}
+use Rattle.isdb_mmt.specs.declared.table.eit.EventStep.{EventStep}
+use Rattle.isdb_mmt.specs.declared.table.eit.EventStep.the-variants.{End, Malformed as broken, Event as event}
+
+abbrev pub told : EitResult → ℕ → EitParsed
+told r n = record { result = r; breaks = n }
+
+-- TLV stream id 16 bits, original network id 16, segment last section number 8, last table id 8, then events
+abbrev pub eitFields : List ℕ → Loop → Eit
+eitFields s l =
+    record {
+      «tlv_stream_id» = be 2 s 0;
+      «original_network_id» = be 2 s 2;
+      «segment_last_section_number» = getD s 4 0;
+      «last_table_id» = getD s 5 0;
+      events = length (l .found);
+    }
+
+-- the events are to end with the body
+abbrev pub eitLoop : SectionHeader → List ℕ → Loop → EitParsed
+eitLoop h s l = told (if l .whole then Ok h (eitFields s l) else Err Malformed) (l .breaks)
+
+unfoldable pub eitBody : SectionHeader → List ℕ → EitParsed
+eitBody h s = if length s <? 6 then told (Err Malformed) 0 else eitLoop h s (entriesFrom s 10 6)
+
+abbrev pub eitIn : List ℕ → LongSection → EitParsed
+eitIn s (bad e) = told (Err e) 0
+eitIn s (good h n) = eitBody h (bodyOf s n)
+
+unfoldable pub eitOf : List ℕ → EitParsed
+eitOf s = eitIn s (longSectionOf s)
+
+-- an event: event id 16 bits, start time 40, duration 24, running status 3, free CA mode 1, descriptors' length 12
+abbrev pub eventOf : List ℕ → Entry → Event
+eventOf s e =
+    record {
+      «event_id» = be 2 s (e .at);
+      start = be 5 s (e .at + 2);
+      duration = be 3 s (e .at + 7);
+      «running_status» = getD s (e .at + 10) 0 / 32;
+      «free_ca» = getD s (e .at + 10) 0 / 16 % 2 =? 1;
+      descriptors = e .descriptors;
+    }
+
+abbrev pub eventIn : List ℕ → EntryStep → EventStep
+eventIn s ended = End
+eventIn s malformed = broken
+eventIn s (entry e next) = event (eventOf s e) next
+
+-- what stands at a place of the body
+unfoldable pub eventStep : List ℕ → ℕ → EventStep
+eventStep s at = eventIn s (entryAt s 10 at)
+
+-- the events of a body
+unfoldable pub eventsOf : List ℕ → List Event
+eventsOf s = map (eventOf s) (entriesFrom s 10 6 .found)

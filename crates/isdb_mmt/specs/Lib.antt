@@ -1,0 +1,22 @@
+-- The definitions that the contracts cite.
+pub mod Part
+pub mod Location
+pub mod Ntp
+pub mod Timestamp
+pub mod Desc
+pub mod Section
+pub mod Eit
+pub mod Sdt
+pub mod Bit
+pub mod Nit
+pub mod Amt
+pub mod Tot
+pub mod Mpt
+pub mod Plt
+pub mod Cases
+pub mod StdB60
+pub mod StdB60Sections
+pub mod StdB60Tables
+pub mod Mpu
+pub mod Message
+pub mod MpuCases

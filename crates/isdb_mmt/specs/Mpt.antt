@@ -1,0 +1,194 @@
+-- MPT: ARIB STD-B60, Table 7-6.
+use Prim.Native.Nat.{ℕ, zero, suc, _+_, _-_, _*_, _/_, _%_}
+use mathlib.Core.List.{List, [], _∷_}
+use mathlib.Core.Bool.{Bool, true, false}
+use lib.ListN.{length, getD, take, drop}
+use Rattle.isdb_tlv.specs.Guards.{if_then_else_, _<?_, _≤?_, _=?_}
+use Rattle.isdb_tlv.specs.Bytes.{be}
+use Rattle.isdb_mmt.specs.Part.{part, partOf}
+use Rattle.isdb_mmt.specs.Location.{locationOf, packetId}
+use Rattle.isdb_mmt.specs.Desc.{broken, firstOf}
+use Rattle.isdb_mmt.specs.declared.part.Part.{Part}
+use Rattle.isdb_mmt.specs.declared.maybe.MaybeU16.{MaybeU16}
+use Rattle.isdb_mmt.specs.declared.maybe.MaybeU16.the-variants.{None as noU16, Some as someU16}
+use Rattle.isdb_mmt.specs.declared.location.Location.{Location}
+use Rattle.isdb_mmt.specs.declared.location.Located.{Located}
+use Rattle.isdb_mmt.specs.declared.location.Located.the-variants.{None as notLocated, Some as located}
+use Rattle.isdb_mmt.specs.declared.desc.Descriptor.{Descriptor}
+use Rattle.isdb_mmt.specs.declared.desc.Descriptor.the-variants.{MpuTimestamp, ExtendedTimestamp, AccessControl, Scrambler, StreamIdentifier, Service, ServiceList, ShortEvent, Content, Hevc, BroadcasterName, Other}
+use Rattle.isdb_mmt.specs.declared.desc.Found.{Found}
+use Rattle.isdb_mmt.specs.declared.desc.Found.the-variants.{None as notFound, Some as found}
+use Rattle.isdb_mmt.specs.declared.table.mpt.Place.{Place}
+use Rattle.isdb_mmt.specs.declared.table.mpt.Place.the-variants.{None as nowhere, At}
+use Rattle.isdb_mmt.specs.declared.table.mpt.Asset.{Asset}
+use Rattle.isdb_mmt.specs.declared.table.mpt.AssetStep.{AssetStep}
+use Rattle.isdb_mmt.specs.declared.table.mpt.AssetStep.the-variants.{Malformed, Asset as asset}
+use Rattle.isdb_mmt.specs.declared.table.mpt.AssetLoop.{AssetLoop}
+use Rattle.isdb_mmt.specs.declared.table.mpt.Mpt.{Mpt}
+use Rattle.isdb_mmt.specs.declared.table.mpt.MaybeMpt.{MaybeMpt}
+use Rattle.isdb_mmt.specs.declared.table.mpt.MaybeMpt.the-variants.{None, Some}
+use Rattle.isdb_mmt.specs.declared.table.mpt.MptParsed.{MptParsed}
+
+-- table id 8 bits, version 8, length 16, and so many bytes: how many that are in all
+unfoldable pub declaredLength : List ℕ → Place
+declaredLength s =
+    if length s <? 4 then nowhere
+    else if length s <? be 2 s 2 + 4 then nowhere
+    else At (be 2 s 2 + 4)
+
+-- behind `n` locations, the first of which stands at `at`
+abbrev pub behindLocation : (ℕ → Place) → ℕ → Located → Place
+behindLocation go at notLocated = nowhere
+behindLocation go at (located l taken) = go (at + taken)
+
+abbrev pub locationsEnd : ℕ → List ℕ → ℕ → Place
+locationsEnd zero s at = At at
+locationsEnd (suc n) s at = behindLocation (locationsEnd n s) at (locationOf (drop at s))
+
+-- those locations
+abbrev pub withLocation : (ℕ → List Location) → ℕ → Located → List Location
+withLocation go at notLocated = []
+withLocation go at (located l taken) = l ∷ go (at + taken)
+
+abbrev pub locationsOf : ℕ → List ℕ → ℕ → List Location
+locationsOf zero s at = []
+locationsOf (suc n) s at = withLocation (locationsOf n s) at (locationOf (drop at s))
+
+-- an asset at `p`: identifier type 8 bits, asset id scheme 32, asset id behind a length of 8; at `q`: asset type 32, reserved
+-- 7, clock relation flag 1, number of locations 8; at `end`, behind those: descriptors behind a length of 16
+unfoldable pub assetFields : List ℕ → ℕ → ℕ → ℕ → AssetStep
+assetFields s p q end =
+    if length s - end <? 2 then Malformed
+    else if length s - (end + 2) <? be 2 s end then Malformed
+    else asset (record {
+      «identifier_type» = getD s p 0;
+      «asset_id_scheme» = be 4 s (p + 1);
+      «asset_id» = part (p + 6) (getD s (p + 5) 0);
+      «asset_type» = be 4 s q;
+      «clock_relation» = getD s (q + 4) 0 % 2 =? 1;
+      locations = getD s (q + 5) 0;
+      «locations_start» = q + 6;
+      descriptors = part (end + 2) (be 2 s end);
+    }) (end + 2 + be 2 s end)
+
+abbrev pub assetBehind : List ℕ → ℕ → ℕ → Place → AssetStep
+assetBehind s p q nowhere = Malformed
+assetBehind s p q (At end) = assetFields s p q end
+
+abbrev pub assetType : List ℕ → ℕ → AssetStep
+assetType s p =
+    if length s <? p + 6 + getD s (p + 5) 0 then Malformed
+    else if length s - (p + 6 + getD s (p + 5) 0) <? 6 then Malformed
+    else assetBehind s p (p + 6 + getD s (p + 5) 0)
+    (locationsEnd (getD s (p + 6 + getD s (p + 5) 0 + 5) 0) s (p + 6 + getD s (p + 5) 0 + 6))
+
+unfoldable pub assetAt : List ℕ → ℕ → AssetStep
+assetAt s p =
+    if length s - p <? 6 then Malformed
+    else assetType s p
+
+-- `n` assets from a place on: those before one that is not whole; how many of their descriptor loops break; whether all are
+-- whole
+pub record Loop : Type 0 where
+  pub found : List Asset
+  pub breaks : ℕ
+  pub whole : Bool
+
+abbrev pub ended : Bool → Loop
+ended w = record { found = []; breaks = 0; whole = w }
+
+abbrev pub alsoAsset : List ℕ → Asset → Loop → Loop
+alsoAsset s a l = record { found = a ∷ l .found; breaks = broken (partOf s (a .descriptors)) + l .breaks; whole = l .whole }
+
+abbrev pub assetThen : List ℕ → (ℕ → Loop) → AssetStep → Loop
+assetThen s go Malformed = ended false
+assetThen s go (asset a next) = alsoAsset s a (go next)
+
+abbrev pub assetsFrom : ℕ → List ℕ → ℕ → Loop
+assetsFrom zero s at = ended true
+assetsFrom (suc n) s at = assetThen s (assetsFrom n s) (assetAt s at)
+
+abbrev pub loopTold : Loop → AssetLoop
+loopTold l = record { whole = l .whole; breaks = l .breaks }
+
+unfoldable pub assetsTold : ℕ → List ℕ → ℕ → AssetLoop
+assetsTold n s at = loopTold (assetsFrom n s at)
+
+abbrev pub told : MaybeMpt → ℕ → MptParsed
+told m n = record { mpt = m; breaks = n }
+
+-- table id 8 bits, version 8, length 16, reserved 6, MPT mode 2, package id behind a length of 8, descriptors behind a length
+-- of 16, number of assets 8, assets; bytes behind those are not looked at
+abbrev pub mptFields : List ℕ → ℕ → ℕ → Mpt
+mptFields s start n =
+    record {
+      «table_id» = getD s 0 0;
+      version = getD s 1 0;
+      mode = getD s 4 0 % 4;
+      «package_id» = part 6 (getD s 5 0);
+      descriptors = part start n;
+      assets = getD s (start + n) 0;
+      start = start + n + 1;
+    }
+
+-- a descriptor loop counts as broken also where the table then fails
+abbrev pub mptLoop : List ℕ → ℕ → ℕ → Loop → MptParsed
+mptLoop s start n l =
+    told (if l .whole then Some (mptFields s start n) else None) (broken (take n (drop start s)) + l .breaks)
+
+unfoldable pub mptAssets : List ℕ → ℕ → ℕ → MptParsed
+mptAssets s start n =
+    if length s - (start + n) <? 1 then told None (broken (take n (drop start s)))
+    else mptLoop s start n (assetsFrom (getD s (start + n) 0) s (start + n + 1))
+
+-- a table cut to its declared bytes
+unfoldable pub mptTable : List ℕ → MptParsed
+mptTable s =
+    if length s <? 6 then told None 0
+    else if length s <? getD s 5 0 + 8 then told None 0
+    else if length s - (getD s 5 0 + 8) <? be 2 s (getD s 5 0 + 6) then told None 0
+    else mptAssets s (getD s 5 0 + 8) (be 2 s (getD s 5 0 + 6))
+
+abbrev pub mptIn : List ℕ → Place → MptParsed
+mptIn s nowhere = told None 0
+mptIn s (At n) = mptTable (take n s)
+
+unfoldable pub mptOf : List ℕ → MptParsed
+mptOf s = mptIn s (declaredLength s)
+
+-- 7.3.3.1: the service id is the low 16 bits of the package id
+unfoldable pub serviceId : List ℕ → Part → MaybeU16
+serviceId s id =
+    if id .length <? 2 then noU16
+    else someU16 (be 2 (partOf s id) (id .length - 2))
+
+-- the packet id of the first location that has one
+abbrev pub orElse : MaybeU16 → MaybeU16 → MaybeU16
+orElse noU16 x = x
+orElse (someU16 p) x = someU16 p
+
+abbrev pub firstPacketId : List Location → MaybeU16
+firstPacketId [] = noU16
+firstPacketId (l ∷ ls) = orElse (packetId l) (firstPacketId ls)
+
+-- the component tag of the first stream identifier descriptor
+abbrev pub tagOf : Descriptor → MaybeU16
+tagOf MpuTimestamp = noU16
+tagOf (ExtendedTimestamp e) = noU16
+tagOf (AccessControl c l) = noU16
+tagOf (Scrambler l i) = noU16
+tagOf (StreamIdentifier c) = someU16 c
+tagOf (Service t p n) = noU16
+tagOf ServiceList = noU16
+tagOf (ShortEvent l n t) = noU16
+tagOf Content = noU16
+tagOf (Hevc p t l) = noU16
+tagOf (BroadcasterName n) = noU16
+tagOf (Other t b) = noU16
+
+abbrev pub tagIn : Found → MaybeU16
+tagIn notFound = noU16
+tagIn (found d body) = tagOf d
+
+unfoldable pub componentTag : List ℕ → MaybeU16
+componentTag s = tagIn (firstOf 0x8011 s 0)

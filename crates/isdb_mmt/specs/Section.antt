@@ -1,0 +1,81 @@
+-- The long-form section (ARIB STD-B60, 7.2.3.2; ISO/IEC 13818-1, 2.4.4.11) and the loops of entries in it.
+use Prim.Native.Nat.{ℕ, _+_, _-_, _*_, _/_, _%_}
+use mathlib.Core.List.{List, [], _∷_}
+use mathlib.Core.Bool.{Bool, true, false}
+use lib.ListN.{length, getD, take, drop}
+use Rattle.isdb_tlv.specs.Guards.{if_then_else_, _<?_, _≤?_, _=?_, _≠?_}
+use Rattle.isdb_tlv.specs.Bytes.{be}
+use Rattle.isdb_tlv.specs.Crc.{crcOf}
+use Rattle.isdb_tlv.specs.Walk.{Next, stop, more, walk}
+use Rattle.isdb_mmt.specs.Part.{part, partOf}
+use Rattle.isdb_mmt.specs.Desc.{broken}
+use Rattle.isdb_mmt.specs.declared.table.section.SectionHeader.{SectionHeader}
+use Rattle.isdb_mmt.specs.declared.table.section.SectionError.{SectionError}
+use Rattle.isdb_mmt.specs.declared.table.section.SectionError.the-variants.{Truncated, Crc, Malformed}
+use Rattle.isdb_mmt.specs.declared.table.section.LongSection.{LongSection}
+use Rattle.isdb_mmt.specs.declared.table.section.LongSection.the-variants.{Ok, Err}
+use Rattle.isdb_mmt.specs.declared.table.section.Entry.{Entry}
+use Rattle.isdb_mmt.specs.declared.table.section.EntryStep.{EntryStep}
+use Rattle.isdb_mmt.specs.declared.table.section.EntryStep.the-variants.{End, Malformed as malformed, Entry as entry}
+use Rattle.isdb_mmt.specs.declared.table.section.Entries.{Entries}
+
+-- a length of 12 bits, in the low bits of two bytes
+abbrev pub length12 : List ℕ → ℕ → ℕ
+length12 s at = be 2 s at % 4096
+
+-- table id 8 bits, syntax indicator 1, reserved 3, section length 12, table id extension 16, reserved 2, version 5, current
+-- next indicator 1, section number 8, last section number 8
+abbrev pub headerOf : List ℕ → SectionHeader
+headerOf s =
+    record {
+      «table_id» = getD s 0 0;
+      extension = be 2 s 3;
+      version = getD s 5 0 / 2 % 32;
+      current = getD s 5 0 % 2 =? 1;
+      «section_number» = getD s 6 0;
+      «last_section_number» = getD s 7 0;
+    }
+
+-- the section length counts what stands behind it: five bytes of header at least, and a CRC over all. The body is what is
+-- between.
+unfoldable pub longSectionOf : List ℕ → LongSection
+longSectionOf s =
+    if length s <? 3 then Err Truncated
+    else if length12 s 1 <? 9 then Err Truncated
+    else if length s <? length12 s 1 + 3 then Err Truncated
+    else if crcOf (take (length12 s 1 + 3) s) ≠? 0 then Err Crc
+    else Ok (headerOf s) (length12 s 1 - 9)
+
+abbrev pub bodyOf : List ℕ → ℕ → List ℕ
+bodyOf s n = take n (drop 8 s)
+
+-- an entry at `at`: `k` bytes of fields, a length of 12 bits, and so many bytes of descriptors
+unfoldable pub entryAt : List ℕ → ℕ → ℕ → EntryStep
+entryAt s k at =
+    if length s ≤? at then End
+    else if length s - at <? k + 2 then malformed
+    else if length s - (at + k + 2) <? length12 s (at + k) then malformed
+    else entry (record { at = at; descriptors = part (at + k + 2) (length12 s (at + k)) }) (at + k + 2 + length12 s (at + k))
+
+-- the entries from a place on; how many of their descriptor loops break; whether they end with the bytes
+pub record Loop : Type 0 where
+  pub found : List Entry
+  pub breaks : ℕ
+  pub whole : Bool
+
+abbrev pub ended : Bool → Loop
+ended w = record { found = []; breaks = 0; whole = w }
+
+abbrev pub alsoEntry : List ℕ → Entry → Loop → Loop
+alsoEntry s e l = record { found = e ∷ l .found; breaks = broken (partOf s (e .descriptors)) + l .breaks; whole = l .whole }
+
+abbrev pub entryItem : List ℕ → EntryStep → Next Loop
+entryItem s End = stop (ended true)
+entryItem s malformed = stop (ended false)
+entryItem s (entry e next) = more next (alsoEntry s e)
+
+unfoldable pub entriesFrom : List ℕ → ℕ → ℕ → Loop
+entriesFrom s k at = walk (λ p. entryItem s (entryAt s k p)) (ended true) (length s) at
+
+unfoldable pub entriesTold : Loop → Entries
+entriesTold l = record { count = length (l .found); breaks = l .breaks; whole = l .whole }

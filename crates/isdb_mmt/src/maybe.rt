@@ -1,0 +1,16 @@
+// A number that may be absent.
+
+pub enum MaybeU16 {
+    None,
+    Some(u16),
+}
+
+pub enum MaybeU32 {
+    None,
+    Some(u32),
+}
+
+pub enum MaybeU64 {
+    None,
+    Some(u64),
+}

@@ -1,0 +1,20 @@
+// A part of some bytes: a text, an id or a descriptor loop, by its place.
+ghost use mathlib.Core.Path.{_≡_};
+ghost use Rattle.isdb_mmt.specs.Part.{partOf};
+use isdb_tlv::bytes;
+
+pub struct Part {
+    pub start: usize,
+    pub length: usize,
+}
+
+impl Part {
+    // The bytes themselves, out of those that the place counts in.
+    pub fn of(self, b: &[u8]) -> &[u8]
+        ensures { λ r. ⌜ now r ≡ partOf (now (b .entry)) self ⌝ }
+    {
+        let start = self.start;
+        let length = self.length;
+        bytes::part(b, start, length)
+    }
+}

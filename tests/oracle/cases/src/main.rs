@@ -1,0 +1,136 @@
+//! The cases, as `crates/cases` reads and writes them, answered by the Rust.
+#![allow(dead_code)]
+mod desc;
+mod dump;
+mod ip;
+mod mmtp;
+mod si;
+mod table;
+mod tlv;
+
+use dump::hex;
+use std::fmt::Write;
+use std::io::Read;
+
+fn bytes(text: &str) -> Vec<u8> {
+    (0..text.len() / 2)
+        .map(|i| u8::from_str_radix(&text[2 * i..2 * i + 2], 16).unwrap())
+        .collect()
+}
+
+fn datagram(r: Result<ip::Datagram, ip::IpError>) -> String {
+    let d = match r {
+        Ok(d) => d,
+        Err(ip::IpError::Truncated) => return " truncated".into(),
+        Err(ip::IpError::NotUdp(p)) => return format!(" not_udp {p}"),
+        Err(ip::IpError::HeaderType(t)) => return format!(" header_type {t}"),
+        Err(ip::IpError::Version(v)) => return format!(" version {v}"),
+    };
+    let mut s = String::new();
+    match d.context {
+        None => s += " context none",
+        Some(c) => write!(s, " context {c}").unwrap(),
+    }
+    match d.flow {
+        None => s += " flow none",
+        Some(f) => write!(s, " src {} dst {} sport {} dport {}", hex(&f.src), hex(&f.dst), f.sport, f.dport).unwrap(),
+    }
+    s + " payload " + &hex(&d.payload)
+}
+
+fn packet_type(b: u8) -> String {
+    match tlv::PacketType::from_byte(b) {
+        tlv::PacketType::Ipv4 => " ipv4".into(),
+        tlv::PacketType::Ipv6 => " ipv6".into(),
+        tlv::PacketType::Compressed => " compressed".into(),
+        tlv::PacketType::Control => " control".into(),
+        tlv::PacketType::Null => " null".into(),
+        tlv::PacketType::Other(v) => format!(" other {v}"),
+    }
+}
+
+fn packet(b: &[u8]) -> String {
+    let Some((h, payload)) = mmtp::parse(b) else {
+        return " none".into();
+    };
+    let control = h.scramble_control.map_or("none".into(), |c| c.to_string());
+    format!(
+        " fec {} rap {} type {} id {} sequence {} scrambled {} control {control} payload {}",
+        h.fec_type.code(),
+        u8::from(h.rap),
+        h.payload_type.code(),
+        h.packet_id,
+        h.sequence,
+        u8::from(h.scramble_info),
+        hex(payload)
+    )
+}
+
+fn messages(b: &[u8]) -> String {
+    let Some(l) = mmtp::messages(b) else {
+        return " refused".into();
+    };
+    let mut s = format!(" messages {}", l.len());
+    for m in l {
+        write!(s, " id {:04x} tables", m.id).unwrap();
+        for t in m.tables {
+            write!(s, " {t:02x}").unwrap();
+        }
+    }
+    s
+}
+
+fn sections(b: &[u8]) -> String {
+    let l = si::sections(b);
+    let mut s = String::from(if l.is_empty() { " none" } else { "" });
+    for x in l {
+        write!(s, " at {} table {:02x} extension {} version {} bytes {}", x.offset, x.table_id, x.extension, x.version, hex(&x.bytes)).unwrap();
+    }
+    s
+}
+
+fn main() {
+    let stored = std::fs::read_to_string(std::env::args().nth(1).unwrap()).unwrap();
+    let mut input = String::new();
+    std::io::stdin().read_to_string(&mut input).unwrap();
+    for line in input.lines() {
+        if line.starts_with('#') {
+            println!("{line}");
+            continue;
+        }
+        let (word, text) = line.split_once(' ').unwrap();
+        let b = bytes(text);
+        let found = match word {
+            "crc" => format!(" crc {:08x}", isdb_ts::crc::crc32(&b)),
+            "tlv" => packet_type(b[0]),
+            "ipv4" => datagram(ip::ipv4(&b)),
+            "ipv6" => datagram(ip::ipv6(&b)),
+            "compressed" => datagram(ip::compressed(&b)),
+            "mmtp" => packet(&b),
+            "messages" => messages(&b),
+            "sections" => sections(&b),
+            "location" => table::Location::parse(&b)
+                .map_or(" none".into(), |(l, n)| format!(" took {n} {}", dump::location(&l))),
+            "descriptors" => dump::loop_of(&b),
+            "mpt" => dump::mpt(&b),
+            "plt" => dump::plt(&b),
+            "eit" => dump::eit(&b),
+            "sdt" => dump::sdt(&b),
+            "tot" => dump::tot(&b),
+            "bit" => dump::bit(&b),
+            "nit" => dump::nit(&b),
+            "amt" => dump::amt(&b),
+            "ntp" => {
+                let x = desc::ntp_to_unix(u64::from_be_bytes(b[..8].try_into().unwrap()));
+                format!(" unix_bits {:016x}", x.to_bits())
+            }
+            "wire" => {
+                let kept = stored.lines().find(|l| l.starts_with(&format!("{line} ->")));
+                println!("{}", kept.unwrap_or(line));
+                continue;
+            }
+            w => panic!("no such reading: {w}"),
+        };
+        println!("{line} ->{found}");
+    }
+}
