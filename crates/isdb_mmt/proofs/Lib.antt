@@ -17,3 +17,5 @@ pub mod Units
 pub mod Pieces
 pub mod StdB60Tables
 pub mod StdB60Short
+pub mod Rows
+pub mod Rfc5905

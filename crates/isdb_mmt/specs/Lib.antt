@@ -20,3 +20,6 @@ pub mod StdB60Tables
 pub mod Mpu
 pub mod Message
 pub mod MpuCases
+pub mod Rows
+pub mod Whole
+pub mod Rfc5905
