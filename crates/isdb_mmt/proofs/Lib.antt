@@ -19,3 +19,9 @@ pub mod StdB60Tables
 pub mod StdB60Short
 pub mod Rows
 pub mod Rfc5905
+pub mod Maps
+pub mod Keeping
+pub mod Run
+pub mod BookFacts
+pub mod Demand
+pub mod Smallness

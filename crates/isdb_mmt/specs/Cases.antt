@@ -1,28 +1,105 @@
--- Worked cases over the definitions, proved as one table by computation.
-use Prim.Native.Nat.{ℕ}
+-- Worked cases, proved as one table by computation: the lengths of descriptors, and feeds from their bytes through `classify` and
+-- `pushed`, with the readings that are easily got wrong.
+use Prim.Native.Nat.{ℕ, _+_, _-_, _*_, _/_, _%_, _^_}
 use mathlib.Core.Path.{_≡_, refl}
-use mathlib.Core.List.{List, [], _∷_, map}
+use mathlib.Core.Bool.{Bool, true, false}
+use mathlib.Core.List.{List, [], _∷_, _++_, map}
+use mathlib.Core.Option.{Option, none, some}
+use lib.ListN.{length, replicate}
+use Rattle.isdb_tlv.specs.Fields.{bytesOf}
 use Rattle.isdb_tlv.specs.Bytes.{be}
-use Rattle.isdb_mmt.specs.Part.{part, partOf}
-use Rattle.isdb_mmt.specs.Desc.{lengthWidth, stepAt, splitFrom, splitOf, streamIdentifier, descriptorOf, descriptorsOf}
+use Rattle.isdb_tlv.specs.Crc.{feed, feedByte, crcOf}
+use Rattle.isdb_tlv.specs.Tlv.{packetType}
+use Rattle.isdb_tlv.specs.Ip.{compressedOf}
+use Rattle.isdb_tlv.specs.Mmtp.{fecType, payloadType, bitsOf, entry, extensionAt, afterFixed, mmtpOf}
+use Rattle.isdb_tlv.specs.Si.{isTlvSi, sectionAt, sectionsFrom, sectionsOf}
+use Rattle.isdb_tlv.specs.declared.ip.IpError.the-variants.{HeaderType}
+use Rattle.isdb_tlv.specs.declared.ip.IpResult.{IpResult}
+use Rattle.isdb_tlv.specs.declared.ip.IpResult.the-variants.{Err}
 use Rattle.isdb_mmt.specs.declared.desc.Descriptor.{Descriptor}
 use Rattle.isdb_mmt.specs.declared.desc.Descriptor.the-variants.{StreamIdentifier, Other}
+use Rattle.isdb_mmt.specs.Part.{part, partOf}
+use Rattle.isdb_mmt.specs.Desc.{lengthWidth, stepAt, splitFrom, splitOf, streamIdentifier, descriptorOf, descriptorsOf}
+use Rattle.isdb_mmt.specs.Mpu.{fragmentType, indicator, payloadHeader, unitIn, unitAt, unitStep, unitsFrom, unitsOf, follows, lostFrom}
+use Rattle.isdb_mmt.specs.Section.{longSectionOf, entryAt, entriesFrom, entriesTold}
+use Rattle.isdb_mmt.specs.Nit.{nitBody, nitOf}
+use Rattle.isdb_mmt.specs.Packet.{Bytes, Packet, mediaOf, classify}
+use Rattle.isdb_mmt.specs.Maps.{find, put, orElse, isSome}
+use Rattle.isdb_mmt.specs.Objects.{Asset, Rec, fresh, gap, lostBy, grown, continued, unitDoes, didTo, objectOf, did, unitsDo, unitsGive, clear, readable, newMpu, jumped, mpuAfter, rangeAfter, spoilt, noted, assetAfter, tagged, passes, mediaGives}
+use Rattle.isdb_mmt.specs.Joins.{idle, partBefore, joinedOn, partAfter, wholeOf, lineAfter, lineGives, orphan, oversize, tablesOf, tablesOfAll, messagesOf, cutOf, cutOfAll}
+use Rattle.isdb_mmt.specs.Kept.{Kept, bodyRead, sectionOf, news, keepIf, keep, keepAll, zeros, tabled, sectionAdds, tableById, tableRead, tableAdds, stored, storedAll, countedAll}
+use Rattle.isdb_mmt.specs.Model.{State, opened, assetOf, lineOf, packetCounted, messageCounted, lineCounted, tablesGiven, timeAfter, pushed, gives}
+use Rattle.isdb_mmt.specs.Book.{book, nothing, writeAll, write, tapeOf, itemsOf, gots, follower, letGo, inOrder, goesOn, deliveredOf}
+use Rattle.isdb_mmt.specs.Needs.{Needs, needs, unitsNeed, lineNeeds, tableArea, tablesNeed}
+use Rattle.isdb_mmt.specs.Demand.{Feed, packetsOf, pushAll, giveAll, bytesOf as heldBytes}
 
--- what is asked, and what is answered: the width of a tag's length, a loop's descriptors, their bodies' bytes
+-- what a feed leaves of the media id F100h: packets, lost, scrambled, MPUs, malformed, objects delivered, dropped, the held one
+pub record Left : Type 0 where
+  pub packets : ℕ
+  pub lost : ℕ
+  pub scrambled : ℕ
+  pub mpus : ℕ
+  pub malformed : ℕ
+  pub objects : List Bytes
+  pub dropped : ℕ
+  pub held : Option Bytes
+
+abbrev id : ℕ
+id = 0xF100
+
+abbrev leftOf : Bool → Feed → Asset → Left
+leftOf pass f a =
+    record {
+      packets = a .packets;
+      lost = a .lost;
+      scrambled = a .scrambled;
+      mpus = a .mpus;
+      malformed = a .malformed;
+      objects = deliveredOf id (giveAll (opened pass) (packetsOf f));
+      dropped = a .dropped;
+      held = heldBytes (a .held);
+    }
+
+-- what is asked, and what is answered: the width of a tag's length, a loop's descriptors, their bodies' bytes; a compressed
+-- packet's reading; of a feed the id's counts and objects, its book from the packets alone, the data of all records with
+-- scrambled payloads passed on, the IP errors, the sections' counts with the versions kept, and what a packet needs behind it
 pub data Ask : Type 0 where
   widthOf : ℕ → Ask
-  decodedOf : List ℕ → Ask
-  bodiesOf : List ℕ → Ask
+  decodedOf : Bytes → Ask
+  bodiesOf : Bytes → Ask
+  readAs : Bytes → Ask
+  left : Feed → Ask
+  booked : Feed → Ask
+  passed : Feed → Ask
+  ipErrors : Feed → Ask
+  sections : Feed → Ask
+  needed : Feed → ℕ × Bytes → Ask
 
 pub data Told : Type 0 where
   width : ℕ → Told
   decoded : List Descriptor → Told
-  bodies : List (List ℕ) → Told
+  bodies : List Bytes → Told
+  ip : IpResult → Told
+  leaves : Left → Told
+  books : List Bytes → ℕ → Option Bytes → Told
+  given : List Bytes → Told
+  errors : ℕ → Told
+  tables : ℕ → ℕ → List ℕ → Told
+  asks : Needs → Told
 
 abbrev told : Ask → Told
 told (widthOf t) = width (lengthWidth t)
 told (decodedOf s) = decoded (descriptorsOf s)
 told (bodiesOf s) = bodies (map (λ r. partOf s (r .body)) (splitOf s .found))
+told (readAs b) = ip (compressedOf b)
+told (needed f p) = asks (needs (pushAll (opened false) (packetsOf f)) (classify (p .0) (p .1)))
+told (left f) = leaves (leftOf false f (assetOf id (pushAll (opened false) (packetsOf f))))
+told (booked f) = books (book id (packetsOf f) .delivered) (book id (packetsOf f) .dropped) (book id (packetsOf f) .held)
+told (passed f) = given (map (λ r. r .mfu .bytes) (giveAll (opened true) (packetsOf f)))
+told (ipErrors f) = errors (pushAll (opened false) (packetsOf f) .counters .ipErrors)
+told (sections f) =
+    tables (pushAll (opened false) (packetsOf f) .counters .versionChanges) (pushAll (opened false) (packetsOf f) .counters .malformed)
+    (map (λ e. e .1 .version) (pushAll (opened false) (packetsOf f) .store .kept))
 
 pub record Case : Type 0 where
   pub ask : Ask
@@ -31,6 +108,62 @@ pub record Case : Type 0 where
 infix 10 _⇒_
 abbrev _⇒_ : Ask → Told → Case
 a ⇒ t = record { ask = a; says = t }
+
+-- a compressed packet of context 1 with an MMTP packet of the id: first byte, number, what follows the twelve bytes
+abbrev mmtp : ℕ → ℕ → Bytes → ℕ × Bytes
+mmtp flags number rest =
+    (0x03, 0x00 ∷ 0x10 ∷ 0x61 ∷ flags ∷ 0x00 ∷ 0xF1 ∷ 0x00 ∷ 0x00 ∷ 0x00 ∷ 0x00 ∷ 0x00 ∷ bytesOf 4 number ++ rest)
+
+-- a payload of MPU 7 that declares `n` bytes, with a byte of flags
+abbrev payload : ℕ → ℕ → Bytes → Bytes
+payload n flags rest = 0x00 ∷ n ∷ flags ∷ 0x00 ∷ 0x00 ∷ 0x00 ∷ 0x00 ∷ 0x07 ∷ rest
+
+-- a packet with one timed unit, whose data is two bytes; the flags say how it is divided
+abbrev unit : ℕ → ℕ → Bytes → ℕ × Bytes
+unit number flags d = mmtp 0x00 number (payload 22 flags (replicate 14 0x00 ++ d))
+
+abbrev headOf : ℕ → Bytes → ℕ × Bytes
+headOf n d = unit n 0x2A d
+
+abbrev lastOf : ℕ → Bytes → ℕ × Bytes
+lastOf n d = unit n 0x2E d
+
+abbrev completeOf : ℕ → Bytes → ℕ × Bytes
+completeOf n d = unit n 0x28 d
+
+-- a payload whose unit is a byte short
+abbrev unreadable : ℕ → ℕ × Bytes
+unreadable n = mmtp 0x00 n (payload 19 0x2A (replicate 13 0x00))
+
+-- scrambled by an extension of type 0 with one entry of type 1, bits 3
+abbrev scrambledOf : ℕ → Bytes → ℕ × Bytes
+scrambledOf n p = mmtp 0x02 n (0x00 ∷ 0x00 ∷ 0x00 ∷ 0x05 ∷ 0x80 ∷ 0x01 ∷ 0x00 ∷ 0x01 ∷ 0x18 ∷ p)
+
+abbrev ab : Bytes
+ab = 0xAA ∷ 0xBB ∷ []
+
+abbrev cd : Bytes
+cd = 0xCC ∷ 0xDD ∷ []
+
+-- a NIT of version 1, and one of version 2 whose network descriptors run over its end
+abbrev nit1 : Bytes
+nit1 =
+    0x40 ∷ 0xB0 ∷ 0x0D ∷ 0x00 ∷ 0x04 ∷ 0xC3 ∷ 0x00 ∷ 0x00 ∷ 0xF0 ∷ 0x00 ∷ 0xF0 ∷ 0x00 ∷ 0x17 ∷ 0x51 ∷ 0xD0 ∷ 0x6F ∷ []
+
+abbrev nit2 : Bytes
+nit2 =
+    0x40 ∷ 0xB0 ∷ 0x0D ∷ 0x00 ∷ 0x04 ∷ 0xC5 ∷ 0x00 ∷ 0x00 ∷ 0xF0 ∷ 0x05 ∷ 0xF0 ∷ 0x00 ∷ 0xB6 ∷ 0xD9 ∷ 0xA3 ∷ 0x25 ∷ []
+
+-- nothing scrambled, one MPU: packets, lost, malformed, objects, dropped, held
+abbrev clearly : ℕ → ℕ → ℕ → List Bytes → ℕ → Option Bytes → Told
+clearly p l m os d h =
+    leaves
+    (record { packets = p; lost = l; scrambled = 0; mpus = 1; malformed = m; objects = os; dropped = d; held = h })
+
+-- of a media packet: new media ids, the longest object, records, data bytes
+abbrev mediaNeeds : ℕ → ℕ → ℕ → ℕ → Needs
+mediaNeeds i o r d =
+    record { mediaIds = i; controlIds = 0; sections = 0; object = o; message = 0; table = 0; records = r; dataBytes = d }
 
 abbrev cases : List Case
 cases =
@@ -45,8 +178,37 @@ cases =
     ∷ (decodedOf (0x80 ∷ 0x11 ∷ 0x02 ∷ 0x00 ∷ 0x10 ∷ []) ⇒ decoded (StreamIdentifier 16 ∷ []))
     ∷ (decodedOf (0x80 ∷ 0x11 ∷ 0x01 ∷ 0x00 ∷ []) ⇒ decoded (Other 0x8011 (part 0 1) ∷ []))
     ∷ (bodiesOf (0x80 ∷ 0x11 ∷ 0x01 ∷ 0x00 ∷ []) ⇒ bodies ((0x00 ∷ []) ∷ []))
+    -- a header type that is not known
+    ∷ (readAs (0x00 ∷ 0x10 ∷ 0x62 ∷ []) ⇒ ip (Err (HeaderType 0x62)))
+    ∷ (ipErrors ((0x03, 0x00 ∷ 0x10 ∷ 0x62 ∷ []) ∷ []) ⇒ errors 1)
+    -- a head at the last number, its last at 0: delivered, and nothing lost
+    ∷ (left (headOf 4294967295 ab ∷ lastOf 0 cd ∷ []) ⇒ clearly 2 0 0 ((ab ++ cd) ∷ []) 0 none)
+    ∷ (booked (headOf 4294967295 ab ∷ lastOf 0 cd ∷ []) ⇒ books ((ab ++ cd) ∷ []) 0 none)
+    -- two packets lost; a repeated number is a gap, and what is held is dropped
+    ∷ (left (headOf 5 ab ∷ lastOf 8 cd ∷ []) ⇒ clearly 2 2 0 [] 1 none)
+    ∷ (left (headOf 5 ab ∷ lastOf 5 cd ∷ []) ⇒ clearly 2 1048576 0 [] 1 none)
+    ∷ (booked (headOf 5 ab ∷ lastOf 5 cd ∷ []) ⇒ books [] 1 none)
+    -- a whole unit, a head, and a last behind a gap
+    ∷ (left (completeOf 5 ab ∷ headOf 6 ab ∷ lastOf 8 ab ∷ []) ⇒ clearly 3 1 0 (ab ∷ []) 1 none)
+    -- the header stands outside the declared length: the MPU is counted, then the payload is malformed; of metadata it is not
+    ∷ (left (mmtp 0x00 5 (payload 0 0x20 []) ∷ []) ⇒ clearly 1 0 1 [] 0 none)
+    ∷ (left (mmtp 0x00 5 (payload 0 0x00 []) ∷ []) ⇒ clearly 1 0 0 [] 0 none)
+    -- a timed unit of 13 bytes, and of 14
+    ∷ (left (mmtp 0x00 5 (payload 19 0x28 (replicate 13 0x00)) ∷ []) ⇒ clearly 1 0 1 [] 0 none)
+    ∷ (left (mmtp 0x00 5 (payload 20 0x28 (replicate 14 0x00)) ∷ []) ⇒ clearly 1 0 0 ([] ∷ []) 0 none)
+    -- an unreadable payload passes, and what is held stays
+    ∷ (left (headOf 5 ab ∷ unreadable 6 ∷ lastOf 7 cd ∷ []) ⇒ clearly 3 0 1 ((ab ++ cd) ∷ []) 0 none)
+    ∷ (booked (headOf 5 ab ∷ unreadable 6 ∷ []) ⇒ books [] 0 (some ab))
+    -- a scrambled payload is passed on from byte 8 to its end, beyond the six bytes that it declares
+    ∷ (passed (scrambledOf 5 (payload 6 0x28 ab) ∷ []) ⇒ given (ab ∷ []))
+    -- a version change is counted though the body fails; what is kept stays
+    ∷ (sections ((0xFE, nit1) ∷ (0xFE, nit2) ∷ []) ⇒ tables 1 1 (1 ∷ []))
+    -- a last needs room for what it joins; a whole unit for nothing but its record
+    ∷ (needed (headOf 5 ab ∷ []) (lastOf 6 cd) ⇒ asks (mediaNeeds 0 4 1 4))
+    ∷ (needed [] (completeOf 5 ab) ⇒ asks (mediaNeeds 1 0 1 2))
+    ∷ (needed [] (headOf 5 ab) ⇒ asks (mediaNeeds 1 2 0 0))
     ∷ []
 
 pub table : map (λ c. told (c .ask)) cases ≡ map (λ c. c .says) cases
-unfolding lengthWidth stepAt splitFrom splitOf be streamIdentifier descriptorOf descriptorsOf
+unfolding bytesOf be feed feedByte crcOf packetType compressedOf fecType payloadType bitsOf entry extensionAt afterFixed mmtpOf isTlvSi sectionAt sectionsFrom sectionsOf lengthWidth stepAt splitFrom splitOf streamIdentifier descriptorOf descriptorsOf fragmentType indicator payloadHeader unitIn unitAt unitStep unitsFrom unitsOf follows lostFrom longSectionOf entryAt entriesFrom entriesTold nitBody nitOf mediaOf classify find put orElse isSome fresh gap lostBy grown continued unitDoes didTo objectOf did unitsDo unitsGive clear readable newMpu jumped mpuAfter rangeAfter spoilt noted assetAfter tagged passes mediaGives idle partBefore joinedOn partAfter wholeOf lineAfter lineGives orphan oversize tablesOf tablesOfAll messagesOf cutOf cutOfAll bodyRead sectionOf news keepIf keep keepAll zeros tabled sectionAdds tableById tableRead tableAdds stored storedAll countedAll opened assetOf lineOf packetCounted messageCounted lineCounted tablesGiven timeAfter pushed gives book nothing writeAll write tapeOf itemsOf gots follower letGo inOrder goesOn deliveredOf needs unitsNeed lineNeeds tableArea tablesNeed pushAll giveAll heldBytes
 table = refl

@@ -1,0 +1,175 @@
+-- The run and an id's book: what a run leaves of an id, and what it gives out for it, is what the book of the id's packets says.
+-- Assumes nothing.
+use Prim.Native.Nat.{ℕ, _+_}
+use mathlib.Core.Path.{_≡_, refl, ap, _∙_}
+use native.Mathlib.Nat.{add-zero}
+use mathlib.Core.Bool.{Bool, true, false, not, cond, _&&_}
+use mathlib.Core.Option.{Option, none, some}
+use mathlib.Core.List.{List, [], _∷_, _++_, append-nil, append-assoc}
+use lib.ListN.{length}
+use lib.Dec.{eqb, leb}
+use Rattle.isdb_tlv.proofs.Guards.{cond-elim}
+use Rattle.isdb_mmt.proofs.Maps.{eqb-true, find-put, find-put-other}
+use Rattle.isdb_mmt.specs.Mpu.{follows}
+use Rattle.isdb_mmt.specs.Packet.{Bytes, Piece, Media, Packet, ipError, ntp, nonMmtp, media, message, control, other}
+use Rattle.isdb_mmt.specs.Maps.{one, isSome, find, put, orElse}
+use Rattle.isdb_mmt.specs.Objects.{Mfu, Rec, Asset, mostObject, grown, readable, fresh, gap, continued, unitDoes, didTo, did, objectOf, unitsDo, unitsGive, noted, assetAfter, tagged, passes, mediaGives}
+use Rattle.isdb_mmt.specs.Model.{State, assetOf, pushed, gives}
+use Rattle.isdb_mmt.specs.Book.{Item, seen, got, gots, itemsOf, tapeOf, Book, letGo, inOrder, follower, goesOn, write, writeAll, deliveredOf}
+use Rattle.isdb_mmt.specs.Demand.{pushAll, giveAll, bytesOf}
+use Rattle.isdb_mmt.specs.declared.mpu.FragmentationIndicator.{FragmentationIndicator}
+use Rattle.isdb_mmt.specs.declared.mpu.FragmentationIndicator.the-variants.{Complete, Head, Middle, Last}
+
+-- ---- an id's state as a book
+
+abbrev dataOf : List Mfu → List Bytes
+dataOf [] = []
+dataOf (h ∷ hs) = h .bytes ∷ dataOf hs
+
+data-append : (xs ys : List Mfu) → dataOf (xs ++ ys) ≡ dataOf xs ++ dataOf ys
+data-append [] ys = refl
+data-append (x ∷ xs) ys = rw (data-append xs ys)
+
+abbrev bookOf : Asset → List Bytes → Book
+bookOf a os = record { number = a .number; held = bytesOf (a .held); dropped = a .dropped; delivered = os }
+
+-- a book by its parts
+abbrev pub at : Option ℕ → Option Bytes → ℕ → List Bytes → Book
+at n h k os = record { number = n; held = h; dropped = k; delivered = os }
+
+-- one unit
+unit-parts : (c : Option ℕ) (h : Option Mfu) (k : ℕ) (os : List Bytes) (n : ℕ) (f : FragmentationIndicator) (u : Mfu)
+    → write (at c (bytesOf h) k os) (got n f (u .bytes))
+    ≡ at c (bytesOf (unitDoes f h u .held)) (k + unitDoes f h u .drops) (os ++ dataOf (unitDoes f h u .outs))
+unfolding write letGo goesOn unitDoes continued isSome bytesOf grown
+unit-parts c none k os n Complete u = rw add-zero
+unit-parts c (some h) k os n Complete u = refl
+unit-parts c none k os n Head u = rw (add-zero, append-nil)
+unit-parts c (some h) k os n Head u = rw append-nil
+unit-parts c none k os n Middle u = rw (add-zero, append-nil)
+unit-parts c (some h) k os n Middle u = go (leb (length (h .bytes) + length (u .bytes)) mostObject)
+  where
+    go : (b : Bool)
+        → cond b (at c (some (h .bytes ++ u .bytes)) k os) (at c none (k + 1) os)
+        ≡ at c (bytesOf (continued b false (grown h (u .bytes)) .held)) (k + continued b false (grown h (u .bytes)) .drops)
+        (os ++ dataOf (continued b false (grown h (u .bytes)) .outs))
+    go true = rw (add-zero, append-nil)
+    go false = rw append-nil
+unit-parts c none k os n Last u = rw (add-zero, append-nil)
+unit-parts c (some h) k os n Last u = go (leb (length (h .bytes) + length (u .bytes)) mostObject)
+  where
+    go : (b : Bool)
+        → cond b (at c none k (os ++ ((h .bytes ++ u .bytes) ∷ []))) (at c none (k + 1) os)
+        ≡ at c (bytesOf (continued b true (grown h (u .bytes)) .held)) (k + continued b true (grown h (u .bytes)) .drops)
+        (os ++ dataOf (continued b true (grown h (u .bytes)) .outs))
+    go true = rw add-zero
+    go false = rw append-nil
+
+units-written : (m : Media) (a : Asset) (os : List Bytes) (n : ℕ) (us : List Piece)
+    → writeAll (bookOf a os) (gots n us) ≡ bookOf (unitsDo m a us) (os ++ dataOf (unitsGive m a us))
+unfolding writeAll gots unitsDo unitsGive didTo did objectOf
+units-written m a os n [] = rw append-nil
+units-written m a os n (u ∷ us) =
+    ap (λ (b : Book). writeAll b (gots n us)) (unit-parts (a .number) (a .held) (a .dropped) os n (u .fragment) (objectOf m u))
+    ∙ units-written m (didTo a (did m a u)) (os ++ dataOf (did m a u .outs)) n us
+    ∙ rw (data-append, append-assoc)
+
+-- a packet's number
+seen-parts : (c : Option ℕ) (h : Option Mfu) (k : ℕ) (os : List Bytes) (n : ℕ)
+    → write (at c (bytesOf h) k os) (seen n) ≡ at (some n) (bytesOf (cond (gap c n) none h)) (k + one (gap c n && isSome h)) os
+unfolding write letGo inOrder follower gap follows bytesOf isSome
+seen-parts none h k os n = rw add-zero
+seen-parts (some l) h k os n = go (eqb n (follower l)) h
+  where
+    go : (b : Bool) (h : Option Mfu)
+        → cond b (at (some n) (bytesOf h) k os) (at (some n) none (letGo (bytesOf h) k) os)
+        ≡ at (some n) (bytesOf (cond (not b) none h)) (k + one (not b && isSome h)) os
+    go true h = rw add-zero
+    go false none = rw add-zero
+    go false (some h) = refl
+
+writeAll-append : (b : Book) (xs ys : List Item) → writeAll b (xs ++ ys) ≡ writeAll (writeAll b xs) ys
+unfolding writeAll
+writeAll-append b [] ys = refl
+writeAll-append b (x ∷ xs) ys = writeAll-append (write b x) xs ys
+
+media-written : (a : Asset) (os : List Bytes) (m : Media)
+    → writeAll (bookOf a os) (seen (m .number) ∷ gots (m .number) (readable m))
+    ≡ bookOf (assetAfter a m) (os ++ dataOf (unitsGive m (noted a m) (readable m)))
+unfolding writeAll assetAfter noted
+media-written a os m =
+    ap (λ (b : Book). writeAll b (gots (m .number) (readable m))) (seen-parts (a .number) (a .held) (a .dropped) os (m .number))
+    ∙ units-written m (noted a m) os (m .number) (readable m)
+
+-- ---- what a push hands out for an id
+
+deliveredOf-append : (i : ℕ) (xs ys : List Rec) → deliveredOf i (xs ++ ys) ≡ deliveredOf i xs ++ deliveredOf i ys
+unfolding deliveredOf
+deliveredOf-append i [] ys = refl
+deliveredOf-append i (r ∷ rs) ys = go (eqb i (r .id) && not (r .scrambled)) (deliveredOf-append i rs ys)
+  where
+    go : (b : Bool) → deliveredOf i (rs ++ ys) ≡ deliveredOf i rs ++ deliveredOf i ys
+        → cond b (r .mfu .bytes ∷ deliveredOf i (rs ++ ys)) (deliveredOf i (rs ++ ys))
+        ≡ cond b (r .mfu .bytes ∷ deliveredOf i rs) (deliveredOf i rs) ++ deliveredOf i ys
+    go true h = rw h
+    go false h = h
+
+delivered-tagged : (i j : ℕ) (ds : List Mfu) → deliveredOf i (tagged j ds) ≡ cond (eqb i j) (dataOf ds) []
+unfolding deliveredOf tagged
+delivered-tagged i j ds = go (eqb i j) refl ds
+  where
+    go : (b : Bool) → eqb i j ≡ b → (ds : List Mfu) → deliveredOf i (tagged j ds) ≡ cond b (dataOf ds) []
+    go true e [] = refl
+    go true e (d ∷ ds) = rw (e, go true e ds)
+    go false e [] = refl
+    go false e (d ∷ ds) = rw (e, go false e ds)
+
+no-object : (b : Bool) (d : Bytes) → cond (b && false) (d ∷ []) [] ≡ []
+no-object true d = refl
+no-object false d = refl
+
+delivered-passes : (i : ℕ) (pass : Bool) (m : Media) → deliveredOf i (passes pass m) ≡ []
+unfolding deliveredOf passes
+delivered-passes i pass m =
+    cond-elim (λ (rs : List Rec). deliveredOf i rs ≡ []) (pass && (m .scrambled && isSome (m .header))) (λ e. no-object (eqb i (m .id)) (m .raw)) (λ e. refl)
+
+-- ---- a push, for one id
+
+mfus-given : (pass : Bool) (i : ℕ) (a : Asset) (m : Media)
+    → deliveredOf i (mediaGives pass a m) ≡ cond (eqb i (m .id)) (dataOf (unitsGive m (noted a m) (readable m))) []
+unfolding mediaGives
+mfus-given pass i a m =
+    deliveredOf-append i (passes pass m) (tagged (m .id) (unitsGive m (noted a m) (readable m)))
+    ∙ rw (delivered-passes, delivered-tagged)
+
+put-written : (i j : ℕ) (s : State) (os : List Bytes) (m : Media) (b : Bool) → eqb i j ≡ b
+    → writeAll (bookOf (assetOf i s) os) (cond b (seen (m .number) ∷ gots (m .number) (readable m)) [])
+    ≡ bookOf (orElse fresh (find i (put j (assetAfter (assetOf j s) m) (s .assets))))
+    (os ++ cond b (dataOf (unitsGive m (noted (assetOf j s) m) (readable m))) [])
+unfolding writeAll assetOf orElse
+put-written i j s os m true e = rw (← (eqb-true i j e), find-put) (media-written (assetOf i s) os m)
+put-written i j s os m false e = rw (find-put-other i j _ _ e, append-nil)
+
+push-written : (i : ℕ) (s : State) (os : List Bytes) (p : Packet)
+    → writeAll (bookOf (assetOf i s) os) (itemsOf i p) ≡ bookOf (assetOf i (pushed s p)) (os ++ deliveredOf i (gives s p))
+unfolding itemsOf pushed gives deliveredOf writeAll assetOf
+push-written i s os ipError = rw append-nil
+push-written i s os (ntp t) = rw append-nil
+push-written i s os nonMmtp = rw append-nil
+push-written i s os (media m) =
+    rw (mfus-given (s .passing) i (assetOf (m .id) s) m) (put-written i (m .id) s os m (eqb i (m .id)) refl)
+push-written i s os (message c) = rw append-nil
+push-written i s os (control bs) = rw append-nil
+push-written i s os other = rw append-nil
+
+-- ---- a run
+
+pub run-written : (i : ℕ) (s : State) (os : List Bytes) (ps : List Packet)
+    → writeAll (bookOf (assetOf i s) os) (tapeOf i ps) ≡ bookOf (assetOf i (pushAll s ps)) (os ++ deliveredOf i (giveAll s ps))
+unfolding tapeOf pushAll giveAll deliveredOf writeAll
+run-written i s os [] = rw append-nil
+run-written i s os (p ∷ ps) =
+    writeAll-append (bookOf (assetOf i s) os) (itemsOf i p) (tapeOf i ps)
+    ∙ ap (λ (b : Book). writeAll b (tapeOf i ps)) (push-written i s os p)
+    ∙ run-written i (pushed s p) (os ++ deliveredOf i (gives s p)) ps
+    ∙ rw (deliveredOf-append, append-assoc)

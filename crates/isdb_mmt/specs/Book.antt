@@ -1,0 +1,233 @@
+-- What the session is held against, drawn from the accepted packets alone: nothing here mentions a state. Of a media id: its
+-- tape, its book (the term of the scope), the objects begun, and the stretches of tape that delivered objects are. Of a key: its
+-- well-formed sections, and the first of the last run of equal version.
+use Prim.Native.Nat.{ℕ, zero, suc, _+_, _%_}
+use mathlib.Core.Path.{_≡_}
+use mathlib.Core.Logic.{_≢_}
+use mathlib.Core.Bool.{Bool, true, false, not, cond, _&&_}
+use mathlib.Core.Option.{Option, none, some}
+use mathlib.Core.List.{List, [], _∷_, _++_, map}
+use lib.ListN.{length}
+use Rattle.isdb_tlv.specs.Guards.{if_then_else_, _≤?_, _=?_}
+use Rattle.isdb_mmt.specs.Packet.{Bytes, Piece, Media, Ctl, Packet, ipError, ntp, nonMmtp, media, message, control, other}
+use Rattle.isdb_mmt.specs.Objects.{readable, Rec}
+use Rattle.isdb_mmt.specs.Joins.{Line, idle, lineAfter, lineGives}
+use Rattle.isdb_mmt.specs.Kept.{Section, sectionOf, Table, aSection, emptyTable, mptTable, pltTable, totTable, cutSection, otherTable}
+use Rattle.isdb_mmt.specs.Model.{tablesGiven, controlTables}
+use Rattle.isdb_mmt.specs.declared.mpu.FragmentationIndicator.{FragmentationIndicator}
+use Rattle.isdb_mmt.specs.declared.mpu.FragmentationIndicator.the-variants.{Complete, Head, Middle, Last}
+
+-- an id's tape: for each of its MPU-type packets the number, then the units of its readable clear payload under that number
+pub data Item : Type 0 where
+  seen : ℕ → Item
+  got : ℕ → FragmentationIndicator → Bytes → Item
+
+unfoldable pub gots : ℕ → List Piece → List Item
+gots n [] = []
+gots n (u ∷ us) = got n (u .fragment) (u .bytes) ∷ gots n us
+
+unfoldable pub itemsOf : ℕ → Packet → List Item
+unfolding gots
+itemsOf i ipError = []
+itemsOf i (ntp t) = []
+itemsOf i nonMmtp = []
+itemsOf i (media m) = if i =? m .id then seen (m .number) ∷ gots (m .number) (readable m) else []
+itemsOf i (message c) = []
+itemsOf i (control bs) = []
+itemsOf i other = []
+
+unfoldable pub tapeOf : ℕ → List Packet → List Item
+unfolding itemsOf
+tapeOf i [] = []
+tapeOf i (p ∷ ps) = itemsOf i p ++ tapeOf i ps
+
+-- the book: its own words for the number behind another and for the largest object
+unfoldable pub follower : ℕ → ℕ
+follower n = (n + 1) % 4294967296
+
+abbrev pub limit : ℕ
+limit = 16777216
+
+pub record Book : Type 0 where
+  pub number : Option ℕ
+  pub held : Option Bytes
+  pub dropped : ℕ
+  pub delivered : List Bytes
+
+-- nothing held, no number, counts 0
+unfoldable pub nothing : Book
+nothing = record { number = none; held = none; dropped = 0; delivered = [] }
+
+-- a held object is dropped, and the drop counted
+unfoldable pub letGo : Option Bytes → ℕ → ℕ
+letGo none k = k
+letGo (some h) k = k + 1
+
+unfoldable pub inOrder : Option ℕ → ℕ → Bool
+inOrder none n = true
+inOrder (some l) n = n =? follower l
+
+-- a continuing unit with data `d`; `e` says whether it is a Last
+unfoldable pub goesOn : Book → Bool → Bytes → Option Bytes → Book
+goesOn b e d none = b
+goesOn b e d (some h) =
+    if length h + length d ≤? limit
+    then (if e
+    then record { number = b .number; held = none; dropped = b .dropped; delivered = b .delivered ++ ((h ++ d) ∷ []) }
+    else record { number = b .number; held = some (h ++ d); dropped = b .dropped; delivered = b .delivered })
+    else record { number = b .number; held = none; dropped = b .dropped + 1; delivered = b .delivered }
+
+unfoldable pub write : Book → Item → Book
+unfolding letGo inOrder goesOn
+write b (seen n) =
+    if inOrder (b .number) n
+    then record { number = some n; held = b .held; dropped = b .dropped; delivered = b .delivered }
+    else record { number = some n; held = none; dropped = letGo (b .held) (b .dropped); delivered = b .delivered }
+write b (got n Complete d) =
+    record { number = b .number; held = none; dropped = letGo (b .held) (b .dropped); delivered = b .delivered ++ (d ∷ []) }
+write b (got n Head d) =
+    record { number = b .number; held = some d; dropped = letGo (b .held) (b .dropped); delivered = b .delivered }
+write b (got n Middle d) = goesOn b false d (b .held)
+write b (got n Last d) = goesOn b true d (b .held)
+
+unfoldable pub writeAll : Book → List Item → Book
+unfolding write
+writeAll b [] = b
+writeAll b (x ∷ xs) = writeAll (write b x) xs
+
+unfoldable pub book : ℕ → List Packet → Book
+unfolding nothing writeAll tapeOf
+book i ps = writeAll nothing (tapeOf i ps)
+
+unfoldable pub isHeld : Option Bytes → ℕ
+isHeld none = 0
+isHeld (some h) = 1
+
+-- objects begun, counted off the packets
+unfoldable pub begins : FragmentationIndicator → ℕ
+begins Complete = 1
+begins Head = 1
+begins Middle = 0
+begins Last = 0
+
+unfoldable pub begunIn : List Piece → ℕ
+unfolding begins
+begunIn [] = 0
+begunIn (u ∷ us) = begins (u .fragment) + begunIn us
+
+unfoldable pub begunBy : ℕ → Packet → ℕ
+unfolding begunIn
+begunBy i ipError = 0
+begunBy i (ntp t) = 0
+begunBy i nonMmtp = 0
+begunBy i (media m) = if i =? m .id then begunIn (readable m) else 0
+begunBy i (message c) = 0
+begunBy i (control bs) = 0
+begunBy i other = 0
+
+unfoldable pub begun : ℕ → List Packet → ℕ
+unfolding begunBy
+begun i [] = 0
+begun i (p ∷ ps) = begunBy i p + begun i ps
+
+-- the data of an id's records that are no scrambled payloads
+unfoldable pub deliveredOf : ℕ → List Rec → List Bytes
+deliveredOf i [] = []
+deliveredOf i (r ∷ rs) = if (i =? r .id) && not (r .scrambled) then r .mfu .bytes ∷ deliveredOf i rs else deliveredOf i rs
+
+-- on from number `n`: each packet's number follows the one before, and every unit is a Middle; the last number is `m`
+abbrev pub Unbroken : ℕ → List Item → ℕ → Type 0
+Unbroken n [] m = n ≡ m
+Unbroken n (seen k ∷ t) m = (k ≡ follower n) × Unbroken k t m
+Unbroken n (got k Complete d ∷ t) m = ⊥
+Unbroken n (got k Head d ∷ t) m = ⊥
+Unbroken n (got k Middle d ∷ t) m = Unbroken n t m
+Unbroken n (got k Last d ∷ t) m = ⊥
+
+-- the data of the units of a stretch of tape, joined
+unfoldable pub joined : List Item → Bytes
+joined [] = []
+joined (seen k ∷ t) = joined t
+joined (got k f d ∷ t) = d ++ joined t
+
+-- a stretch of tape that is one object: a Complete unit; or a Head, then Middles over numbers without a break, up to a Last
+pub data Object : List Item → Type 0 where
+  whole : (n : ℕ) (d : Bytes) → Object (got n Complete d ∷ [])
+  divided : (n : ℕ) (d : Bytes) (mid : List Item) (m : ℕ) (e : Bytes) → Unbroken n mid m → Object (got n Head d ∷ mid ++ (got m Last e ∷ []))
+
+-- the objects `os` are stretches of the tape, in order and apart from one another, each with its stretch's data
+pub data Cut : List Item → List Bytes → Type 0 where
+  done : Cut [] []
+  skip : (x : Item) {t : List Item} {os : List Bytes} → Cut t os → Cut (x ∷ t) os
+  object : {o t : List Item} {os : List Bytes} → Object o → Cut t os → Cut (o ++ t) (joined o ∷ os)
+
+-- a key's well-formed sections: header, CRC and body all parse
+unfoldable pub wellFormedIn : ℕ → List Section → List Section
+wellFormedIn k [] = []
+wellFormedIn k (x ∷ xs) = if (k =? x .key) && (x .headOk && x .bodyOk) then x ∷ wellFormedIn k xs else wellFormedIn k xs
+
+-- the sections among tables; MPT, PLT and TOT are none
+unfoldable pub sectionsAmong : List Table → List Section
+sectionsAmong [] = []
+sectionsAmong (aSection x ∷ ts) = x ∷ sectionsAmong ts
+sectionsAmong (emptyTable ∷ ts) = sectionsAmong ts
+sectionsAmong (mptTable ok n b ∷ ts) = sectionsAmong ts
+sectionsAmong (pltTable ok b ∷ ts) = sectionsAmong ts
+sectionsAmong (totTable ok c n b ∷ ts) = sectionsAmong ts
+sectionsAmong (cutSection ∷ ts) = sectionsAmong ts
+sectionsAmong (otherTable id ∷ ts) = sectionsAmong ts
+
+-- the control ids' messages being joined, as a function of the id: nothing of a session's places
+abbrev pub Lines : Type 0
+Lines = ℕ → Line
+
+unfoldable pub quiet : Lines
+quiet i = idle
+
+unfoldable pub linesAfter : Lines → Packet → Lines
+linesAfter ls ipError i = ls i
+linesAfter ls (ntp t) i = ls i
+linesAfter ls nonMmtp i = ls i
+linesAfter ls (media m) i = ls i
+linesAfter ls (message c) i = if i =? c .id then lineAfter (ls (c .id)) c else ls i
+linesAfter ls (control bs) i = ls i
+linesAfter ls other i = ls i
+
+unfoldable pub sectionsFrom : Lines → Packet → List Section
+unfolding sectionsAmong
+sectionsFrom ls ipError = []
+sectionsFrom ls (ntp t) = []
+sectionsFrom ls nonMmtp = []
+sectionsFrom ls (media m) = []
+sectionsFrom ls (message c) = sectionsAmong (tablesGiven (ls (c .id)) c)
+sectionsFrom ls (control bs) = map sectionOf bs
+sectionsFrom ls other = []
+
+-- the sections that reach `keep`, in order, drawn from the packets alone
+unfoldable pub reaching : Lines → List Packet → List Section
+unfolding sectionsFrom linesAfter
+reaching ls [] = []
+reaching ls (p ∷ ps) = sectionsFrom ls p ++ reaching (linesAfter ls p) ps
+
+unfoldable pub wellFormed : ℕ → List Packet → List Section
+unfolding wellFormedIn reaching quiet
+wellFormed k ps = wellFormedIn k (reaching quiet ps)
+
+-- every one of the sections has version `v`
+abbrev pub AllOf : ℕ → List Section → Type 0
+AllOf v [] = Unit {0}
+AllOf v (x ∷ xs) = (x .version ≡ v) × AllOf v xs
+
+-- the last of the sections, if there is one, has another version than `v`
+abbrev pub EndsOff : ℕ → List Section → Type 0
+EndsOff v [] = Unit {0}
+EndsOff v (x ∷ []) = x .version ≢ v
+EndsOff v (x ∷ y ∷ ys) = EndsOff v (y ∷ ys)
+
+-- `x` is the first of the last run of equal version in `xs`
+pub record FirstOfLastRun (x : Section) (xs : List Section) : Type 0 where
+  pub before : List Section
+  pub run : List Section
+  pub is : xs ≡ before ++ x ∷ run
+  pub alike : AllOf (x .version) run
+  pub starts : EndsOff (x .version) before

@@ -1,0 +1,330 @@
+-- What is done with a table: kept, passed over, counted. The Rust's `Decoder::table`, `control` and `keep`, on values.
+use Prim.Native.Nat.{ℕ, _+_, _*_, _^_}
+use mathlib.Core.Bool.{Bool, true, false, not, cond, _&&_}
+use mathlib.Core.Option.{Option, none, some}
+use mathlib.Core.List.{List, [], _∷_}
+use lib.ListN.{length, getD, take, set}
+use Rattle.isdb_tlv.specs.Guards.{if_then_else_, _<?_, _≤?_, _=?_}
+use Rattle.isdb_tlv.specs.Bytes.{be}
+use Rattle.isdb_mmt.specs.Section.{length12, longSectionOf}
+use Rattle.isdb_mmt.specs.Mpt.{mptOf}
+use Rattle.isdb_mmt.specs.Plt.{pltOf}
+use Rattle.isdb_mmt.specs.Tot.{totOf}
+use Rattle.isdb_mmt.specs.Eit.{eitOf}
+use Rattle.isdb_mmt.specs.Sdt.{sdtOf}
+use Rattle.isdb_mmt.specs.Bit.{bitOf}
+use Rattle.isdb_mmt.specs.Nit.{nitOf}
+use Rattle.isdb_mmt.specs.Amt.{amtOf}
+use Rattle.isdb_mmt.specs.Packet.{Bytes}
+use Rattle.isdb_mmt.specs.declared.table.section.SectionError.{SectionError}
+use Rattle.isdb_mmt.specs.declared.table.section.SectionError.the-variants.{Truncated, Crc, Malformed}
+use Rattle.isdb_mmt.specs.declared.table.section.LongSection.{LongSection}
+use Rattle.isdb_mmt.specs.declared.table.section.LongSection.the-variants.{Ok as goodSection, Err as badSection}
+use Rattle.isdb_mmt.specs.declared.table.eit.EitResult.{EitResult}
+use Rattle.isdb_mmt.specs.declared.table.eit.EitResult.the-variants.{Ok as eitOk, Err as eitErr}
+use Rattle.isdb_mmt.specs.declared.table.sdt.SdtResult.{SdtResult}
+use Rattle.isdb_mmt.specs.declared.table.sdt.SdtResult.the-variants.{Ok as sdtOk, Err as sdtErr}
+use Rattle.isdb_mmt.specs.declared.table.bit.BitResult.{BitResult}
+use Rattle.isdb_mmt.specs.declared.table.bit.BitResult.the-variants.{Ok as bitOk, Err as bitErr}
+use Rattle.isdb_mmt.specs.declared.table.nit.NitResult.{NitResult}
+use Rattle.isdb_mmt.specs.declared.table.nit.NitResult.the-variants.{Ok as nitOk, Err as nitErr}
+use Rattle.isdb_mmt.specs.declared.table.amt.AmtResult.{AmtResult}
+use Rattle.isdb_mmt.specs.declared.table.amt.AmtResult.the-variants.{Ok as amtOk, Err as amtErr}
+use Rattle.isdb_mmt.specs.declared.table.tot.TotResult.{TotResult}
+use Rattle.isdb_mmt.specs.declared.table.tot.TotResult.the-variants.{Ok as totOk, Err as totErr}
+use Rattle.isdb_mmt.specs.declared.table.mpt.MaybeMpt.{MaybeMpt}
+use Rattle.isdb_mmt.specs.declared.table.mpt.MaybeMpt.the-variants.{None as noMpt, Some as someMpt}
+use Rattle.isdb_mmt.specs.declared.table.plt.MaybePlt.{MaybePlt}
+use Rattle.isdb_mmt.specs.declared.table.plt.MaybePlt.the-variants.{None as noPlt, Some as somePlt}
+use Rattle.isdb_mmt.specs.Maps.{find, put, isSome, one}
+
+-- a section that reaches `keep`: its key; whether header and CRC are good, and which of them is not; its version; whether its
+-- body parses, and how many descriptor loops break on the way; its declared bytes
+pub record Section : Type 0 where
+  pub key : ℕ
+  pub headOk : Bool
+  pub crcBad : Bool
+  pub version : ℕ
+  pub bodyOk : Bool
+  pub breaks : ℕ
+  pub bytes : Bytes
+
+-- a key is table id, table id extension and section number
+abbrev pub keyOf : Bytes → ℕ
+keyOf b = getD b 0 0 * 2 ^ 24 + be 2 b 3 * 2 ^ 8 + getD b 6 0
+
+pub record Body : Type 0 where
+  pub ok : Bool
+  pub breaks : ℕ
+
+abbrev pub body : Bool → ℕ → Body
+body o n = record { ok = o; breaks = n }
+
+abbrev pub eitBodyOk : EitResult → Bool
+eitBodyOk (eitOk h t) = true
+eitBodyOk (eitErr e) = false
+
+abbrev pub sdtBodyOk : SdtResult → Bool
+sdtBodyOk (sdtOk h t) = true
+sdtBodyOk (sdtErr e) = false
+
+abbrev pub bitBodyOk : BitResult → Bool
+bitBodyOk (bitOk h t) = true
+bitBodyOk (bitErr e) = false
+
+abbrev pub nitBodyOk : NitResult → Bool
+nitBodyOk (nitOk h t) = true
+nitBodyOk (nitErr e) = false
+
+abbrev pub amtBodyOk : AmtResult → Bool
+amtBodyOk (amtOk h t) = true
+amtBodyOk (amtErr e) = false
+
+-- the table that a section's id names: 9Dh BIT, 9Fh and A0h SDT, 40h and 41h NIT, FEh AMT, the others EIT
+unfoldable pub bodyRead : ℕ → Bytes → Body
+bodyRead id b =
+    if id =? 0x9D then body (bitBodyOk (bitOf b .result)) (bitOf b .breaks)
+    else if id =? 0x9F then body (sdtBodyOk (sdtOf b .result)) (sdtOf b .breaks)
+    else if id =? 0xA0 then body (sdtBodyOk (sdtOf b .result)) (sdtOf b .breaks)
+    else if id =? 0x40 then body (nitBodyOk (nitOf b)) 0
+    else if id =? 0x41 then body (nitBodyOk (nitOf b)) 0
+    else if id =? 0xFE then body (amtBodyOk (amtOf b)) 0
+    else body (eitBodyOk (eitOf b .result)) (eitOf b .breaks)
+
+abbrev pub headIsOk : LongSection → Bool
+headIsOk (goodSection h n) = true
+headIsOk (badSection e) = false
+
+abbrev pub isCrc : SectionError → Bool
+isCrc Truncated = false
+isCrc Crc = true
+isCrc Malformed = false
+
+abbrev pub crcIsBad : LongSection → Bool
+crcIsBad (goodSection h n) = false
+crcIsBad (badSection e) = isCrc e
+
+abbrev pub versionIn : LongSection → ℕ
+versionIn (goodSection h n) = h .version
+versionIn (badSection e) = 0
+
+unfoldable pub sectionOf : Bytes → Section
+sectionOf b =
+    record {
+      key = keyOf b;
+      headOk = headIsOk (longSectionOf b);
+      crcBad = crcIsBad (longSectionOf b);
+      version = versionIn (longSectionOf b);
+      bodyOk = bodyRead (getD b 0 0) b .ok;
+      breaks = bodyRead (getD b 0 0) b .breaks;
+      bytes = take (length12 b 1 + 3) b;
+    }
+
+pub record Kept : Type 0 where
+  pub version : ℕ
+  pub bytes : Bytes
+
+-- a section of another version than the kept one's, or where none is kept
+unfoldable pub news : Option Kept → ℕ → Bool
+news none v = true
+news (some k) v = not (k .version =? v)
+
+unfoldable pub keepIf : Bool → Bool → Section → List (ℕ × Kept) → List (ℕ × Kept)
+unfolding put
+keepIf true true x m = put (x .key) (record { version = x .version; bytes = x .bytes }) m
+keepIf true false x m = m
+keepIf false b x m = m
+
+-- header and CRC; then the version, against the kept one's; then the body
+unfoldable pub keep : Section → List (ℕ × Kept) → List (ℕ × Kept)
+unfolding keepIf news find
+keep x m = cond (x .headOk) (keepIf (news (find (x .key) m) (x .version)) (x .bodyOk) x m) m
+
+unfoldable pub keepAll : List Section → List (ℕ × Kept) → List (ℕ × Kept)
+unfolding keep
+keepAll [] m = m
+keepAll (x ∷ xs) m = keepAll xs (keep x m)
+
+pub record Counters : Type 0 where
+  pub tlvPackets : ℕ
+  pub ipErrors : ℕ
+  pub nonMmtps : ℕ
+  pub ntps : ℕ
+  pub tables : ℕ
+  pub crcErrors : ℕ
+  pub malformed : ℕ
+  pub versionChanges : ℕ
+  pub orphans : ℕ
+  pub oversizes : ℕ
+  pub messageMalformed : ℕ
+  pub splitErrors : ℕ
+
+unfoldable pub zeros : Counters
+zeros =
+    record {
+      tlvPackets = 0;
+      ipErrors = 0;
+      nonMmtps = 0;
+      ntps = 0;
+      tables = 0;
+      crcErrors = 0;
+      malformed = 0;
+      versionChanges = 0;
+      orphans = 0;
+      oversizes = 0;
+      messageMalformed = 0;
+      splitErrors = 0;
+    }
+
+-- what a table adds to the counts
+pub record Adds : Type 0 where
+  pub crcErrors : ℕ
+  pub malformed : ℕ
+  pub versionChanges : ℕ
+  pub breaks : ℕ
+
+abbrev pub adds : ℕ → ℕ → ℕ → ℕ → Adds
+adds c m v b = record { crcErrors = c; malformed = m; versionChanges = v; breaks = b }
+
+-- a table more, with what it adds
+unfoldable pub tabled : Counters → Adds → Counters
+tabled c x =
+    record {
+      tlvPackets = c .tlvPackets;
+      ipErrors = c .ipErrors;
+      nonMmtps = c .nonMmtps;
+      ntps = c .ntps;
+      tables = c .tables + 1;
+      crcErrors = c .crcErrors + x .crcErrors;
+      malformed = c .malformed + x .malformed;
+      versionChanges = c .versionChanges + x .versionChanges;
+      orphans = c .orphans;
+      oversizes = c .oversizes;
+      messageMalformed = c .messageMalformed;
+      splitErrors = c .splitErrors + x .breaks;
+    }
+
+-- a section: a bad header or CRC is counted; a section of the kept version is passed over; another counts a version change
+-- before its body is read
+unfoldable pub sectionAdds : Section → Option Kept → Adds
+unfolding news isSome
+sectionAdds x k =
+    if not (x .headOk) then adds (one (x .crcBad)) (one (not (x .crcBad))) 0 0
+    else if not (news k (x .version)) then adds 0 0 0 0
+    else adds 0 (one (not (x .bodyOk))) (one (isSome k)) (x .breaks)
+
+-- what is kept
+pub record Store : Type 0 where
+  pub mpts : List (ℕ × Bytes)
+  pub plt : Option Bytes
+  pub tot : Option Bytes
+  pub kept : List (ℕ × Kept)
+  -- a count for each of the 256 table ids that are not read
+  pub others : List ℕ
+
+abbrev pub storeWith : Store → List (ℕ × Kept) → Store
+storeWith s k = record { mpts = s .mpts; plt = s .plt; tot = s .tot; kept = k; others = s .others }
+
+-- a table of a message, by its id (Table 4-8)
+pub data Table : Type 0 where
+  -- no bytes
+  emptyTable : Table
+  -- 11h to 20h: whether it parses, how many loops break, its declared bytes
+  mptTable : Bool → ℕ → Bytes → Table
+  -- 80h
+  pltTable : Bool → Bytes → Table
+  -- A1h: whether it parses, and whether the CRC is what fails
+  totTable : Bool → Bool → ℕ → Bytes → Table
+  -- 8Bh to 9Bh, 9Dh, 9Fh, A0h under 7 bytes
+  cutSection : Table
+  aSection : Section → Table
+  otherTable : ℕ → Table
+
+abbrev pub mptParses : MaybeMpt → Bool
+mptParses noMpt = false
+mptParses (someMpt t) = true
+
+abbrev pub pltParses : MaybePlt → Bool
+pltParses noPlt = false
+pltParses (somePlt t) = true
+
+abbrev pub totParses : TotResult → Bool
+totParses (totOk t) = true
+totParses (totErr e) = false
+
+abbrev pub totCrcBad : TotResult → Bool
+totCrcBad (totOk t) = false
+totCrcBad (totErr e) = isCrc e
+
+-- MPT and PLT declare 4 bytes and their length, sections and TOT 3 and theirs
+abbrev pub declaredTable : Bytes → Bytes
+declaredTable b = take (be 2 b 2 + 4) b
+
+abbrev pub declaredSection : Bytes → Bytes
+declaredSection b = take (length12 b 1 + 3) b
+
+abbrev pub longTable : Bytes → Table
+longTable b = if length b <? 7 then cutSection else aSection (sectionOf b)
+
+unfoldable pub tableById : ℕ → Bytes → Table
+tableById id b =
+    if id <? 0x11 then otherTable id
+    else if id ≤? 0x20 then mptTable (mptParses (mptOf b .mpt)) (mptOf b .breaks) (declaredTable b)
+    else if id =? 0x80 then pltTable (pltParses (pltOf b)) (declaredTable b)
+    else if id =? 0xA1 then totTable (totParses (totOf b .result)) (totCrcBad (totOf b .result)) (totOf b .breaks) (declaredSection b)
+    else if id <? 0x8B then otherTable id
+    else if id ≤? 0x9B then longTable b
+    else if id =? 0x9D then longTable b
+    else if id =? 0x9F then longTable b
+    else if id =? 0xA0 then longTable b
+    else otherTable id
+
+unfoldable pub tableRead : Bytes → Table
+tableRead b = if length b =? 0 then emptyTable else tableById (getD b 0 0) b
+
+-- an MPT or a PLT of another version than the kept one's
+abbrev pub changes : Option Bytes → Bytes → Bool
+changes none b = false
+changes (some old) b = not (getD old 1 0 =? getD b 1 0)
+
+-- what a table adds to the counts, from what is kept for the control id `i`
+unfoldable pub tableAdds : ℕ → Store → Table → Adds
+tableAdds i s emptyTable = adds 0 0 0 0
+tableAdds i s (mptTable ok breaks b) = adds 0 (one (not ok)) (one (ok && changes (find i (s .mpts)) b)) breaks
+tableAdds i s (pltTable ok b) = adds 0 (one (not ok)) (one (ok && changes (s .plt) b)) 0
+tableAdds i s (totTable ok crc breaks b) = adds (one crc) (one (not ok && not crc)) 0 breaks
+tableAdds i s cutSection = adds 0 1 0 0
+tableAdds i s (aSection x) = sectionAdds x (find (x .key) (s .kept))
+tableAdds i s (otherTable id) = adds 0 0 0 0
+
+-- what is kept after it
+abbrev pub latest : Bool → Option Bytes → Bytes → Option Bytes
+latest true o b = some b
+latest false o b = o
+
+abbrev pub latestOf : Bool → ℕ → Bytes → List (ℕ × Bytes) → List (ℕ × Bytes)
+latestOf true i b m = put i b m
+latestOf false i b m = m
+
+unfoldable pub stored : ℕ → Store → Table → Store
+stored i s emptyTable = s
+stored i s (mptTable ok breaks b) =
+    record { mpts = latestOf ok i b (s .mpts); plt = s .plt; tot = s .tot; kept = s .kept; others = s .others }
+stored i s (pltTable ok b) =
+    record { mpts = s .mpts; plt = latest ok (s .plt) b; tot = s .tot; kept = s .kept; others = s .others }
+stored i s (totTable ok crc breaks b) =
+    record { mpts = s .mpts; plt = s .plt; tot = latest ok (s .tot) b; kept = s .kept; others = s .others }
+stored i s cutSection = s
+stored i s (aSection x) = storeWith s (keep x (s .kept))
+stored i s (otherTable id) =
+    record { mpts = s .mpts; plt = s .plt; tot = s .tot; kept = s .kept; others = set (s .others) id (getD (s .others) id 0 + 1) }
+
+unfoldable pub storedAll : ℕ → Store → List Table → Store
+unfolding stored
+storedAll i s [] = s
+storedAll i s (t ∷ ts) = storedAll i (stored i s t) ts
+
+unfoldable pub countedAll : ℕ → Store → Counters → List Table → Counters
+unfolding stored tabled tableAdds
+countedAll i s c [] = c
+countedAll i s c (t ∷ ts) = countedAll i (stored i s t) (tabled c (tableAdds i s t)) ts

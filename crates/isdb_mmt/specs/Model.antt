@@ -1,0 +1,152 @@
+-- The decoder on values, with unlimited memory: what the Rust's `Decoder::push` does, every counter and kept table included.
+use Prim.Native.Nat.{ℕ, _+_}
+use mathlib.Core.Bool.{Bool}
+use mathlib.Core.Option.{Option, none, some}
+use mathlib.Core.List.{List, [], map}
+use lib.ListN.{replicate}
+use Rattle.isdb_mmt.specs.Packet.{Bytes, Ctl, Packet, ipError, ntp, nonMmtp, media, message, control, other}
+use Rattle.isdb_mmt.specs.Maps.{find, put, orElse, one}
+use Rattle.isdb_mmt.specs.Objects.{fresh, assetAfter, mediaGives, Asset, Rec}
+use Rattle.isdb_mmt.specs.Joins.{idle, lineAfter, lineGives, orphan, oversize, cutOfAll, short, Line}
+use Rattle.isdb_mmt.specs.Kept.{sectionOf, zeros, tableRead, storedAll, countedAll, Counters, Store, Table, aSection}
+
+pub record State : Type 0 where
+  -- whether scrambled payloads are passed on
+  pub passing : Bool
+  pub assets : List (ℕ × Asset)
+  pub lines : List (ℕ × Line)
+  pub store : Store
+  -- the last NTP timestamp
+  pub time : Option ℕ
+  pub counters : Counters
+
+unfoldable pub opened : Bool → State
+opened pass =
+    record {
+      passing = pass;
+      assets = [];
+      lines = [];
+      store = record { mpts = []; plt = none; tot = none; kept = []; others = replicate 256 0 };
+      time = none;
+      counters = zeros;
+    }
+
+unfoldable pub assetOf : ℕ → State → Asset
+unfolding orElse fresh find
+assetOf i s = orElse fresh (find i (s .assets))
+
+unfoldable pub lineOf : ℕ → State → Line
+unfolding orElse idle find
+lineOf i s = orElse idle (find i (s .lines))
+
+-- a packet, with what is counted of it beside tables
+unfoldable pub packetCounted : Counters → ℕ → ℕ → ℕ → Counters
+packetCounted c ip non time =
+    record {
+      tlvPackets = c .tlvPackets + 1;
+      ipErrors = c .ipErrors + ip;
+      nonMmtps = c .nonMmtps + non;
+      ntps = c .ntps + time;
+      tables = c .tables;
+      crcErrors = c .crcErrors;
+      malformed = c .malformed;
+      versionChanges = c .versionChanges;
+      orphans = c .orphans;
+      oversizes = c .oversizes;
+      messageMalformed = c .messageMalformed;
+      splitErrors = c .splitErrors;
+    }
+
+unfoldable pub messageCounted : Counters → ℕ → ℕ → ℕ → Counters
+messageCounted c orphans oversizes bad =
+    record {
+      tlvPackets = c .tlvPackets;
+      ipErrors = c .ipErrors;
+      nonMmtps = c .nonMmtps;
+      ntps = c .ntps;
+      tables = c .tables;
+      crcErrors = c .crcErrors;
+      malformed = c .malformed;
+      versionChanges = c .versionChanges;
+      orphans = c .orphans + orphans;
+      oversizes = c .oversizes + oversizes;
+      messageMalformed = c .messageMalformed + bad;
+      splitErrors = c .splitErrors;
+    }
+
+-- the counters that message.rs keeps, for a packet of a line
+unfoldable pub lineCounted : Counters → Line → Ctl → Counters
+lineCounted c l x =
+    messageCounted c (one (orphan l x)) (one (oversize l x)) (one (short x) + cutOfAll (lineGives l x) .malformed)
+
+-- the tables that a message packet makes whole
+unfoldable pub tablesGiven : Line → Ctl → List Table
+unfolding tableRead
+tablesGiven l x = map tableRead (cutOfAll (lineGives l x) .tables)
+
+unfoldable pub timeAfter : Option ℕ → Option ℕ → Option ℕ
+timeAfter o none = o
+timeAfter o (some t) = some t
+
+-- a control signal's sections are read as sections, whatever is in them
+abbrev pub controlTables : List Bytes → List Table
+controlTables bs = map (λ b. aSection (sectionOf b)) bs
+
+abbrev pub counting : State → Counters → State
+counting s c =
+    record { passing = s .passing; assets = s .assets; lines = s .lines; store = s .store; time = s .time; counters = c }
+
+unfoldable pub pushed : State → Packet → State
+unfolding put assetAfter assetOf lineAfter lineOf lineGives storedAll countedAll packetCounted lineCounted tablesGiven timeAfter
+pushed s ipError = counting s (packetCounted (s .counters) 1 0 0)
+pushed s nonMmtp = counting s (packetCounted (s .counters) 0 1 0)
+pushed s other = counting s (packetCounted (s .counters) 0 0 0)
+pushed s (ntp t) =
+    record {
+      passing = s .passing;
+      assets = s .assets;
+      lines = s .lines;
+      store = s .store;
+      time = timeAfter (s .time) t;
+      counters = packetCounted (s .counters) 0 0 1;
+    }
+pushed s (media m) =
+    record {
+      passing = s .passing;
+      assets = put (m .id) (assetAfter (assetOf (m .id) s) m) (s .assets);
+      lines = s .lines;
+      store = s .store;
+      time = s .time;
+      counters = packetCounted (s .counters) 0 0 0;
+    }
+pushed s (message c) =
+    record {
+      passing = s .passing;
+      assets = s .assets;
+      lines = put (c .id) (lineAfter (lineOf (c .id) s) c) (s .lines);
+      store = storedAll (c .id) (s .store) (tablesGiven (lineOf (c .id) s) c);
+      time = s .time;
+      counters =
+          countedAll (c .id) (s .store) (lineCounted (packetCounted (s .counters) 0 0 0) (lineOf (c .id) s) c)
+          (tablesGiven (lineOf (c .id) s) c);
+    }
+pushed s (control bs) =
+    record {
+      passing = s .passing;
+      assets = s .assets;
+      lines = s .lines;
+      store = storedAll 0 (s .store) (controlTables bs);
+      time = s .time;
+      counters = countedAll 0 (s .store) (packetCounted (s .counters) 0 0 0) (controlTables bs);
+    }
+
+-- the records given out
+unfoldable pub gives : State → Packet → List Rec
+unfolding mediaGives assetOf
+gives s ipError = []
+gives s nonMmtp = []
+gives s other = []
+gives s (ntp t) = []
+gives s (media m) = mediaGives (s .passing) (assetOf (m .id) s) m
+gives s (message c) = []
+gives s (control bs) = []

@@ -1,0 +1,127 @@
+-- What the decoder would need for a packet from a state, with unlimited memory: questions 8, 9 and 10 of a call compare it with
+-- what the session has.
+use Prim.Native.Nat.{ℕ, _+_, _-_, max}
+use mathlib.Core.Bool.{Bool, true, false, cond, _&&_}
+use mathlib.Core.Option.{Option, none, some}
+use mathlib.Core.List.{List, [], _∷_}
+use lib.ListN.{length, drop}
+use Rattle.isdb_mmt.specs.Packet.{Bytes, Piece, Media, Ctl, Packet, ipError, ntp, nonMmtp, media, message, control, other}
+use Rattle.isdb_mmt.specs.Maps.{find}
+use Rattle.isdb_mmt.specs.Objects.{Mfu, Asset, Did, did, didTo, noted, readable, Rec}
+use Rattle.isdb_mmt.specs.Joins.{Join, Line, short, flagsOf, partBefore, joinedOn}
+use Rattle.isdb_mmt.specs.Kept.{Section, news, Store, stored, Table, emptyTable, mptTable, pltTable, totTable, cutSection, aSection, otherTable}
+use Rattle.isdb_mmt.specs.Model.{tablesGiven, controlTables, State, assetOf, lineOf, pushed, gives}
+use Rattle.isdb_mmt.specs.declared.mpu.FragmentationIndicator.{FragmentationIndicator}
+use Rattle.isdb_mmt.specs.declared.mpu.FragmentationIndicator.the-variants.{Complete, Head, Middle, Last}
+use Rattle.isdb_mmt.specs.declared.message.Division.{Division}
+use Rattle.isdb_mmt.specs.declared.message.Division.the-variants.{Undivided, First, Middle as middlePart, Last as lastPart}
+
+pub record Needs : Type 0 where
+  -- places that it takes, of each sort
+  pub mediaIds : ℕ
+  pub controlIds : ℕ
+  pub sections : ℕ
+  -- the longest object, message and table that it holds, joins or keeps on the way
+  pub object : ℕ
+  pub message : ℕ
+  pub table : ℕ
+  -- the records that it hands out, and their data
+  pub records : ℕ
+  pub dataBytes : ℕ
+
+-- an object held after a unit, or delivered by it
+abbrev pub heldLength : Option Mfu → ℕ
+heldLength none = 0
+heldLength (some h) = length (h .bytes)
+
+abbrev pub longestOf : List Mfu → ℕ
+longestOf [] = 0
+longestOf (h ∷ hs) = max (length (h .bytes)) (longestOf hs)
+
+-- a Complete unit needs no area; an object above the maximum is dropped and asks for none
+abbrev pub unitArea : FragmentationIndicator → Did → ℕ
+unitArea Complete r = 0
+unitArea Head r = heldLength (r .held)
+unitArea Middle r = heldLength (r .held)
+unitArea Last r = longestOf (r .outs)
+
+unfoldable pub unitsNeed : Media → Asset → List Piece → ℕ
+unfolding did didTo
+unitsNeed m a [] = 0
+unitsNeed m a (u ∷ us) = max (unitArea (u .fragment) (did m a u)) (unitsNeed m (didTo a (did m a u)) us)
+
+abbrev pub joinLength : Option Join → ℕ
+joinLength none = 0
+joinLength (some j) = length (j .bytes)
+
+-- an undivided message needs no area
+abbrev pub fragmentArea : Division → Option Join → Bytes → ℕ
+fragmentArea Undivided j d = 0
+fragmentArea First j d = length d
+fragmentArea middlePart j d = joinLength (joinedOn j d)
+fragmentArea lastPart j d = joinLength (joinedOn j d)
+
+unfoldable pub lineNeeds : Line → Ctl → ℕ
+unfolding partBefore joinedOn
+lineNeeds l c = cond (short c) 0 (fragmentArea (flagsOf c .division) (partBefore l c) (drop 2 (c .payload)))
+
+-- a table that is kept; one that is passed over or fails asks for none
+unfoldable pub tableArea : Store → Table → ℕ
+unfolding find news
+tableArea s emptyTable = 0
+tableArea s (mptTable ok breaks b) = cond ok (length b) 0
+tableArea s (pltTable ok b) = cond ok (length b) 0
+tableArea s (totTable ok crc breaks b) = cond ok (length b) 0
+tableArea s cutSection = 0
+tableArea s (aSection x) = cond (x .headOk && (news (find (x .key) (s .kept)) (x .version) && x .bodyOk)) (length (x .bytes)) 0
+tableArea s (otherTable id) = 0
+
+unfoldable pub tablesNeed : ℕ → Store → List Table → ℕ
+unfolding tableArea stored
+tablesNeed i s [] = 0
+tablesNeed i s (t ∷ ts) = max (tableArea s t) (tablesNeed i (stored i s t) ts)
+
+abbrev pub objectFor : State → Packet → ℕ
+objectFor s ipError = 0
+objectFor s (ntp t) = 0
+objectFor s nonMmtp = 0
+objectFor s (media m) = unitsNeed m (noted (assetOf (m .id) s) m) (readable m)
+objectFor s (message c) = 0
+objectFor s (control bs) = 0
+objectFor s other = 0
+
+abbrev pub messageFor : State → Packet → ℕ
+messageFor s ipError = 0
+messageFor s (ntp t) = 0
+messageFor s nonMmtp = 0
+messageFor s (media m) = 0
+messageFor s (message c) = lineNeeds (lineOf (c .id) s) c
+messageFor s (control bs) = 0
+messageFor s other = 0
+
+abbrev pub tableFor : State → Packet → ℕ
+tableFor s ipError = 0
+tableFor s (ntp t) = 0
+tableFor s nonMmtp = 0
+tableFor s (media m) = 0
+tableFor s (message c) = tablesNeed (c .id) (s .store) (tablesGiven (lineOf (c .id) s) c)
+tableFor s (control bs) = tablesNeed 0 (s .store) (controlTables bs)
+tableFor s other = 0
+
+abbrev pub dataOf : List Rec → ℕ
+dataOf [] = 0
+dataOf (r ∷ rs) = length (r .mfu .bytes) + dataOf rs
+
+unfoldable pub needs : State → Packet → Needs
+unfolding pushed gives unitsNeed noted assetOf readable lineNeeds lineOf tablesNeed tablesGiven
+needs s p =
+    record {
+      mediaIds = length (pushed s p .assets) - length (s .assets);
+      controlIds = length (pushed s p .lines) - length (s .lines);
+      sections = length (pushed s p .store .kept) - length (s .store .kept);
+      object = objectFor s p;
+      message = messageFor s p;
+      table = tableFor s p;
+      records = length (gives s p);
+      dataBytes = dataOf (gives s p);
+    }

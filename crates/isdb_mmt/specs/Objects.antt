@@ -1,0 +1,235 @@
+-- What a media packet does to the objects and counts of its packet id: the Rust's `Reassembler::push`, on values.
+use Prim.Native.Nat.{ℕ, _+_}
+use mathlib.Core.Bool.{Bool, true, false, not, cond, _&&_}
+use mathlib.Core.Option.{Option, none, some}
+use mathlib.Core.List.{List, [], _∷_, _++_}
+use lib.ListN.{length}
+use Rattle.isdb_tlv.specs.Guards.{if_then_else_, _≤?_, _=?_}
+use Rattle.isdb_mmt.specs.Mpu.{follows, lostFrom, completesOf}
+use Rattle.isdb_mmt.specs.Packet.{Bytes, Piece, Media}
+use Rattle.isdb_mmt.specs.declared.maybe.MaybeU32.{MaybeU32}
+use Rattle.isdb_mmt.specs.declared.maybe.MaybeU32.the-variants.{None as noU32}
+use Rattle.isdb_mmt.specs.declared.mpu.FragmentationIndicator.{FragmentationIndicator}
+use Rattle.isdb_mmt.specs.declared.mpu.FragmentationIndicator.the-variants.{Complete, Head, Middle, Last}
+use Rattle.isdb_mmt.specs.declared.mpu.PayloadHeader.{PayloadHeader}
+use Rattle.isdb_mmt.specs.declared.mpu.MaybeMfu.{MaybeMfu}
+use Rattle.isdb_mmt.specs.declared.mpu.MaybeMfu.the-variants.{None as noMfu}
+use Rattle.isdb_mmt.specs.Maps.{isSome, one}
+
+-- an object: what its record carries, from its first packet and unit, and its bytes
+pub record Mfu : Type 0 where
+  pub mpu : ℕ
+  pub rap : Bool
+  pub mfu : MaybeMfu
+  pub itemId : MaybeU32
+  pub bytes : Bytes
+
+pub record Asset : Type 0 where
+  -- last packet number, last MPU number, the held object
+  pub number : Option ℕ
+  pub mpu : Option ℕ
+  pub held : Option Mfu
+  -- first and last MPU number
+  pub range : Option (ℕ × ℕ)
+  pub packets : ℕ
+  pub lost : ℕ
+  pub scrambled : ℕ
+  pub mfus : ℕ
+  pub scrambledMfus : ℕ
+  pub dropped : ℕ
+  pub mpus : ℕ
+  pub jumps : ℕ
+  pub malformed : ℕ
+
+unfoldable pub fresh : Asset
+fresh =
+    record {
+      number = none;
+      mpu = none;
+      held = none;
+      range = none;
+      packets = 0;
+      lost = 0;
+      scrambled = 0;
+      mfus = 0;
+      scrambledMfus = 0;
+      dropped = 0;
+      mpus = 0;
+      jumps = 0;
+      malformed = 0;
+    }
+
+-- the largest object
+abbrev pub mostObject : ℕ
+mostObject = 16777216
+
+-- a number that does not follow the last one
+unfoldable pub gap : Option ℕ → ℕ → Bool
+gap none n = false
+gap (some l) n = not (follows l n)
+
+unfoldable pub lostBy : Option ℕ → ℕ → ℕ
+lostBy none n = 0
+lostBy (some l) n = if follows l n then 0 else lostFrom l n
+
+-- what one unit does: the object held after it, how many are dropped, which are delivered
+pub record Did : Type 0 where
+  pub held : Option Mfu
+  pub drops : ℕ
+  pub outs : List Mfu
+
+unfoldable pub grown : Mfu → Bytes → Mfu
+grown h d = record { mpu = h .mpu; rap = h .rap; mfu = h .mfu; itemId = h .itemId; bytes = h .bytes ++ d }
+
+-- an object continued: it fits or it is dropped; its end delivers it
+unfoldable pub continued : Bool → Bool → Mfu → Did
+continued true true h = record { held = none; drops = 0; outs = h ∷ [] }
+continued true false h = record { held = some h; drops = 0; outs = [] }
+continued false e h = record { held = none; drops = 1; outs = [] }
+
+unfoldable pub unitDoes : FragmentationIndicator → Option Mfu → Mfu → Did
+unfolding isSome continued grown
+unitDoes Complete h u = record { held = none; drops = one (isSome h); outs = u ∷ [] }
+unitDoes Head h u = record { held = some u; drops = one (isSome h); outs = [] }
+unitDoes Middle none u = record { held = none; drops = 0; outs = [] }
+unitDoes Middle (some h) u = continued (length (h .bytes) + length (u .bytes) ≤? mostObject) false (grown h (u .bytes))
+unitDoes Last none u = record { held = none; drops = 0; outs = [] }
+unitDoes Last (some h) u = continued (length (h .bytes) + length (u .bytes) ≤? mostObject) true (grown h (u .bytes))
+
+unfoldable pub didTo : Asset → Did → Asset
+didTo a r =
+    record {
+      number = a .number;
+      mpu = a .mpu;
+      held = r .held;
+      range = a .range;
+      packets = a .packets;
+      lost = a .lost;
+      scrambled = a .scrambled;
+      mfus = a .mfus + length (r .outs);
+      scrambledMfus = a .scrambledMfus;
+      dropped = a .dropped + r .drops;
+      mpus = a .mpus;
+      jumps = a .jumps;
+      malformed = a .malformed;
+    }
+
+abbrev pub mpuIn : Option PayloadHeader → Option ℕ
+mpuIn none = none
+mpuIn (some h) = some (h .«mpu_sequence_number»)
+
+abbrev pub mpuNumber : Option PayloadHeader → ℕ
+mpuNumber none = 0
+mpuNumber (some h) = h .«mpu_sequence_number»
+
+-- the object that a unit begins
+unfoldable pub objectOf : Media → Piece → Mfu
+objectOf m u =
+    record { mpu = mpuNumber (m .header); rap = m .rap; mfu = u .mfu; itemId = u .itemId; bytes = u .bytes }
+
+unfoldable pub did : Media → Asset → Piece → Did
+unfolding unitDoes objectOf
+did m a u = unitDoes (u .fragment) (a .held) (objectOf m u)
+
+unfoldable pub unitsDo : Media → Asset → List Piece → Asset
+unfolding didTo did
+unitsDo m a [] = a
+unitsDo m a (u ∷ us) = unitsDo m (didTo a (did m a u)) us
+
+unfoldable pub unitsGive : Media → Asset → List Piece → List Mfu
+unfolding didTo did
+unitsGive m a [] = []
+unitsGive m a (u ∷ us) = did m a u .outs ++ unitsGive m (didTo a (did m a u)) us
+
+-- the units that are taken: those of a clear payload that parses ("readable clear")
+unfoldable pub clear : Bool → Option (List Piece) → List Piece
+clear true us = []
+clear false none = []
+clear false (some us) = us
+
+unfoldable pub readable : Media → List Piece
+unfolding clear
+readable m = clear (m .scrambled) (m .units)
+
+unfoldable pub newMpu : Option ℕ → Option ℕ → Bool
+newMpu o none = false
+newMpu none (some n) = true
+newMpu (some l) (some n) = not (n =? l)
+
+unfoldable pub jumped : Option ℕ → Option ℕ → Bool
+jumped o none = false
+jumped none (some n) = false
+jumped (some l) (some n) = not (n =? l) && not (follows l n)
+
+unfoldable pub mpuAfter : Option ℕ → Option ℕ → Option ℕ
+mpuAfter o none = o
+mpuAfter o (some n) = some n
+
+-- first and last, which moves only with a new number
+abbrev pub lastIn : Option (ℕ × ℕ) → ℕ → Option (ℕ × ℕ)
+lastIn none n = some (n, n)
+lastIn (some r) n = some (r .0, n)
+
+unfoldable pub rangeAfter : Bool → Option (ℕ × ℕ) → Option ℕ → Option (ℕ × ℕ)
+rangeAfter false r n = r
+rangeAfter true r none = r
+rangeAfter true r (some n) = lastIn r n
+
+abbrev pub completes : Option PayloadHeader → Bool
+completes none = false
+completes (some h) = completesOf (h .fragmentation)
+
+-- a payload whose header fails, or a clear one whose units do
+unfoldable pub spoilt : Media → Bool
+unfolding isSome
+spoilt m = cond (isSome (m .header)) (not (m .scrambled) && not (isSome (m .units))) true
+
+-- the gap rule, and what the packet's and the payload's headers count
+unfoldable pub noted : Asset → Media → Asset
+unfolding gap lostBy isSome mpuAfter newMpu jumped rangeAfter spoilt
+noted a m =
+    record {
+      number = some (m .number);
+      mpu = mpuAfter (a .mpu) (mpuIn (m .header));
+      held = cond (gap (a .number) (m .number)) none (a .held);
+      range = rangeAfter (newMpu (a .mpu) (mpuIn (m .header))) (a .range) (mpuIn (m .header));
+      packets = a .packets + 1;
+      lost = a .lost + lostBy (a .number) (m .number);
+      scrambled = a .scrambled + one (m .scrambled);
+      mfus = a .mfus;
+      scrambledMfus = a .scrambledMfus + one (m .scrambled && completes (m .header));
+      dropped = a .dropped + one (gap (a .number) (m .number) && isSome (a .held));
+      mpus = a .mpus + one (newMpu (a .mpu) (mpuIn (m .header)));
+      jumps = a .jumps + one (jumped (a .mpu) (mpuIn (m .header)));
+      malformed = a .malformed + one (spoilt m);
+    }
+
+unfoldable pub assetAfter : Asset → Media → Asset
+unfolding noted readable unitsDo
+assetAfter a m = unitsDo m (noted a m) (readable m)
+
+-- a record that is given out: packet id, whether it is a scrambled payload passed on, the object
+pub record Rec : Type 0 where
+  pub id : ℕ
+  pub scrambled : Bool
+  pub mfu : Mfu
+
+unfoldable pub tagged : ℕ → List Mfu → List Rec
+tagged i [] = []
+tagged i (d ∷ ds) = record { id = i; scrambled = false; mfu = d } ∷ tagged i ds
+
+-- a scrambled payload with a good header, passed on from byte 8 to its end where the session is set so
+unfoldable pub passes : Bool → Media → List Rec
+unfolding isSome
+passes pass m =
+    cond (pass && (m .scrambled && isSome (m .header)))
+    (record {
+      id = m .id;
+      scrambled = true;
+      mfu = record { mpu = mpuNumber (m .header); rap = m .rap; mfu = noMfu; itemId = noU32; bytes = m .raw };
+    } ∷ [])
+    []
+
+unfoldable pub mediaGives : Bool → Asset → Media → List Rec
+unfolding passes tagged unitsGive noted readable
+mediaGives pass a m = passes pass m ++ tagged (m .id) (unitsGive m (noted a m) (readable m))
