@@ -3,3 +3,8 @@
 macro_rules! debug {
     ($($t:tt)*) => {};
 }
+
+#[macro_export]
+macro_rules! trace {
+    ($($t:tt)*) => {};
+}
