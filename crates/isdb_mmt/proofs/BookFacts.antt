@@ -13,7 +13,7 @@ use Rattle.isdb_mmt.specs.Packet.{Bytes, Piece, Packet, ipError, ntp, no
 use Rattle.isdb_mmt.specs.Maps.{find, orElse}
 use Rattle.isdb_mmt.specs.Objects.{readable, fresh}
 use Rattle.isdb_mmt.specs.Model.{opened, assetOf}
-use Rattle.isdb_mmt.specs.Book.{Item, seen, got, gots, itemsOf, tapeOf, Book, nothing, letGo, inOrder, goesOn, write, writeAll, book, follower, limit, isHeld, begins, begunIn, begunBy, begun, deliveredOf, Unbroken, joined, whole, divided, Cut, done, skip, object}
+use Rattle.isdb_mmt.specs.Book.{Item, seen, got, gots, itemsOf, tapeOf, Book, nothing, dropCounted, inOrder, goesOn, write, writeAll, book, follower, limit, isHeld, begins, begunIn, begunBy, begun, deliveredOf, Unbroken, joined, whole, divided, Cut, done, skip, object}
 use Rattle.isdb_mmt.specs.Demand.{pushAll, giveAll, bytesOf, heldOf, droppedOf, AllSmall, EverySmall, Bounded, OfId}
 use Rattle.isdb_mmt.specs.declared.mpu.FragmentationIndicator.the-variants.{Complete, Head, Middle, Last}
 
@@ -32,10 +32,10 @@ total b = length (b .delivered) + b .dropped + isHeld (b .held)
 
 total-write : (n : Option ℕ) (h : Option Bytes) (k : ℕ) (os : List Bytes) (x : Item)
     → total (write (at n h k os) x) ≡ begunAt x + total (at n h k os)
-unfolding total write letGo goesOn begunAt begins isHeld
+unfolding total write dropCounted goesOn begunAt begins isHeld
 total-write n h k os (seen j) = go (inOrder n j) h
   where
-    go : (b : Bool) (h : Option Bytes) → total (cond b (at (some j) h k os) (at (some j) none (letGo h k) os)) ≡ 0 + total (at n h k os)
+    go : (b : Bool) (h : Option Bytes) → total (cond b (at (some j) h k os) (at (some j) none (dropCounted h k) os)) ≡ 0 + total (at n h k os)
     go true h = omega arith
     go false none = omega arith
     go false (some h) = omega arith
@@ -101,14 +101,14 @@ SmallOn (got n f d ∷ t) = (length d ≤ limit) × SmallOn t
 bound : (t : List Item) (n : Option ℕ) (h : Option Bytes) (k : ℕ) (os : List Bytes) → SmallOn t → Bounded h → Bounded (writeAll (at n h k os) t .held)
 unfolding writeAll write goesOn
 bound [] n h k os q f = f
-bound (seen j ∷ t) n h k os q f = go (inOrder n j) (bound t (some j) h k os q f) (bound t (some j) none (letGo h k) os q tt)
+bound (seen j ∷ t) n h k os q f = go (inOrder n j) (bound t (some j) h k os q f) (bound t (some j) none (dropCounted h k) os q tt)
   where
-    go : (b : Bool) → Bounded (writeAll (at (some j) h k os) t .held) → Bounded (writeAll (at (some j) none (letGo h k) os) t .held)
-        → Bounded (writeAll (cond b (at (some j) h k os) (at (some j) none (letGo h k) os)) t .held)
+    go : (b : Bool) → Bounded (writeAll (at (some j) h k os) t .held) → Bounded (writeAll (at (some j) none (dropCounted h k) os) t .held)
+        → Bounded (writeAll (cond b (at (some j) h k os) (at (some j) none (dropCounted h k) os)) t .held)
     go true x y = x
     go false x y = y
-bound (got j Complete d ∷ t) n h k os q f = bound t n none (letGo h k) (os ++ (d ∷ [])) (q .1) tt
-bound (got j Head d ∷ t) n h k os q f = bound t n (some d) (letGo h k) os (q .1) (q .0)
+bound (got j Complete d ∷ t) n h k os q f = bound t n none (dropCounted h k) (os ++ (d ∷ [])) (q .1) tt
+bound (got j Head d ∷ t) n h k os q f = bound t n (some d) (dropCounted h k) os (q .1) (q .0)
 bound (got j Middle d ∷ t) n none k os q f = bound t n none k os (q .1) tt
 bound (got j Middle d ∷ t) n (some h) k os q f =
     go (leb (length h + length d) limit) refl (bound t n (some (h ++ d)) k os (q .1)) (bound t n none (k + 1) os (q .1) tt)
@@ -192,19 +192,19 @@ made [] n h k os q s = record { new = []; grown = sym (append-nil os); cut = pla
 made (seen j ∷ t) none none k os q s =
     let r = made t (some j) none k os q tt in record { new = r .new; grown = r .grown; cut = plain (skip (seen j) (closed (r .cut))) }
 made (seen j ∷ t) none (some h) k os q s = absurd s
-made (seen j ∷ t) (some l) h k os q s = go (eqb j (follower l)) refl (made t (some j) h k os q tt) (made t (some j) none (letGo h k) os q tt)
+made (seen j ∷ t) (some l) h k os q s = go (eqb j (follower l)) refl (made t (some j) h k os q tt) (made t (some j) none (dropCounted h k) os q tt)
   where
     go : (b : Bool) → eqb j (follower l) ≡ b
-        → Made (writeAll (at (some j) h k os) t .delivered) (some j) h os t → Made (writeAll (at (some j) none (letGo h k) os) t .delivered) (some j) none os t
-        → Made (writeAll (cond b (at (some j) h k os) (at (some j) none (letGo h k) os)) t .delivered) (some l) h os (seen j ∷ t)
+        → Made (writeAll (at (some j) h k os) t .delivered) (some j) h os t → Made (writeAll (at (some j) none (dropCounted h k) os) t .delivered) (some j) none os t
+        → Made (writeAll (cond b (at (some j) h k os) (at (some j) none (dropCounted h k) os)) t .delivered) (some l) h os (seen j ∷ t)
     go true e x y = record { new = x .new; grown = x .grown; cut = on-seen (eqb→eq j (follower l) (rw e tt)) (x .cut) }
     go false e x y = record { new = y .new; grown = y .grown; cut = plain (skip (seen j) (closed (y .cut))) }
 made (got j f d ∷ t) none h k os q s = absurd q
 made (got j Complete d ∷ t) (some n) h k os q s =
-    let r = made t (some n) none (letGo h k) (os ++ (d ∷ [])) (q .1) tt in
+    let r = made t (some n) none (dropCounted h k) (os ++ (d ∷ [])) (q .1) tt in
     record { new = d ∷ r .new; grown = in-front os d (r .new) (r .grown); cut = plain (rw append-nil at (object (whole j d) (closed (r .cut)))) }
 made (got j Head d ∷ t) (some n) h k os q s =
-    let r = made t (some n) (some d) (letGo h k) os (q .1) tt in
+    let r = made t (some n) (some d) (dropCounted h k) os (q .1) tt in
     record { new = r .new; grown = r .grown; cut = on-head (q .0) (r .cut) }
 made (got j Middle d ∷ t) (some n) none k os q s =
     let r = made t (some n) none k os (q .1) tt in

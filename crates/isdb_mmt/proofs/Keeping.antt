@@ -9,10 +9,10 @@ use lib.Dec.{eqb}
 use mir.Facts.{eqb-no}
 use Rattle.isdb_mmt.specs.Packet.{Bytes, Ctl, Packet, ipError, ntp, nonMmtp, media, message, control, other}
 use Rattle.isdb_mmt.specs.Maps.{orElse, find, put}
-use Rattle.isdb_mmt.specs.Joins.{Line, idle, lineAfter}
-use Rattle.isdb_mmt.specs.Kept.{Section, sectionOf, Kept, Store, news, keepIf, keep, keepAll, Table, emptyTable, mptTable, pltTable, totTable, cutSection, aSection, otherTable, stored, storedAll}
-use Rattle.isdb_mmt.specs.Model.{State, opened, lineOf, tablesGiven, controlTables, pushed}
-use Rattle.isdb_mmt.specs.Book.{wellFormedIn, sectionsAmong, Lines, quiet, linesAfter, sectionsFrom, reaching, wellFormed, AllOf, EndsOff, FirstOfLastRun}
+use Rattle.isdb_mmt.specs.Joins.{Line, lineAfter}
+use Rattle.isdb_mmt.specs.Kept.{Section, sectionOf, Kept, Store, otherVersion, keepIf, keep, keepAll, Table, emptyTable, mptTable, pltTable, totTable, cutSection, aSection, otherTable, stored, storedAll}
+use Rattle.isdb_mmt.specs.Model.{State, opened, idleControl, controlOf, lineOf, tablesGiven, controlTables, pushed}
+use Rattle.isdb_mmt.specs.Book.{wellFormedIn, sectionsAmong, Lines, allIdle, linesAfter, sectionsFrom, reaching, wellFormed, AllOf, EndsOff, FirstOfLastRun}
 use Rattle.isdb_mmt.specs.Demand.{pushAll, Keeps, never, keeps}
 use Rattle.isdb_mmt.proofs.Maps.{eqb-true, find-put, find-put-other}
 
@@ -60,7 +60,7 @@ anew x y xs n f =
 -- one section, at one key
 
 abbrev tracked : Option Kept → Section → Option Kept
-tracked o x = cond (x .headOk) (cond (news o (x .version)) (cond (x .bodyOk) (some (keptOf x)) o) o) o
+tracked o x = cond (x .headOk) (cond (otherVersion o (x .version)) (cond (x .bodyOk) (some (keptOf x)) o) o) o
 
 keep-same : (x : Section) (m : List (ℕ × Kept)) (h n b : Bool)
     → find (x .key) (cond h (keepIf n b x m) m)
@@ -84,12 +84,12 @@ unfolding keep
 keep-tracks k x m = go (eqb k (x .key)) refl
   where
     go : (b : Bool) → eqb k (x .key) ≡ b → find k (keep x m) ≡ cond b (tracked (find k m) x) (find k m)
-    go true e = rw (eqb-true k (x .key) e) (keep-same x m (x .headOk) (news (find (x .key) m) (x .version)) (x .bodyOk))
-    go false e = keep-other k x m (x .headOk) (news (find (x .key) m) (x .version)) (x .bodyOk) e
+    go true e = rw (eqb-true k (x .key) e) (keep-same x m (x .headOk) (otherVersion (find (x .key) m) (x .version)) (x .bodyOk))
+    go false e = keep-other k x m (x .headOk) (otherVersion (find (x .key) m) (x .version)) (x .bodyOk) e
 
 tracks : (o : Option Kept) (xs : List Section) (x : Section) → Keeps o xs
     → Keeps (tracked o x) (xs ++ cond (x .headOk && x .bodyOk) (x ∷ []) [])
-unfolding news
+unfolding otherVersion
 tracks o xs x never = go (x .headOk) (x .bodyOk)
   where
     go : (h b : Bool) → Keeps (cond h (cond b (some (keptOf x)) none) none) (cond (h && b) (x ∷ []) [])
@@ -145,16 +145,16 @@ well-append k (x ∷ xs) ys =
 
 -- tables: only the sections among them are kept by key
 
-stored-kept : (i : ℕ) (s : Store) (ts : List Table) → storedAll i s ts .kept ≡ keepAll (sectionsAmong ts) (s .kept)
+stored-kept : (s : Store) (ts : List Table) → storedAll s ts .kept ≡ keepAll (sectionsAmong ts) (s .kept)
 unfolding storedAll stored keepAll sectionsAmong
-stored-kept i s [] = refl
-stored-kept i s (emptyTable ∷ ts) = stored-kept i s ts
-stored-kept i s (mptTable ok n b ∷ ts) = stored-kept i (stored i s (mptTable ok n b)) ts
-stored-kept i s (pltTable ok b ∷ ts) = stored-kept i (stored i s (pltTable ok b)) ts
-stored-kept i s (totTable ok c n b ∷ ts) = stored-kept i (stored i s (totTable ok c n b)) ts
-stored-kept i s (cutSection ∷ ts) = stored-kept i s ts
-stored-kept i s (aSection x ∷ ts) = stored-kept i (stored i s (aSection x)) ts
-stored-kept i s (otherTable id ∷ ts) = stored-kept i (stored i s (otherTable id)) ts
+stored-kept s [] = refl
+stored-kept s (emptyTable ∷ ts) = stored-kept s ts
+stored-kept s (mptTable ok n b ∷ ts) = stored-kept s ts
+stored-kept s (pltTable ok b ∷ ts) = stored-kept (stored s (pltTable ok b)) ts
+stored-kept s (totTable ok c n b ∷ ts) = stored-kept (stored s (totTable ok c n b)) ts
+stored-kept s (cutSection ∷ ts) = stored-kept s ts
+stored-kept s (aSection x ∷ ts) = stored-kept (stored s (aSection x)) ts
+stored-kept s (otherTable id ∷ ts) = stored-kept (stored s (otherTable id)) ts
 
 among-control : (bs : List Bytes) → sectionsAmong (controlTables bs) ≡ map sectionOf bs
 unfolding sectionsAmong
@@ -165,23 +165,25 @@ among-control (b ∷ bs) = ap (λ (l : List Section). sectionOf b ∷ l) (among-
 abbrev Agree : State → Lines → Type 0
 Agree s ls = (i : ℕ) → lineOf i s ≡ ls i
 
-agree-put : (s : State) (ls : Lines) (c : Ctl) (i : ℕ) → Agree s ls
-    → orElse idle (find i (put (c .id) (lineAfter (lineOf (c .id) s) c) (s .lines))) ≡ cond (eqb i (c .id)) (lineAfter (ls (c .id)) c) (ls i)
-unfolding orElse lineOf
-agree-put s ls c i h = go (eqb i (c .id)) refl
+agree-put : (s : State) (ls : Lines) (c : Ctl) (m : Option Bytes) (i : ℕ) → Agree s ls
+    → orElse idleControl (find i (put (c .id) (record { line = lineAfter (lineOf (c .id) s) c; mpt = m }) (s .controls))) .line
+    ≡ cond (eqb i (c .id)) (lineAfter (ls (c .id)) c) (ls i)
+unfolding orElse controlOf
+agree-put s ls c m i h = go (eqb i (c .id)) refl
   where
     go : (b : Bool) → eqb i (c .id) ≡ b
-        → orElse idle (find i (put (c .id) (lineAfter (lineOf (c .id) s) c) (s .lines))) ≡ cond b (lineAfter (ls (c .id)) c) (ls i)
+        → orElse idleControl (find i (put (c .id) (record { line = lineAfter (lineOf (c .id) s) c; mpt = m }) (s .controls))) .line
+        ≡ cond b (lineAfter (ls (c .id)) c) (ls i)
     go true e = rw (eqb-true i (c .id) e, find-put) (ap (λ (l : Line). lineAfter l c) (h (c .id)))
     go false e = rw (find-put-other i (c .id) _ _ e) (h i)
 
 agree-push : (s : State) (ls : Lines) (p : Packet) → Agree s ls → Agree (pushed s p) (linesAfter ls p)
-unfolding pushed linesAfter lineOf
+unfolding pushed linesAfter controlOf
 agree-push s ls ipError h i = h i
 agree-push s ls (ntp t) h i = h i
 agree-push s ls nonMmtp h i = h i
 agree-push s ls (media m) h i = h i
-agree-push s ls (message c) h i = agree-put s ls c i h
+agree-push s ls (message c) h i = agree-put s ls c _ i h
 agree-push s ls (control bs) h i = h i
 agree-push s ls other h i = h i
 
@@ -192,10 +194,10 @@ push-kept s ls (ntp t) h = refl
 push-kept s ls nonMmtp h = refl
 push-kept s ls (media m) h = refl
 push-kept s ls (message c) h =
-    stored-kept (c .id) (s .store) (tablesGiven (lineOf (c .id) s) c)
+    stored-kept (s .store) (tablesGiven (lineOf (c .id) s) c)
     ∙ ap (λ (l : Line). keepAll (sectionsAmong (tablesGiven l c)) (s .store .kept)) (h (c .id))
 push-kept s ls (control bs) h =
-    stored-kept 0 (s .store) (controlTables bs) ∙ ap (λ (xs : List Section). keepAll xs (s .store .kept)) (among-control bs)
+    stored-kept (s .store) (controlTables bs) ∙ ap (λ (xs : List Section). keepAll xs (s .store .kept)) (among-control bs)
 push-kept s ls other h = refl
 
 -- all packets
@@ -214,5 +216,5 @@ keep-from k (p ∷ ps) s ls past h q =
     (rw (push-kept s ls p h) (keep-all k (sectionsFrom ls p) (s .store .kept) past q)))
 
 pub keys : (pass : Bool) (ps : List Packet) (k : ℕ) → Keeps (find k (pushAll (opened pass) ps .store .kept)) (wellFormed k ps)
-unfolding opened wellFormed quiet find lineOf orElse
-keys pass ps k = keep-from k ps (opened pass) quiet [] (λ i. refl) never
+unfolding opened wellFormed allIdle find controlOf idleControl orElse
+keys pass ps k = keep-from k ps (opened pass) allIdle [] (λ i. refl) never

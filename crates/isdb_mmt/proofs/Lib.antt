@@ -25,3 +25,10 @@ pub mod Run
 pub mod BookFacts
 pub mod Demand
 pub mod Smallness
+pub mod Lent
+pub mod Names
+pub mod Views
+pub mod Checks
+pub mod Limits
+pub mod Opening
+pub mod Stored

@@ -15,7 +15,7 @@ use Rattle.isdb_mmt.specs.Packet.{Bytes, Piece, Media, Packet, ipError, 
 use Rattle.isdb_mmt.specs.Maps.{one, isSome, find, put, orElse}
 use Rattle.isdb_mmt.specs.Objects.{Mfu, Rec, Asset, mostObject, grown, readable, fresh, gap, continued, unitDoes, didTo, did, objectOf, unitsDo, unitsGive, noted, assetAfter, tagged, passes, mediaGives}
 use Rattle.isdb_mmt.specs.Model.{State, assetOf, pushed, gives}
-use Rattle.isdb_mmt.specs.Book.{Item, seen, got, gots, itemsOf, tapeOf, Book, letGo, inOrder, follower, goesOn, write, writeAll, deliveredOf}
+use Rattle.isdb_mmt.specs.Book.{Item, seen, got, gots, itemsOf, tapeOf, Book, dropCounted, inOrder, follower, goesOn, write, writeAll, deliveredOf}
 use Rattle.isdb_mmt.specs.Demand.{pushAll, giveAll, bytesOf}
 use Rattle.isdb_mmt.specs.declared.mpu.FragmentationIndicator.{FragmentationIndicator}
 use Rattle.isdb_mmt.specs.declared.mpu.FragmentationIndicator.the-variants.{Complete, Head, Middle, Last}
@@ -41,7 +41,7 @@ at n h k os = record { number = n; held = h; dropped = k; delivered = os }
 unit-parts : (c : Option ℕ) (h : Option Mfu) (k : ℕ) (os : List Bytes) (n : ℕ) (f : FragmentationIndicator) (u : Mfu)
     → write (at c (bytesOf h) k os) (got n f (u .bytes))
     ≡ at c (bytesOf (unitDoes f h u .held)) (k + unitDoes f h u .drops) (os ++ dataOf (unitDoes f h u .outs))
-unfolding write letGo goesOn unitDoes continued isSome bytesOf grown
+unfolding write dropCounted goesOn unitDoes continued isSome bytesOf grown
 unit-parts c none k os n Complete u = rw add-zero
 unit-parts c (some h) k os n Complete u = refl
 unit-parts c none k os n Head u = rw (add-zero, append-nil)
@@ -77,12 +77,12 @@ units-written m a os n (u ∷ us) =
 -- a packet's number
 seen-parts : (c : Option ℕ) (h : Option Mfu) (k : ℕ) (os : List Bytes) (n : ℕ)
     → write (at c (bytesOf h) k os) (seen n) ≡ at (some n) (bytesOf (cond (gap c n) none h)) (k + one (gap c n && isSome h)) os
-unfolding write letGo inOrder follower gap follows bytesOf isSome
+unfolding write dropCounted inOrder follower gap follows bytesOf isSome
 seen-parts none h k os n = rw add-zero
 seen-parts (some l) h k os n = go (eqb n (follower l)) h
   where
     go : (b : Bool) (h : Option Mfu)
-        → cond b (at (some n) (bytesOf h) k os) (at (some n) none (letGo (bytesOf h) k) os)
+        → cond b (at (some n) (bytesOf h) k os) (at (some n) none (dropCounted (bytesOf h) k) os)
         ≡ at (some n) (bytesOf (cond (not b) none h)) (k + one (not b && isSome h)) os
     go true h = rw add-zero
     go false none = rw add-zero

@@ -58,10 +58,10 @@ pub record Book : Type 0 where
 unfoldable pub nothing : Book
 nothing = record { number = none; held = none; dropped = 0; delivered = [] }
 
--- a held object is dropped, and the drop counted
-unfoldable pub letGo : Option Bytes → ℕ → ℕ
-letGo none k = k
-letGo (some h) k = k + 1
+-- the count of drops, where what is held is dropped
+unfoldable pub dropCounted : Option Bytes → ℕ → ℕ
+dropCounted none k = k
+dropCounted (some h) k = k + 1
 
 unfoldable pub inOrder : Option ℕ → ℕ → Bool
 inOrder none n = true
@@ -78,15 +78,15 @@ goesOn b e d (some h) =
     else record { number = b .number; held = none; dropped = b .dropped + 1; delivered = b .delivered }
 
 unfoldable pub write : Book → Item → Book
-unfolding letGo inOrder goesOn
+unfolding dropCounted inOrder goesOn
 write b (seen n) =
     if inOrder (b .number) n
     then record { number = some n; held = b .held; dropped = b .dropped; delivered = b .delivered }
-    else record { number = some n; held = none; dropped = letGo (b .held) (b .dropped); delivered = b .delivered }
+    else record { number = some n; held = none; dropped = dropCounted (b .held) (b .dropped); delivered = b .delivered }
 write b (got n Complete d) =
-    record { number = b .number; held = none; dropped = letGo (b .held) (b .dropped); delivered = b .delivered ++ (d ∷ []) }
+    record { number = b .number; held = none; dropped = dropCounted (b .held) (b .dropped); delivered = b .delivered ++ (d ∷ []) }
 write b (got n Head d) =
-    record { number = b .number; held = some d; dropped = letGo (b .held) (b .dropped); delivered = b .delivered }
+    record { number = b .number; held = some d; dropped = dropCounted (b .held) (b .dropped); delivered = b .delivered }
 write b (got n Middle d) = goesOn b false d (b .held)
 write b (got n Last d) = goesOn b true d (b .held)
 
@@ -181,8 +181,9 @@ sectionsAmong (otherTable id ∷ ts) = sectionsAmong ts
 abbrev pub Lines : Type 0
 Lines = ℕ → Line
 
-unfoldable pub quiet : Lines
-quiet i = idle
+-- no control id has a message
+unfoldable pub allIdle : Lines
+allIdle i = idle
 
 unfoldable pub linesAfter : Lines → Packet → Lines
 linesAfter ls ipError i = ls i
@@ -210,8 +211,8 @@ reaching ls [] = []
 reaching ls (p ∷ ps) = sectionsFrom ls p ++ reaching (linesAfter ls p) ps
 
 unfoldable pub wellFormed : ℕ → List Packet → List Section
-unfolding wellFormedIn reaching quiet
-wellFormed k ps = wellFormedIn k (reaching quiet ps)
+unfolding wellFormedIn reaching allIdle
+wellFormed k ps = wellFormedIn k (reaching allIdle ps)
 
 -- every one of the sections has version `v`
 abbrev pub AllOf : ℕ → List Section → Type 0

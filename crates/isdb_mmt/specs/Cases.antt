@@ -23,13 +23,15 @@ use Rattle.isdb_mmt.specs.Desc.{lengthWidth, stepAt, splitFrom, splitOf,
 use Rattle.isdb_mmt.specs.Mpu.{fragmentType, indicator, payloadHeader, unitIn, unitAt, unitStep, unitsFrom, unitsOf, follows, lostFrom}
 use Rattle.isdb_mmt.specs.Section.{longSectionOf, entryAt, entriesFrom, entriesTold}
 use Rattle.isdb_mmt.specs.Nit.{nitBody, nitOf}
+use Rattle.isdb_mmt.specs.Mpt.{declaredLength, mptAssets, mptTable, mptOf}
+use Rattle.isdb_mmt.specs.Message.{divisionOf, paTables, sectionTable, contentOf}
 use Rattle.isdb_mmt.specs.Packet.{Bytes, Packet, mediaOf, classify}
 use Rattle.isdb_mmt.specs.Maps.{find, put, orElse, isSome}
-use Rattle.isdb_mmt.specs.Objects.{Asset, Rec, fresh, gap, lostBy, grown, continued, unitDoes, didTo, objectOf, did, unitsDo, unitsGive, clear, readable, newMpu, jumped, mpuAfter, rangeAfter, spoilt, noted, assetAfter, tagged, passes, mediaGives}
+use Rattle.isdb_mmt.specs.Objects.{Asset, Rec, fresh, gap, lostBy, grown, continued, unitDoes, didTo, objectOf, did, unitsDo, unitsGive, clear, readable, newMpu, jumped, mpuAfter, rangeAfter, malformedPayload, noted, assetAfter, tagged, passes, mediaGives}
 use Rattle.isdb_mmt.specs.Joins.{idle, partBefore, joinedOn, partAfter, wholeOf, lineAfter, lineGives, orphan, oversize, tablesOf, tablesOfAll, messagesOf, cutOf, cutOfAll}
-use Rattle.isdb_mmt.specs.Kept.{Kept, bodyRead, sectionOf, news, keepIf, keep, keepAll, zeros, tabled, sectionAdds, tableById, tableRead, tableAdds, stored, storedAll, countedAll}
-use Rattle.isdb_mmt.specs.Model.{State, opened, assetOf, lineOf, packetCounted, messageCounted, lineCounted, tablesGiven, timeAfter, pushed, gives}
-use Rattle.isdb_mmt.specs.Book.{book, nothing, writeAll, write, tapeOf, itemsOf, gots, follower, letGo, inOrder, goesOn, deliveredOf}
+use Rattle.isdb_mmt.specs.Kept.{Kept, bodyRead, sectionOf, otherVersion, keepIf, keep, keepAll, zeros, tabled, sectionAdds, tableById, tableRead, tableAdds, mptAfter, mptAfterAll, stored, storedAll, countedAll}
+use Rattle.isdb_mmt.specs.Model.{State, opened, idleControl, assetOf, controlOf, packetCounted, messageCounted, lineCounted, tablesGiven, timeAfter, pushed, gives}
+use Rattle.isdb_mmt.specs.Book.{book, nothing, writeAll, write, tapeOf, itemsOf, gots, follower, dropCounted, inOrder, goesOn, deliveredOf}
 use Rattle.isdb_mmt.specs.Needs.{Needs, needs, unitsNeed, lineNeeds, tableArea, tablesNeed}
 use Rattle.isdb_mmt.specs.Demand.{Feed, packetsOf, pushAll, giveAll, bytesOf as heldBytes}
 
@@ -109,10 +111,19 @@ infix 10 _⇒_
 abbrev _⇒_ : Ask → Told → Case
 a ⇒ t = record { ask = a; says = t }
 
--- a compressed packet of context 1 with an MMTP packet of the id: first byte, number, what follows the twelve bytes
+-- a compressed packet of context 1 with an MMTP packet: first byte, payload type, packet id, number, what follows the twelve
+-- bytes
+abbrev compressed : ℕ → ℕ → ℕ → ℕ → Bytes → ℕ × Bytes
+compressed flags type i number rest =
+    (0x03, 0x00 ∷ 0x10 ∷ 0x61 ∷ flags ∷ type ∷ bytesOf 2 i ++ (0x00 ∷ 0x00 ∷ 0x00 ∷ 0x00 ∷ bytesOf 4 number ++ rest))
+
+-- a media packet of the id: first byte, number, payload
 abbrev mmtp : ℕ → ℕ → Bytes → ℕ × Bytes
-mmtp flags number rest =
-    (0x03, 0x00 ∷ 0x10 ∷ 0x61 ∷ flags ∷ 0x00 ∷ 0xF1 ∷ 0x00 ∷ 0x00 ∷ 0x00 ∷ 0x00 ∷ 0x00 ∷ bytesOf 4 number ++ rest)
+mmtp flags number rest = compressed flags 0x00 id number rest
+
+-- a message packet of the control id 8001h, with a byte of flags
+abbrev fragment : ℕ → Bytes → ℕ × Bytes
+fragment flags d = compressed 0x00 0x02 0x8001 5 (flags ∷ 0x00 ∷ d)
 
 -- a payload of MPU 7 that declares `n` bytes, with a byte of flags
 abbrev payload : ℕ → ℕ → Bytes → Bytes
@@ -154,6 +165,15 @@ abbrev nit2 : Bytes
 nit2 =
     0x40 ∷ 0xB0 ∷ 0x0D ∷ 0x00 ∷ 0x04 ∷ 0xC5 ∷ 0x00 ∷ 0x00 ∷ 0xF0 ∷ 0x05 ∷ 0xF0 ∷ 0x00 ∷ 0xB6 ∷ 0xD9 ∷ 0xA3 ∷ 0x25 ∷ []
 
+-- a PA message without a body
+abbrev emptyPa : Bytes
+emptyPa = replicate 7 0x00
+
+-- an M2 section message with an MPT of nine bytes without assets, and two bytes behind it
+abbrev mptMessage : Bytes
+mptMessage =
+    0x80 ∷ 0x00 ∷ 0x00 ∷ 0x00 ∷ 0x0B ∷ 0x20 ∷ 0x01 ∷ 0x00 ∷ 0x05 ∷ 0xFC ∷ 0x00 ∷ 0x00 ∷ 0x00 ∷ 0x00 ∷ 0xFF ∷ 0xFF ∷ []
+
 -- nothing scrambled, one MPU: packets, lost, malformed, objects, dropped, held
 abbrev clearly : ℕ → ℕ → ℕ → List Bytes → ℕ → Option Bytes → Told
 clearly p l m os d h =
@@ -164,6 +184,11 @@ clearly p l m os d h =
 abbrev mediaNeeds : ℕ → ℕ → ℕ → ℕ → Needs
 mediaNeeds i o r d =
     record { mediaIds = i; controlIds = 0; sections = 0; object = o; message = 0; table = 0; records = r; dataBytes = d }
+
+-- of a message packet: new control ids, the longest message, the longest table
+abbrev messageNeeds : ℕ → ℕ → ℕ → Needs
+messageNeeds i m t =
+    record { mediaIds = 0; controlIds = i; sections = 0; object = 0; message = m; table = t; records = 0; dataBytes = 0 }
 
 abbrev cases : List Case
 cases =
@@ -207,8 +232,12 @@ cases =
     ∷ (needed (headOf 5 ab ∷ []) (lastOf 6 cd) ⇒ asks (mediaNeeds 0 4 1 4))
     ∷ (needed [] (completeOf 5 ab) ⇒ asks (mediaNeeds 1 0 1 2))
     ∷ (needed [] (headOf 5 ab) ⇒ asks (mediaNeeds 1 2 0 0))
+    -- an undivided message needs no room to be joined in, a first fragment its own length; an MPT its declared length
+    ∷ (needed [] (fragment 0x00 emptyPa) ⇒ asks (messageNeeds 1 0 0))
+    ∷ (needed [] (fragment 0x40 emptyPa) ⇒ asks (messageNeeds 1 7 0))
+    ∷ (needed [] (fragment 0x00 mptMessage) ⇒ asks (messageNeeds 1 0 9))
     ∷ []
 
 pub table : map (λ c. told (c .ask)) cases ≡ map (λ c. c .says) cases
-unfolding bytesOf be feed feedByte crcOf packetType compressedOf fecType payloadType bitsOf entry extensionAt afterFixed mmtpOf isTlvSi sectionAt sectionsFrom sectionsOf lengthWidth stepAt splitFrom splitOf streamIdentifier descriptorOf descriptorsOf fragmentType indicator payloadHeader unitIn unitAt unitStep unitsFrom unitsOf follows lostFrom longSectionOf entryAt entriesFrom entriesTold nitBody nitOf mediaOf classify find put orElse isSome fresh gap lostBy grown continued unitDoes didTo objectOf did unitsDo unitsGive clear readable newMpu jumped mpuAfter rangeAfter spoilt noted assetAfter tagged passes mediaGives idle partBefore joinedOn partAfter wholeOf lineAfter lineGives orphan oversize tablesOf tablesOfAll messagesOf cutOf cutOfAll bodyRead sectionOf news keepIf keep keepAll zeros tabled sectionAdds tableById tableRead tableAdds stored storedAll countedAll opened assetOf lineOf packetCounted messageCounted lineCounted tablesGiven timeAfter pushed gives book nothing writeAll write tapeOf itemsOf gots follower letGo inOrder goesOn deliveredOf needs unitsNeed lineNeeds tableArea tablesNeed pushAll giveAll heldBytes
+unfolding bytesOf be feed feedByte crcOf packetType compressedOf fecType payloadType bitsOf entry extensionAt afterFixed mmtpOf isTlvSi sectionAt sectionsFrom sectionsOf lengthWidth stepAt splitFrom splitOf streamIdentifier descriptorOf descriptorsOf fragmentType indicator payloadHeader unitIn unitAt unitStep unitsFrom unitsOf follows lostFrom longSectionOf entryAt entriesFrom entriesTold nitBody nitOf declaredLength mptAssets mptTable mptOf divisionOf paTables sectionTable contentOf mediaOf classify find put orElse isSome fresh gap lostBy grown continued unitDoes didTo objectOf did unitsDo unitsGive clear readable newMpu jumped mpuAfter rangeAfter malformedPayload noted assetAfter tagged passes mediaGives idle partBefore joinedOn partAfter wholeOf lineAfter lineGives orphan oversize tablesOf tablesOfAll messagesOf cutOf cutOfAll bodyRead sectionOf otherVersion keepIf keep keepAll zeros tabled sectionAdds tableById tableRead tableAdds mptAfter mptAfterAll stored storedAll countedAll opened idleControl assetOf controlOf packetCounted messageCounted lineCounted tablesGiven timeAfter pushed gives book nothing writeAll write tapeOf itemsOf gots follower dropCounted inOrder goesOn deliveredOf needs unitsNeed lineNeeds tableArea tablesNeed pushAll giveAll heldBytes
 table = refl

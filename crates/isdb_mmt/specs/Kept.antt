@@ -108,6 +108,10 @@ abbrev pub versionIn : LongSection → ℕ
 versionIn (goodSection h n) = h .version
 versionIn (badSection e) = 0
 
+-- a section declares 3 bytes and its length
+abbrev pub declaredSection : Bytes → Bytes
+declaredSection b = take (length12 b 1 + 3) b
+
 unfoldable pub sectionOf : Bytes → Section
 sectionOf b =
     record {
@@ -117,7 +121,7 @@ sectionOf b =
       version = versionIn (longSectionOf b);
       bodyOk = bodyRead (getD b 0 0) b .ok;
       breaks = bodyRead (getD b 0 0) b .breaks;
-      bytes = take (length12 b 1 + 3) b;
+      bytes = declaredSection b;
     }
 
 pub record Kept : Type 0 where
@@ -125,9 +129,9 @@ pub record Kept : Type 0 where
   pub bytes : Bytes
 
 -- a section of another version than the kept one's, or where none is kept
-unfoldable pub news : Option Kept → ℕ → Bool
-news none v = true
-news (some k) v = not (k .version =? v)
+unfoldable pub otherVersion : Option Kept → ℕ → Bool
+otherVersion none v = true
+otherVersion (some k) v = not (k .version =? v)
 
 unfoldable pub keepIf : Bool → Bool → Section → List (ℕ × Kept) → List (ℕ × Kept)
 unfolding put
@@ -137,8 +141,8 @@ keepIf false b x m = m
 
 -- header and CRC; then the version, against the kept one's; then the body
 unfoldable pub keep : Section → List (ℕ × Kept) → List (ℕ × Kept)
-unfolding keepIf news find
-keep x m = cond (x .headOk) (keepIf (news (find (x .key) m) (x .version)) (x .bodyOk) x m) m
+unfolding keepIf otherVersion find
+keep x m = cond (x .headOk) (keepIf (otherVersion (find (x .key) m) (x .version)) (x .bodyOk) x m) m
 
 unfoldable pub keepAll : List Section → List (ℕ × Kept) → List (ℕ × Kept)
 unfolding keep
@@ -207,15 +211,14 @@ tabled c x =
 -- a section: a bad header or CRC is counted; a section of the kept version is passed over; another counts a version change
 -- before its body is read
 unfoldable pub sectionAdds : Section → Option Kept → Adds
-unfolding news isSome
+unfolding otherVersion isSome
 sectionAdds x k =
     if not (x .headOk) then adds (one (x .crcBad)) (one (not (x .crcBad))) 0 0
-    else if not (news k (x .version)) then adds 0 0 0 0
+    else if not (otherVersion k (x .version)) then adds 0 0 0 0
     else adds 0 (one (not (x .bodyOk))) (one (isSome k)) (x .breaks)
 
--- what is kept
+-- what is kept, beside the MPT of each control id
 pub record Store : Type 0 where
-  pub mpts : List (ℕ × Bytes)
   pub plt : Option Bytes
   pub tot : Option Bytes
   pub kept : List (ℕ × Kept)
@@ -223,7 +226,7 @@ pub record Store : Type 0 where
   pub others : List ℕ
 
 abbrev pub storeWith : Store → List (ℕ × Kept) → Store
-storeWith s k = record { mpts = s .mpts; plt = s .plt; tot = s .tot; kept = k; others = s .others }
+storeWith s k = record { plt = s .plt; tot = s .tot; kept = k; others = s .others }
 
 -- a table of a message, by its id (Table 4-8)
 pub data Table : Type 0 where
@@ -256,12 +259,9 @@ abbrev pub totCrcBad : TotResult → Bool
 totCrcBad (totOk t) = false
 totCrcBad (totErr e) = isCrc e
 
--- MPT and PLT declare 4 bytes and their length, sections and TOT 3 and theirs
+-- an MPT or a PLT declares 4 bytes and its length; a TOT declares as a section does
 abbrev pub declaredTable : Bytes → Bytes
 declaredTable b = take (be 2 b 2 + 4) b
-
-abbrev pub declaredSection : Bytes → Bytes
-declaredSection b = take (length12 b 1 + 3) b
 
 abbrev pub longTable : Bytes → Table
 longTable b = if length b <? 7 then cutSection else aSection (sectionOf b)
@@ -287,44 +287,56 @@ abbrev pub changes : Option Bytes → Bytes → Bool
 changes none b = false
 changes (some old) b = not (getD old 1 0 =? getD b 1 0)
 
--- what a table adds to the counts, from what is kept for the control id `i`
-unfoldable pub tableAdds : ℕ → Store → Table → Adds
-tableAdds i s emptyTable = adds 0 0 0 0
-tableAdds i s (mptTable ok breaks b) = adds 0 (one (not ok)) (one (ok && changes (find i (s .mpts)) b)) breaks
-tableAdds i s (pltTable ok b) = adds 0 (one (not ok)) (one (ok && changes (s .plt) b)) 0
-tableAdds i s (totTable ok crc breaks b) = adds (one crc) (one (not ok && not crc)) 0 breaks
-tableAdds i s cutSection = adds 0 1 0 0
-tableAdds i s (aSection x) = sectionAdds x (find (x .key) (s .kept))
-tableAdds i s (otherTable id) = adds 0 0 0 0
+-- what a table adds to the counts, from the MPT `m` that is kept for its control id and all else that is kept
+unfoldable pub tableAdds : Option Bytes → Store → Table → Adds
+tableAdds m s emptyTable = adds 0 0 0 0
+tableAdds m s (mptTable ok breaks b) = adds 0 (one (not ok)) (one (ok && changes m b)) breaks
+tableAdds m s (pltTable ok b) = adds 0 (one (not ok)) (one (ok && changes (s .plt) b)) 0
+tableAdds m s (totTable ok crc breaks b) = adds (one crc) (one (not ok && not crc)) 0 breaks
+tableAdds m s cutSection = adds 0 1 0 0
+tableAdds m s (aSection x) = sectionAdds x (find (x .key) (s .kept))
+tableAdds m s (otherTable id) = adds 0 0 0 0
 
 -- what is kept after it
 abbrev pub latest : Bool → Option Bytes → Bytes → Option Bytes
 latest true o b = some b
 latest false o b = o
 
-abbrev pub latestOf : Bool → ℕ → Bytes → List (ℕ × Bytes) → List (ℕ × Bytes)
-latestOf true i b m = put i b m
-latestOf false i b m = m
+-- the MPT of its control id
+unfoldable pub mptAfter : Option Bytes → Table → Option Bytes
+mptAfter m emptyTable = m
+mptAfter m (mptTable ok breaks b) = latest ok m b
+mptAfter m (pltTable ok b) = m
+mptAfter m (totTable ok crc breaks b) = m
+mptAfter m cutSection = m
+mptAfter m (aSection x) = m
+mptAfter m (otherTable id) = m
 
-unfoldable pub stored : ℕ → Store → Table → Store
-stored i s emptyTable = s
-stored i s (mptTable ok breaks b) =
-    record { mpts = latestOf ok i b (s .mpts); plt = s .plt; tot = s .tot; kept = s .kept; others = s .others }
-stored i s (pltTable ok b) =
-    record { mpts = s .mpts; plt = latest ok (s .plt) b; tot = s .tot; kept = s .kept; others = s .others }
-stored i s (totTable ok crc breaks b) =
-    record { mpts = s .mpts; plt = s .plt; tot = latest ok (s .tot) b; kept = s .kept; others = s .others }
-stored i s cutSection = s
-stored i s (aSection x) = storeWith s (keep x (s .kept))
-stored i s (otherTable id) =
-    record { mpts = s .mpts; plt = s .plt; tot = s .tot; kept = s .kept; others = set (s .others) id (getD (s .others) id 0 + 1) }
+unfoldable pub mptAfterAll : Option Bytes → List Table → Option Bytes
+unfolding mptAfter
+mptAfterAll m [] = m
+mptAfterAll m (t ∷ ts) = mptAfterAll (mptAfter m t) ts
 
-unfoldable pub storedAll : ℕ → Store → List Table → Store
+-- all else
+unfoldable pub stored : Store → Table → Store
+stored s emptyTable = s
+stored s (mptTable ok breaks b) = s
+stored s (pltTable ok b) =
+    record { plt = latest ok (s .plt) b; tot = s .tot; kept = s .kept; others = s .others }
+stored s (totTable ok crc breaks b) =
+    record { plt = s .plt; tot = latest ok (s .tot) b; kept = s .kept; others = s .others }
+stored s cutSection = s
+stored s (aSection x) = storeWith s (keep x (s .kept))
+stored s (otherTable id) =
+    record { plt = s .plt; tot = s .tot; kept = s .kept; others = set (s .others) id (getD (s .others) id 0 + 1) }
+
+unfoldable pub storedAll : Store → List Table → Store
 unfolding stored
-storedAll i s [] = s
-storedAll i s (t ∷ ts) = storedAll i (stored i s t) ts
+storedAll s [] = s
+storedAll s (t ∷ ts) = storedAll (stored s t) ts
 
-unfoldable pub countedAll : ℕ → Store → Counters → List Table → Counters
-unfolding stored tabled tableAdds
-countedAll i s c [] = c
-countedAll i s c (t ∷ ts) = countedAll i (stored i s t) (tabled c (tableAdds i s t)) ts
+-- the counts after tables, each from what those before it leave
+unfoldable pub countedAll : Option Bytes → Store → Counters → List Table → Counters
+unfolding mptAfter stored tabled tableAdds
+countedAll m s c [] = c
+countedAll m s c (t ∷ ts) = countedAll (mptAfter m t) (stored s t) (tabled c (tableAdds m s t)) ts

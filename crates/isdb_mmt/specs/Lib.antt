@@ -31,3 +31,10 @@ pub mod Book
 pub mod Demand
 pub mod Needs
 pub mod Cases
+pub mod Lent
+pub mod Limits
+pub mod Session
+pub mod Check
+pub mod Opening
+pub mod View
+pub mod SessionCases

@@ -8,13 +8,23 @@ use Rattle.isdb_mmt.specs.Packet.{Bytes, Ctl, Packet, ipError, ntp, nonM
 use Rattle.isdb_mmt.specs.Maps.{find, put, orElse, one}
 use Rattle.isdb_mmt.specs.Objects.{fresh, assetAfter, mediaGives, Asset, Rec}
 use Rattle.isdb_mmt.specs.Joins.{idle, lineAfter, lineGives, orphan, oversize, cutOfAll, short, Line}
-use Rattle.isdb_mmt.specs.Kept.{sectionOf, zeros, tableRead, storedAll, countedAll, Counters, Store, Table, aSection}
+use Rattle.isdb_mmt.specs.Kept.{sectionOf, zeros, tableRead, mptAfterAll, storedAll, countedAll, Counters, Store, Table, aSection}
 
+-- what is known of a control id: the message being joined, and the kept MPT
+pub record Control : Type 0 where
+  pub line : Line
+  pub mpt : Option Bytes
+
+unfoldable pub idleControl : Control
+unfolding idle
+idleControl = record { line = idle; mpt = none }
+
+-- ids stand in the order of their first arrival
 pub record State : Type 0 where
   -- whether scrambled payloads are passed on
   pub passing : Bool
   pub assets : List (ℕ × Asset)
-  pub lines : List (ℕ × Line)
+  pub controls : List (ℕ × Control)
   pub store : Store
   -- the last NTP timestamp
   pub time : Option ℕ
@@ -25,8 +35,8 @@ opened pass =
     record {
       passing = pass;
       assets = [];
-      lines = [];
-      store = record { mpts = []; plt = none; tot = none; kept = []; others = replicate 256 0 };
+      controls = [];
+      store = record { plt = none; tot = none; kept = []; others = replicate 256 0 };
       time = none;
       counters = zeros;
     }
@@ -35,9 +45,12 @@ unfoldable pub assetOf : ℕ → State → Asset
 unfolding orElse fresh find
 assetOf i s = orElse fresh (find i (s .assets))
 
-unfoldable pub lineOf : ℕ → State → Line
-unfolding orElse idle find
-lineOf i s = orElse idle (find i (s .lines))
+unfoldable pub controlOf : ℕ → State → Control
+unfolding orElse idleControl find
+controlOf i s = orElse idleControl (find i (s .controls))
+
+abbrev pub lineOf : ℕ → State → Line
+lineOf i s = controlOf i s .line
 
 -- a packet, with what is counted of it beside tables
 unfoldable pub packetCounted : Counters → ℕ → ℕ → ℕ → Counters
@@ -88,16 +101,16 @@ unfoldable pub timeAfter : Option ℕ → Option ℕ → Option ℕ
 timeAfter o none = o
 timeAfter o (some t) = some t
 
--- a control signal's sections are read as sections, whatever is in them
+-- a control signal's sections are read as sections, whatever is in them: no MPT is among them
 abbrev pub controlTables : List Bytes → List Table
 controlTables bs = map (λ b. aSection (sectionOf b)) bs
 
 abbrev pub counting : State → Counters → State
 counting s c =
-    record { passing = s .passing; assets = s .assets; lines = s .lines; store = s .store; time = s .time; counters = c }
+    record { passing = s .passing; assets = s .assets; controls = s .controls; store = s .store; time = s .time; counters = c }
 
 unfoldable pub pushed : State → Packet → State
-unfolding put assetAfter assetOf lineAfter lineOf lineGives storedAll countedAll packetCounted lineCounted tablesGiven timeAfter
+unfolding put assetAfter assetOf controlOf lineAfter lineGives mptAfterAll storedAll countedAll packetCounted lineCounted tablesGiven timeAfter
 pushed s ipError = counting s (packetCounted (s .counters) 1 0 0)
 pushed s nonMmtp = counting s (packetCounted (s .counters) 0 1 0)
 pushed s other = counting s (packetCounted (s .counters) 0 0 0)
@@ -105,7 +118,7 @@ pushed s (ntp t) =
     record {
       passing = s .passing;
       assets = s .assets;
-      lines = s .lines;
+      controls = s .controls;
       store = s .store;
       time = timeAfter (s .time) t;
       counters = packetCounted (s .counters) 0 0 1;
@@ -114,7 +127,7 @@ pushed s (media m) =
     record {
       passing = s .passing;
       assets = put (m .id) (assetAfter (assetOf (m .id) s) m) (s .assets);
-      lines = s .lines;
+      controls = s .controls;
       store = s .store;
       time = s .time;
       counters = packetCounted (s .counters) 0 0 0;
@@ -123,21 +136,27 @@ pushed s (message c) =
     record {
       passing = s .passing;
       assets = s .assets;
-      lines = put (c .id) (lineAfter (lineOf (c .id) s) c) (s .lines);
-      store = storedAll (c .id) (s .store) (tablesGiven (lineOf (c .id) s) c);
+      controls =
+          put (c .id)
+          (record {
+            line = lineAfter (lineOf (c .id) s) c;
+            mpt = mptAfterAll (controlOf (c .id) s .mpt) (tablesGiven (lineOf (c .id) s) c);
+          })
+          (s .controls);
+      store = storedAll (s .store) (tablesGiven (lineOf (c .id) s) c);
       time = s .time;
       counters =
-          countedAll (c .id) (s .store) (lineCounted (packetCounted (s .counters) 0 0 0) (lineOf (c .id) s) c)
-          (tablesGiven (lineOf (c .id) s) c);
+          countedAll (controlOf (c .id) s .mpt) (s .store)
+          (lineCounted (packetCounted (s .counters) 0 0 0) (lineOf (c .id) s) c) (tablesGiven (lineOf (c .id) s) c);
     }
 pushed s (control bs) =
     record {
       passing = s .passing;
       assets = s .assets;
-      lines = s .lines;
-      store = storedAll 0 (s .store) (controlTables bs);
+      controls = s .controls;
+      store = storedAll (s .store) (controlTables bs);
       time = s .time;
-      counters = countedAll 0 (s .store) (packetCounted (s .counters) 0 0 0) (controlTables bs);
+      counters = countedAll none (s .store) (packetCounted (s .counters) 0 0 0) (controlTables bs);
     }
 
 -- the records given out

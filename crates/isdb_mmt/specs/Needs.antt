@@ -9,8 +9,8 @@ use Rattle.isdb_mmt.specs.Packet.{Bytes, Piece, Media, Ctl, Packet, ipEr
 use Rattle.isdb_mmt.specs.Maps.{find}
 use Rattle.isdb_mmt.specs.Objects.{Mfu, Asset, Did, did, didTo, noted, readable, Rec}
 use Rattle.isdb_mmt.specs.Joins.{Join, Line, short, flagsOf, partBefore, joinedOn}
-use Rattle.isdb_mmt.specs.Kept.{Section, news, Store, stored, Table, emptyTable, mptTable, pltTable, totTable, cutSection, aSection, otherTable}
-use Rattle.isdb_mmt.specs.Model.{tablesGiven, controlTables, State, assetOf, lineOf, pushed, gives}
+use Rattle.isdb_mmt.specs.Kept.{Section, otherVersion, Store, stored, Table, emptyTable, mptTable, pltTable, totTable, cutSection, aSection, otherTable}
+use Rattle.isdb_mmt.specs.Model.{tablesGiven, controlTables, State, assetOf, controlOf, lineOf, pushed, gives}
 use Rattle.isdb_mmt.specs.declared.mpu.FragmentationIndicator.{FragmentationIndicator}
 use Rattle.isdb_mmt.specs.declared.mpu.FragmentationIndicator.the-variants.{Complete, Head, Middle, Last}
 use Rattle.isdb_mmt.specs.declared.message.Division.{Division}
@@ -67,19 +67,19 @@ lineNeeds l c = cond (short c) 0 (fragmentArea (flagsOf c .division) (partBefore
 
 -- a table that is kept; one that is passed over or fails asks for none
 unfoldable pub tableArea : Store → Table → ℕ
-unfolding find news
+unfolding find otherVersion
 tableArea s emptyTable = 0
 tableArea s (mptTable ok breaks b) = cond ok (length b) 0
 tableArea s (pltTable ok b) = cond ok (length b) 0
 tableArea s (totTable ok crc breaks b) = cond ok (length b) 0
 tableArea s cutSection = 0
-tableArea s (aSection x) = cond (x .headOk && (news (find (x .key) (s .kept)) (x .version) && x .bodyOk)) (length (x .bytes)) 0
+tableArea s (aSection x) = cond (x .headOk && (otherVersion (find (x .key) (s .kept)) (x .version) && x .bodyOk)) (length (x .bytes)) 0
 tableArea s (otherTable id) = 0
 
-unfoldable pub tablesNeed : ℕ → Store → List Table → ℕ
+unfoldable pub tablesNeed : Store → List Table → ℕ
 unfolding tableArea stored
-tablesNeed i s [] = 0
-tablesNeed i s (t ∷ ts) = max (tableArea s t) (tablesNeed i (stored i s t) ts)
+tablesNeed s [] = 0
+tablesNeed s (t ∷ ts) = max (tableArea s t) (tablesNeed (stored s t) ts)
 
 abbrev pub objectFor : State → Packet → ℕ
 objectFor s ipError = 0
@@ -104,8 +104,8 @@ tableFor s ipError = 0
 tableFor s (ntp t) = 0
 tableFor s nonMmtp = 0
 tableFor s (media m) = 0
-tableFor s (message c) = tablesNeed (c .id) (s .store) (tablesGiven (lineOf (c .id) s) c)
-tableFor s (control bs) = tablesNeed 0 (s .store) (controlTables bs)
+tableFor s (message c) = tablesNeed (s .store) (tablesGiven (lineOf (c .id) s) c)
+tableFor s (control bs) = tablesNeed (s .store) (controlTables bs)
 tableFor s other = 0
 
 abbrev pub dataOf : List Rec → ℕ
@@ -113,11 +113,11 @@ dataOf [] = 0
 dataOf (r ∷ rs) = length (r .mfu .bytes) + dataOf rs
 
 unfoldable pub needs : State → Packet → Needs
-unfolding pushed gives unitsNeed noted assetOf readable lineNeeds lineOf tablesNeed tablesGiven
+unfolding pushed gives unitsNeed noted assetOf readable lineNeeds controlOf tablesNeed tablesGiven
 needs s p =
     record {
       mediaIds = length (pushed s p .assets) - length (s .assets);
-      controlIds = length (pushed s p .lines) - length (s .lines);
+      controlIds = length (pushed s p .controls) - length (s .controls);
       sections = length (pushed s p .store .kept) - length (s .store .kept);
       object = objectFor s p;
       message = messageFor s p;

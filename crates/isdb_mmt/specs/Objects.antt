@@ -180,13 +180,13 @@ completes none = false
 completes (some h) = completesOf (h .fragmentation)
 
 -- a payload whose header fails, or a clear one whose units do
-unfoldable pub spoilt : Media → Bool
+unfoldable pub malformedPayload : Media → Bool
 unfolding isSome
-spoilt m = cond (isSome (m .header)) (not (m .scrambled) && not (isSome (m .units))) true
+malformedPayload m = cond (isSome (m .header)) (not (m .scrambled) && not (isSome (m .units))) true
 
 -- the gap rule, and what the packet's and the payload's headers count
 unfoldable pub noted : Asset → Media → Asset
-unfolding gap lostBy isSome mpuAfter newMpu jumped rangeAfter spoilt
+unfolding gap lostBy isSome mpuAfter newMpu jumped rangeAfter malformedPayload
 noted a m =
     record {
       number = some (m .number);
@@ -201,7 +201,7 @@ noted a m =
       dropped = a .dropped + one (gap (a .number) (m .number) && isSome (a .held));
       mpus = a .mpus + one (newMpu (a .mpu) (mpuIn (m .header)));
       jumps = a .jumps + one (jumped (a .mpu) (mpuIn (m .header)));
-      malformed = a .malformed + one (spoilt m);
+      malformed = a .malformed + one (malformedPayload m);
     }
 
 unfoldable pub assetAfter : Asset → Media → Asset

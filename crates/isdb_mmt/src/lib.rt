@@ -1,4 +1,5 @@
 // The upper layers of an ISDB-S3 feed: what an MMTP payload or a section holds.
+pub mod decoder;
 pub mod desc;
 pub mod location;
 pub mod maybe;

@@ -12,9 +12,9 @@ use lib.ListN.{length, take, drop, getD, length-take, length-drop}
 use lib.Dec.{ltb, leb, eqb, eqb·zero-suc, eqb·suc-zero, eqb·suc-suc}
 use lib.Bits.{bitOr, or-shr, or-mod, or-zero-r}
 use borrow.Author.Tests.{ltb-false, eqb-true, eqb-false, eq-eqb, ne-eqb, le-leb, lt-leb, le-ltb, lt-ltb}
-use Rattle.isdb_tlv.specs.Bytes.{be}
+use Rattle.isdb_tlv.specs.Bytes.{be, withBit}
 use Rattle.isdb_tlv.specs.Walk.{turn, Ahead, walk-at}
-use Rattle.isdb_tlv.specs.Messages.{none, wordOf, has, withBit, withWord, insert, insertAll, setOf, member, listedFrom, tableAt, walkedFrom, messageOf, behind, messageIn, prefixedAt, messageAt, messageStep, also, item, messagesFrom, counted}
+use Rattle.isdb_tlv.specs.Messages.{none, wordOf, has, withWord, insert, insertAll, setOf, member, listedFrom, tableAt, walkedFrom, messageOf, behind, messageIn, prefixedAt, messageAt, messageStep, also, item, messagesFrom, counted}
 use Rattle.isdb_tlv.specs.declared.mmtp.TableIds.{TableIds}
 use Rattle.isdb_tlv.specs.declared.mmtp.Message.{Message}
 use Rattle.isdb_tlv.specs.declared.mmtp.MaybeMessage.{MaybeMessage}
@@ -41,7 +41,7 @@ one-more-bit (suc zero) h = refl
 one-more-bit (suc (suc b)) h = absurd (omega arith)
 
 -- setting bit i sets that bit and no other
-bit-set : (w i j : ℕ) → eqb (withBit w i / 2 ^ j % 2) 1 ≡ cond (eqb j i) true (eqb (w / 2 ^ j % 2) 1)
+pub bit-set : (w i j : ℕ) → eqb (withBit w i / 2 ^ j % 2) 1 ≡ cond (eqb j i) true (eqb (w / 2 ^ j % 2) 1)
 unfolding withBit
 bit-set w i j =
     rw (or-shr w (2 ^ i) j, or-mod (w / 2 ^ j) (2 ^ i / 2 ^ j) 1, bit-power i j)

@@ -6,9 +6,8 @@ use mathlib.Core.Option.{Option}
 use mathlib.Core.Option as Option
 use mathlib.Core.Bool.{Bool, true, false}
 use lib.ListN.{length, take, drop, getD}
-use lib.Bits.{bitOr}
 use Rattle.isdb_tlv.specs.Guards.{if_then_else_, _<?_, _≤?_, _=?_, _≠?_}
-use Rattle.isdb_tlv.specs.Bytes.{be}
+use Rattle.isdb_tlv.specs.Bytes.{be, withBit}
 use Rattle.isdb_tlv.specs.Walk.{Next, stop, more, walk}
 use Rattle.isdb_tlv.specs.declared.mmtp.TableIds.{TableIds}
 use Rattle.isdb_tlv.specs.declared.mmtp.Message.{Message}
@@ -32,9 +31,6 @@ wordOf t k =
 
 unfoldable pub has : TableIds → ℕ → Bool
 has t id = wordOf t (id / 64) / 2 ^ (id % 64) % 2 =? 1
-
-unfoldable pub withBit : ℕ → ℕ → ℕ
-withBit w i = bitOr w (2 ^ i)
 
 abbrev pub withWord : TableIds → ℕ → ℕ → TableIds
 withWord t k w =

@@ -3,7 +3,7 @@
 ghost use mathlib.Core.Path.{_≡_};
 ghost use Prim.Native.Nat.{_+_, _%_, _^_, _≤_, _<_};
 ghost use lib.ListN.{length, getD, set, take, drop};
-ghost use Rattle.isdb_tlv.specs.Bytes.{be, putBe};
+ghost use Rattle.isdb_tlv.specs.Bytes.{be, putBe, withBit};
 
 // The byte i places behind at. The sum at + i may be too large for a number.
 fn byte(b: &[u8], at: usize, i: usize) -> u8
@@ -212,6 +212,13 @@ pub fn put_u64(s: &mut [u8], at: usize, v: u64)
         }
     }
     put_number(s, at, 8, v);
+}
+
+// A word with bit i set; of i the low 6 bits count.
+pub fn with_bit(w: u64, i: u8) -> u64
+    ensures { λ r. ⌜ r ≡ withBit w (i % 64) ⌝ }
+{
+    w | (1u64 << (i % 64))
 }
 
 // Everything from at on.

@@ -4,7 +4,7 @@ ghost use mathlib.Core.Path.{_≡_};
 ghost use Prim.Native.Nat.{_+_, _≤_, _<_};
 ghost use lib.ListN.{length, drop};
 ghost use Rattle.isdb_tlv.specs.Mmtp.{fecCode, fecType, payloadCode, payloadType, entries, scrambleInfo, scrambleControl, fixedSize, extensionAt, afterFixed, headerOf, mmtpOf};
-ghost use Rattle.isdb_tlv.specs.Messages.{none, wordOf, has, withBit, insert, insertAll, setOf, listedFrom, walkedFrom, paTables, paMessage, sectionMessage, messageOf, messageIn, prefixedAt, messageAt, messageStep, counted, messagesOf};
+ghost use Rattle.isdb_tlv.specs.Messages.{none, wordOf, has, insert, insertAll, setOf, listedFrom, walkedFrom, paTables, paMessage, sectionMessage, messageOf, messageIn, prefixedAt, messageAt, messageStep, counted, messagesOf};
 use crate::bytes;
 
 // FEC_type (Table 6-5).
@@ -294,17 +294,10 @@ fn word(t: TableIds, k: u8) -> u64
     }
 }
 
-fn with_bit(w: u64, i: u8) -> u64
-    requires { ⌜ i < 64 ⌝ }
-    ensures { λ r. ⌜ r ≡ withBit w i ⌝ }
-{
-    w | (1u64 << i)
-}
-
 fn insert_id(t: TableIds, id: u8) -> TableIds
     ensures { λ r. ⌜ r ≡ insert id t ⌝ }
 {
-    let w = with_bit(word(t, id / 64), id % 64);
+    let w = bytes::with_bit(word(t, id / 64), id);
     let mut s = t;
     match id / 64 {
         0 => s.w0 = w,

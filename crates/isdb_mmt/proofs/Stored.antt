@@ -1,0 +1,320 @@
+-- The layout of a session's state: what is stored is read back, and each of the readings depends on its own bytes alone.
+-- Assumes nothing.
+use Prim.Native.Nat.{ℕ, _+_, _*_, _-_, _≤_, _<_}
+use mathlib.Core.Path.{_≡_, refl, sym, ap, _∙_}
+use mathlib.Core.Bool.{Bool, true, false, not}
+use mathlib.Core.Logic.{_⊎_}
+use mathlib.Core.List.{List, [], _++_, append-nil}
+use native.Mathlib.Omega.{arith}
+use lib.Dec.{leb}
+use lib.ListN.{length, take, drop}
+use lib.Seq.{length-take-le}
+use borrow.Author.Tests.{leb-true}
+use borrow.Rule.Slice.PartMut.{putMid}
+use Rattle.isdb_tlv.specs.Guards.{_=?_}
+use Rattle.isdb_tlv.specs.Bytes.{be}
+use Rattle.isdb_tlv.specs.Fields.{Field, written, Fit}
+use Rattle.isdb_tlv.proofs.Numbers.{be-drop, be-take}
+use Rattle.isdb_tlv.proofs.Fields.{be-behind, fieldAt, offsetOf, size, read, length-written}
+use Rattle.isdb_mmt.specs.Lent.{part, over, puts, flag, flagByte}
+use Rattle.isdb_mmt.specs.Session.{limitsOf, limitsFields, usedOf, usedFields, latestOf, latestFields, timeOf, timeFields, countersOf, countersFields, objectOf, statsOf, mediaOf, mediaFields, mediaPlaces, mediaSize, mediaAt, controlOf, controlFields, controlPlaces, controlSize, controlAt, sectionOf, sectionFields, sectionPlaces, sectionSize, sectionAt}
+use Rattle.isdb_mmt.specs.declared.decoder.limits.Limits.{Limits}
+use Rattle.isdb_mmt.specs.declared.decoder.counts.Counters.{Counters}
+use Rattle.isdb_mmt.specs.declared.decoder.head.Used.{Used}
+use Rattle.isdb_mmt.specs.declared.decoder.head.Latest.{Latest}
+use Rattle.isdb_mmt.specs.declared.decoder.head.Time.{Time}
+use Rattle.isdb_mmt.specs.declared.decoder.media.Media.{Media}
+use Rattle.isdb_mmt.specs.declared.decoder.control.Control.{Control}
+use Rattle.isdb_mmt.specs.declared.decoder.section.KeptSection.{KeptSection}
+use Rattle.isdb_mmt.proofs.Lent.{part-over, part-apart, puts-over, puts-whole, lent-at}
+
+-- ---- a store
+
+-- fields put one by one, into a longer memory and into one of just their size
+pub stored : (fs : List Field) (at : ℕ) (l : List ℕ) {m : List ℕ} → at + size fs ≤ length l → m ≡ puts at fs l → m ≡ over at (written fs) l
+stored fs at l h e = e ∙ puts-over fs at l h
+
+pub filled : (fs : List Field) (l : List ℕ) {m : List ℕ} → length l ≡ size fs → m ≡ puts 0 fs l → m ≡ written fs
+filled fs l h e = e ∙ puts-whole fs l h
+
+-- fields that a call puts into the part of the memory that they fill
+pub sent : (fs : List Field) (at : ℕ) (l : List ℕ) {m : List ℕ} → m ≡ written fs → putMid at (at + size fs - at) l m ≡ over at (written fs) l
+sent fs at l {m} e = lent-at at (size fs) (written fs) m l e (length-written fs)
+
+-- ---- what is stored is read back
+
+-- each of some fields is read where it stands, the first at `at`
+abbrev pub Holds : ℕ → List Field → List ℕ → Type 0
+Holds at fs l = (k : ℕ) → be (fieldAt k fs .width) l (at + offsetOf k fs) ≡ fieldAt k fs .value
+
+pub holds-over : (at : ℕ) (fs : List Field) (l : List ℕ) → Fit fs → at ≤ length l → Holds at fs (over at (written fs) l)
+unfolding over
+holds-over at fs l f h k =
+    let r = drop (length (written fs)) (drop at l) in
+    be-behind (fieldAt k fs .width) (take at l) (written fs ++ r) (length-take-le at l h) (offsetOf k fs) ∙ read fs f k r
+
+pub holds-written : (fs : List Field) → Fit fs → Holds 0 fs (written fs)
+holds-written fs f k = be-behind (fieldAt k fs .width) [] (written fs) refl (offsetOf k fs) ∙ rw append-nil at (read fs f k [])
+
+-- a flag that is stored as a byte is the flag again
+yes-no : (b : Bool) {n : ℕ} → n ≡ flagByte b → not (n =? 0) ≡ b
+yes-no true e = rw e
+yes-no false e = rw e
+
+limits-held : (x : Limits) (l : List ℕ) → Holds 0 (limitsFields x) l → limitsOf l ≡ x
+unfolding limitsOf
+limits-held x l h =
+    λ i.
+    record {
+      «media_ids» = h 0 i;
+      «control_ids» = h 1 i;
+      sections = h 2 i;
+      «mfu_area» = h 3 i;
+      «message_area» = h 4 i;
+      «table_area» = h 5 i;
+      packets = h 6 i;
+      «pass_scrambled» = yes-no (x .«pass_scrambled») (h 7) i;
+    }
+
+used-held : (x : Used) (l : List ℕ) → Holds 57 (usedFields x) l → usedOf l ≡ x
+unfolding usedOf
+used-held x l h = λ i. record { «media_ids» = h 0 i; «control_ids» = h 1 i; sections = h 2 i }
+
+latest-held : (x : Latest) (l : List ℕ) → Holds 69 (latestFields x) l → latestOf l ≡ x
+unfolding latestOf
+latest-held x l h =
+    λ i.
+    record {
+      plt = yes-no (x .plt) (h 0) i;
+      «plt_length» = h 1 i;
+      tot = yes-no (x .tot) (h 2) i;
+      «tot_length» = h 3 i;
+    }
+
+time-held : (x : Time) (l : List ℕ) → Holds 79 (timeFields x) l → timeOf l ≡ x
+unfolding timeOf
+time-held x l h = λ i. record { seen = yes-no (x .seen) (h 0) i; timestamp = h 1 i }
+
+counters-held : (x : Counters) (l : List ℕ) → Holds 88 (countersFields x) l → countersOf l ≡ x
+unfolding countersOf
+counters-held x l h =
+    λ i.
+    record {
+      «tlv_packets» = h 0 i;
+      «ip_errors» = h 1 i;
+      «non_mmtp» = h 2 i;
+      ntp = h 3 i;
+      tables = h 4 i;
+      «crc_errors» = h 5 i;
+      malformed = h 6 i;
+      «version_changes» = h 7 i;
+      «orphan_fragments» = h 8 i;
+      oversize = h 9 i;
+      «message_malformed» = h 10 i;
+      «split_errors» = h 11 i;
+    }
+
+media-held : (x : Media) (p : List ℕ) → Holds 0 (mediaFields x) p → mediaOf p ≡ x
+unfolding mediaOf objectOf statsOf
+media-held x p h =
+    let o = x .object in
+    λ i.
+    record {
+      «packet_id» = h 0 i;
+      seen = yes-no (x .seen) (h 1) i;
+      sequence = h 2 i;
+      «mpu_seen» = yes-no (x .«mpu_seen») (h 3) i;
+      mpu = h 4 i;
+      «first_mpu» = h 5 i;
+      held = yes-no (x .held) (h 6) i;
+      object =
+          record {
+            «mpu_sequence_number» = h 7 i;
+            rap = yes-no (o .rap) (h 8) i;
+            timed = yes-no (o .timed) (h 9) i;
+            header =
+                record {
+                  «movie_fragment_sequence_number» = h 10 i;
+                  «sample_number» = h 11 i;
+                  offset = h 12 i;
+                  priority = h 13 i;
+                  «dependency_counter» = h 14 i;
+                };
+            item = yes-no (o .item) (h 15) i;
+            «item_id» = h 16 i;
+            length = h 17 i;
+          };
+      stats =
+          record {
+            packets = h 18 i;
+            «packets_lost» = h 19 i;
+            «scrambled_packets» = h 20 i;
+            mfus = h 21 i;
+            «scrambled_mfus» = h 22 i;
+            «mfus_dropped» = h 23 i;
+            mpus = h 24 i;
+            «mpu_sequence_jumps» = h 25 i;
+            malformed = h 26 i;
+          };
+    }
+
+control-held : (x : Control) (p : List ℕ) → Holds 0 (controlFields x) p → controlOf p ≡ x
+unfolding controlOf
+control-held x p h =
+    λ i.
+    record {
+      «packet_id» = h 0 i;
+      seen = yes-no (x .seen) (h 1) i;
+      sequence = h 2 i;
+      joining = yes-no (x .joining) (h 3) i;
+      «long_length» = yes-no (x .«long_length») (h 4) i;
+      aggregated = yes-no (x .aggregated) (h 5) i;
+      length = h 6 i;
+      mpt = yes-no (x .mpt) (h 7) i;
+      «mpt_length» = h 8 i;
+    }
+
+section-held : (x : KeptSection) (p : List ℕ) → Holds 0 (sectionFields x) p → sectionOf p ≡ x
+unfolding sectionOf
+section-held x p h = λ i. record { key = h 0 i; version = h 1 i; length = h 2 i }
+
+-- of a place's bytes
+pub media-back : (m : Media) → Fit (mediaFields m) → mediaOf (written (mediaFields m)) ≡ m
+media-back m f = media-held m (written (mediaFields m)) (holds-written (mediaFields m) f)
+
+pub control-back : (c : Control) → Fit (controlFields c) → controlOf (written (controlFields c)) ≡ c
+control-back c f = control-held c (written (controlFields c)) (holds-written (controlFields c) f)
+
+pub section-back : (x : KeptSection) → Fit (sectionFields x) → sectionOf (written (sectionFields x)) ≡ x
+section-back x f = section-held x (written (sectionFields x)) (holds-written (sectionFields x) f)
+
+-- of the state: a value whose fields are stored from `at` on is read again there
+back : {A : Type 0} (of : List ℕ → A) (fields : A → List Field) (at : ℕ) (x : A) (s : List ℕ)
+    → ((l : List ℕ) → Holds at (fields x) l → of l ≡ x) → at ≤ length s → Fit (fields x) → of (over at (written (fields x)) s) ≡ x
+back of fields at x s held h f = held (over at (written (fields x)) s) (holds-over at (fields x) s f h)
+
+pub limits-back : (x : Limits) (s : List ℕ) → Fit (limitsFields x) → 13144 ≤ length s → limitsOf (over 0 (written (limitsFields x)) s) ≡ x
+limits-back x s f h = back limitsOf limitsFields 0 x s (limits-held x) (omega arith) f
+
+pub used-back : (x : Used) (s : List ℕ) → Fit (usedFields x) → 13144 ≤ length s → usedOf (over 57 (written (usedFields x)) s) ≡ x
+used-back x s f h = back usedOf usedFields 57 x s (used-held x) (omega arith) f
+
+pub latest-back : (x : Latest) (s : List ℕ) → Fit (latestFields x) → 13144 ≤ length s → latestOf (over 69 (written (latestFields x)) s) ≡ x
+latest-back x s f h = back latestOf latestFields 69 x s (latest-held x) (omega arith) f
+
+pub time-back : (x : Time) (s : List ℕ) → Fit (timeFields x) → 13144 ≤ length s → timeOf (over 79 (written (timeFields x)) s) ≡ x
+time-back x s f h = back timeOf timeFields 79 x s (time-held x) (omega arith) f
+
+pub counters-back : (x : Counters) (s : List ℕ) → Fit (countersFields x) → 13144 ≤ length s → countersOf (over 88 (written (countersFields x)) s) ≡ x
+counters-back x s f h = back countersOf countersFields 88 x s (counters-held x) (omega arith) f
+
+-- of a place of the state
+back-at : {A : Type 0} (of : List ℕ → A) (fs : List Field) (at : ℕ) (x : A) (s : List ℕ)
+    → of (written fs) ≡ x → at + size fs ≤ length s → of (part at (size fs) (over at (written fs) s)) ≡ x
+back-at of fs at x s e h =
+    let n : length (written fs) ≡ size fs = length-written fs in
+    let p : part at (length (written fs)) (over at (written fs) s) ≡ written fs = part-over at (written fs) s (omega arith) in
+    ap of (rw n at p) ∙ e
+
+pub media-at-back : (x : Media) (i : ℕ) (s : List ℕ) → Fit (mediaFields x) → i < 64 → 13144 ≤ length s
+    → mediaAt (over (mediaPlaces + mediaSize * i) (written (mediaFields x)) s) i ≡ x
+media-at-back x i s f b h = back-at mediaOf (mediaFields x) (mediaPlaces + mediaSize * i) x s (media-back x f) (omega arith)
+
+pub control-at-back : (x : Control) (i : ℕ) (s : List ℕ) → Fit (controlFields x) → i < 32 → 13144 ≤ length s
+    → controlAt (over (controlPlaces + controlSize * i) (written (controlFields x)) s) i ≡ x
+control-at-back x i s f b h = back-at controlOf (controlFields x) (controlPlaces + controlSize * i) x s (control-back x f) (omega arith)
+
+pub section-at-back : (x : KeptSection) (i : ℕ) (s : List ℕ) → Fit (sectionFields x) → i < 512 → 13144 ≤ length s
+    → sectionAt (over (sectionPlaces + sectionSize * i) (written (sectionFields x)) s) i ≡ x
+section-at-back x i s f b h = back-at sectionOf (sectionFields x) (sectionPlaces + sectionSize * i) x s (section-back x f) (omega arith)
+
+-- ---- what is written elsewhere leaves it
+
+-- a reading that depends on the `n` bytes from `at` alone
+abbrev pub Own : {A : Type 0} → (List ℕ → A) → ℕ → ℕ → Type 0
+Own of at n = (l m : List ℕ) → part at n l ≡ part at n m → of l ≡ of m
+
+-- a write before them or behind them leaves it
+pub apart : {A : Type 0} (of : List ℕ → A) (at n : ℕ) → Own of at n → (b : ℕ) (bs l : List ℕ) → (at + n ≤ b) ⊎ (b + length bs ≤ at)
+    → b + length bs ≤ length l → of (over b bs l) ≡ of l
+apart of at n own b bs l d h = own (over b bs l) l (part-apart at n b bs l d h)
+
+pub part-own : {A : Type 0} (f : List ℕ → A) (at n : ℕ) → Own (λ l. f (part at n l)) at n
+part-own f at n l m e = ap f e
+
+module _ (at n : ℕ) (l m : List ℕ) (e : part at n l ≡ part at n m) where
+  same : (w k : ℕ) → leb (k + w) n ≡ true → be w l (at + k) ≡ be w m (at + k)
+  same w k h =
+      let in-part : (x : List ℕ) → be w (part at n x) k ≡ be w x (at + k) =
+      λ x. be-take w n (drop at x) k (omega (arith, leb-true)) ∙ be-drop w at x k in
+      sym (in-part l) ∙ ap (λ (p : List ℕ). be w p k) e ∙ in-part m
+
+  same-flag : (k : ℕ) → leb (k + 1) n ≡ true → flag l (at + k) ≡ flag m (at + k)
+  same-flag k h = ap (λ (v : ℕ). not (v =? 0)) (same 1 k h)
+
+pub limits-own : Own limitsOf 0 57
+unfolding limitsOf
+limits-own l m e =
+    let own = same 0 57 l m e in
+    let own-flag = same-flag 0 57 l m e in
+    λ i.
+    record {
+      «media_ids» = own 8 0 refl i;
+      «control_ids» = own 8 8 refl i;
+      sections = own 8 16 refl i;
+      «mfu_area» = own 8 24 refl i;
+      «message_area» = own 8 32 refl i;
+      «table_area» = own 8 40 refl i;
+      packets = own 8 48 refl i;
+      «pass_scrambled» = own-flag 56 refl i;
+    }
+
+pub used-own : Own usedOf 57 12
+unfolding usedOf
+used-own l m e =
+    let own = same 57 12 l m e in
+    λ i.
+    record {
+      «media_ids» = own 4 0 refl i;
+      «control_ids» = own 4 4 refl i;
+      sections = own 4 8 refl i;
+    }
+
+pub latest-own : Own latestOf 69 10
+unfolding latestOf
+latest-own l m e =
+    let own = same 69 10 l m e in
+    let own-flag = same-flag 69 10 l m e in
+    λ i.
+    record {
+      plt = own-flag 0 refl i;
+      «plt_length» = own 4 1 refl i;
+      tot = own-flag 5 refl i;
+      «tot_length» = own 4 6 refl i;
+    }
+
+pub time-own : Own timeOf 79 9
+unfolding timeOf
+time-own l m e =
+    let own = same 79 9 l m e in
+    let own-flag = same-flag 79 9 l m e in λ i. record { seen = own-flag 0 refl i; timestamp = own 8 1 refl i }
+
+pub counters-own : Own countersOf 88 96
+unfolding countersOf
+counters-own l m e =
+    let own = same 88 96 l m e in
+    λ i.
+    record {
+      «tlv_packets» = own 8 0 refl i;
+      «ip_errors» = own 8 8 refl i;
+      «non_mmtp» = own 8 16 refl i;
+      ntp = own 8 24 refl i;
+      tables = own 8 32 refl i;
+      «crc_errors» = own 8 40 refl i;
+      malformed = own 8 48 refl i;
+      «version_changes» = own 8 56 refl i;
+      «orphan_fragments» = own 8 64 refl i;
+      oversize = own 8 72 refl i;
+      «message_malformed» = own 8 80 refl i;
+      «split_errors» = own 8 88 refl i;
+    }

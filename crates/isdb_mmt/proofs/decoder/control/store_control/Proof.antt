@@ -1,0 +1,26 @@
+use Rattle.isdb_mmt.proofs.Stored.{sent}
+use native.Mathlib.Omega.{arith}
+use Prim.Native.Nat.{_+_, _*_}
+use Rattle.isdb_mmt.specs.Session.{controlFields}
+use borrow.Author.Needs.{needs}
+use Rattle.isdb_mmt.proofs.decoder.control.store_control.Statement.{statement}
+use Rattle.isdb_mmt.proofs.decoder.control.store_control.Tie as tie
+
+returns : tie.Need-returns
+returns c =
+    let x = c .before .before .before .before .before .args in
+    sent (controlFields (x .c)) (7864 + 21 * x .i) (x .s .now) (c .before .before .put-control .ensures)
+
+pub store-control-spec : {M : Type 1} → statement M
+store-control-spec =
+    tie.close
+    (tie.spec
+    (λ c. search needs)
+    (λ c. search needs)
+    (λ c. search needs)
+    (λ c. search needs)
+    (λ c. search needs)
+    (λ c. search needs)
+    (λ c κs. search needs)
+    (λ c. search needs)
+    returns)

@@ -1,0 +1,12 @@
+use Rattle.isdb_mmt.specs.Session.{latestOf}
+use borrow.Author.Needs.{needs}
+use Rattle.isdb_mmt.proofs.decoder.head.load_latest.Statement.{statement}
+use Rattle.isdb_mmt.proofs.decoder.head.load_latest.Tie as tie
+
+returns : tie.Need-returns
+unfolding latestOf
+returns c = cc
+
+pub load-latest-spec : {M : Type 1} → statement M
+load-latest-spec =
+    tie.close (tie.spec (λ c κs. search needs) (λ c κs. search needs) (λ c κs. search needs) (λ c κs. search needs) returns)

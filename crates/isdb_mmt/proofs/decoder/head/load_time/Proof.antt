@@ -1,0 +1,11 @@
+use Rattle.isdb_mmt.specs.Session.{timeOf}
+use borrow.Author.Needs.{needs}
+use Rattle.isdb_mmt.proofs.decoder.head.load_time.Statement.{statement}
+use Rattle.isdb_mmt.proofs.decoder.head.load_time.Tie as tie
+
+returns : tie.Need-returns
+unfolding timeOf
+returns c = cc
+
+pub load-time-spec : {M : Type 1} → statement M
+load-time-spec = tie.close (tie.spec (λ c κs. search needs) (λ c κs. search needs) returns)

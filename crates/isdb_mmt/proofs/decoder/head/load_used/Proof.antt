@@ -1,0 +1,12 @@
+use Rattle.isdb_mmt.specs.Session.{usedOf}
+use borrow.Author.Needs.{needs}
+use Rattle.isdb_mmt.proofs.decoder.head.load_used.Statement.{statement}
+use Rattle.isdb_mmt.proofs.decoder.head.load_used.Tie as tie
+
+returns : tie.Need-returns
+unfolding usedOf
+returns c = cc
+
+pub load-used-spec : {M : Type 1} → statement M
+load-used-spec =
+    tie.close (tie.spec (λ c κs. search needs) (λ c κs. search needs) (λ c κs. search needs) returns)

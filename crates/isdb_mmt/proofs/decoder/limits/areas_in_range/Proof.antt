@@ -1,0 +1,27 @@
+use Rattle.isdb_mmt.specs.Limits.{areasInRange}
+use borrow.Author.Needs.{needs}
+use Rattle.isdb_mmt.proofs.decoder.limits.areas_in_range.Statement.{statement}
+use Rattle.isdb_mmt.proofs.decoder.limits.areas_in_range.Tie as tie
+
+returns : tie.Need-returns
+unfolding areasInRange
+returns c = simp (← c .before .in-range .ensures, c .if1 .taken)
+
+returns-2 : tie.Need-returns-2
+unfolding areasInRange
+returns-2 c = simp (← c .before .before .before .in-range .ensures, c .before .before .if1 .left, ← c .before .in-range2 .ensures, c .if2 .taken)
+
+returns-3 : tie.Need-returns-3
+unfolding areasInRange
+returns-3 c = simp (← c .before .before .before .before .in-range .ensures, c .before .before .before .if1 .left, ← c .before .before .in-range2 .ensures, c .before .if2 .left, ← c .in-range3 .ensures)
+
+pub areas-in-range-spec : {M : Type 1} → statement M
+areas-in-range-spec =
+    tie.close
+    (tie.spec
+    (λ c κs. search needs)
+    returns
+    (λ c κs. search needs)
+    returns-2
+    (λ c κs. search needs)
+    returns-3)

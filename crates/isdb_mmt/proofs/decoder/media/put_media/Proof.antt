@@ -1,0 +1,16 @@
+use Rattle.isdb_mmt.proofs.Stored.{filled}
+use native.Mathlib.Omega.{arith}
+use Rattle.isdb_mmt.specs.Session.{mediaFields}
+use borrow.Author.Needs.{needs}
+use Rattle.isdb_mmt.proofs.decoder.media.put_media.Statement.{statement}
+use Rattle.isdb_mmt.proofs.decoder.media.put_media.Tie as tie
+
+returns : tie.Need-returns
+returns c =
+    let x = c .before .before .before .before .before .before .before .before .before .before .before .before .before .before .before .args in
+    filled (mediaFields (x .m)) (x .p .now) (omega arith) (cc)
+
+pub put-media-spec : {M : Type 1} → statement M
+put-media-spec =
+    tie.close
+    (tie.spec (λ c κs. search needs) (λ c κs. search needs) (λ c κs. search needs) (λ c. search needs) returns)

@@ -1,0 +1,11 @@
+use Rattle.isdb_mmt.specs.Session.{sectionOf}
+use borrow.Author.Needs.{needs}
+use Rattle.isdb_mmt.proofs.decoder.section.section_of.Statement.{statement}
+use Rattle.isdb_mmt.proofs.decoder.section.section_of.Tie as tie
+
+returns : tie.Need-returns
+unfolding sectionOf
+returns c = cc
+
+pub section-of-spec : {M : Type 1} → statement M
+section-of-spec = tie.close (tie.spec (λ c κs. search needs) (λ c κs. search needs) (λ c κs. search needs) returns)

@@ -1,0 +1,134 @@
+// Places of one size, one behind the other, each with a name of 4 bytes at its start: a packet id or a section's key. And
+// areas, of which each place has one.
+ghost use mathlib.Core.Path.{_≡_};
+ghost use Prim.Native.Nat.{_+_, _*_, _≤_, _<_};
+ghost use lib.ListN.{length};
+ghost use Rattle.isdb_tlv.specs.Bytes.{putBe};
+ghost use Rattle.isdb_mmt.specs.Lent.{part, over, flag as flagAt, flagByte, namesFrom, distinct, cellOf, amongMarked, foundFrom, seatOf};
+use isdb_tlv::bytes;
+
+pub fn flag(p: &[u8], at: usize) -> bool
+    ensures { λ r. ⌜ r ≡ flagAt (now (p .entry)) at ⌝ }
+{
+    bytes::get_u8(p, at) != 0
+}
+
+pub fn put_flag(p: &mut [u8], at: usize, x: bool)
+    ensures { λ r. ⌜ now (p .exit) ≡ putBe 1 at (flagByte x) (now (p .entry)) ⌝ }
+{
+    if x {
+        bytes::put_u8(p, at, 1);
+        return;
+    }
+    bytes::put_u8(p, at, 0);
+}
+
+pub enum Found {
+    At(usize),
+    Nothing,
+}
+
+// Where a name has its place, or takes the next free one, or that none is free.
+pub enum Seat {
+    Old(usize),
+    New(usize),
+    Full,
+}
+
+// The first of n places from at on that has the name x.
+pub fn find(s: &[u8], at: usize, size: usize, n: usize, x: u32) -> Found
+    requires { ⌜ at + n * size ≤ length (now s) ⌝ }
+    ensures { λ r. ⌜ r ≡ foundFrom 0 (namesFrom n size at (now (s .entry))) x ⌝ }
+{
+    let mut i = 0;
+    let mut p = at;
+    while i < n {
+        if bytes::get_u32(s, p) == x {
+            return Found::At(i);
+        }
+        p += size;
+        i += 1;
+    }
+    Found::Nothing
+}
+
+pub fn seat_for(s: &[u8], at: usize, size: usize, n: usize, limit: usize, x: u32) -> Seat
+    requires { ⌜ at + n * size ≤ length (now s) ⌝ }
+    ensures { λ r. ⌜ r ≡ seatOf (namesFrom n size at (now (s .entry))) limit x ⌝ }
+{
+    match find(s, at, size, n, x) {
+        Found::At(i) => Seat::Old(i),
+        Found::Nothing => {
+            if n < limit {
+                return Seat::New(n);
+            }
+            Seat::Full
+        }
+    }
+}
+
+// Where a name is marked. Any number below 32,768 would do; this one spreads names that differ in a few bits.
+fn cell(x: u32) -> u32
+    ensures { λ r. ⌜ (r ≡ cellOf x) × (r < 32768) ⌝ }
+{
+    (x as u64 * 2654435769 % 4294967296 / 131072) as u32
+}
+
+// Whether x is one of n names. An unmarked name is none of them.
+fn is_among(s: &[u8], at: usize, size: usize, n: usize, x: u32, mark: u64) -> bool
+    requires { ⌜ at + n * size ≤ length (now s) ⌝ }
+    ensures { λ r. ⌜ r ≡ amongMarked mark x (namesFrom n size at (now (s .entry))) ⌝ }
+{
+    if mark == 0 {
+        return false;
+    }
+    match find(s, at, size, n, x) {
+        Found::At(i) => true,
+        Found::Nothing => false,
+    }
+}
+
+// Whether no name stands twice. A name is compared with the earlier ones only where its cell is marked.
+pub fn no_name_twice(s: &[u8], at: usize, size: usize, n: usize) -> bool
+    requires { ⌜ at + n * size ≤ length (now s) ⌝ }
+    ensures { λ r. ⌜ r ≡ distinct (namesFrom n size at (now (s .entry))) ⌝ }
+{
+    let mut marks = [0u64; 512];
+    let mut i = 0;
+    let mut p = at;
+    while i < n {
+        let x = bytes::get_u32(s, p);
+        let c = cell(x);
+        let k = (c / 64) as usize;
+        let b = (c % 64) as u8;
+        let w = marks[k];
+        if is_among(s, at, size, i, x, (w >> b) % 2) {
+            return false;
+        }
+        marks[k] = bytes::with_bit(w, b);
+        p += size;
+        i += 1;
+    }
+    true
+}
+
+// The n bytes from the start of area i.
+pub fn in_area(s: &[u8], i: usize, area: usize, n: usize) -> &[u8]
+    requires { ⌜ (i + 1) * area ≤ length (now s) ⌝ }
+    ensures { λ r. ⌜ now r ≡ part (i * area) n (now (s .entry)) ⌝ }
+{
+    bytes::part(s, i * area, n)
+}
+
+// Some bytes, from a place of area i on.
+pub fn put_in_area(s: &mut [u8], i: usize, area: usize, from: usize, b: &[u8])
+    requires { ⌜ i * area + from + length (now b) ≤ length (now s) ⌝ }
+    ensures { λ r. ⌜ now (s .exit) ≡ over (i * area + from) (now (b .entry)) (now (s .entry)) ⌝ }
+{
+    let at = i * area + from;
+    let mut k = 0;
+    while k < b.len() {
+        s[at + k] = b[k];
+        k += 1;
+    }
+}
