@@ -1,19 +1,20 @@
--- Question 5, law by law: what a test of one count, one length or one place says of the whole.
+-- Laws of question 5: what a test of one count, one length or one place says of the whole, and what an answer yes says.
 -- Assumes nothing.
-use Prim.Native.Nat.{ℕ, zero, suc, _+_, _-_, _*_, _≤_, _<_}
+use Prim.Native.Nat.{ℕ, zero, suc, _+_, _-_, _*_, _/_, _≤_, _<_}
 use mathlib.Core.Path.{_≡_, refl, sym, _∙_}
 use mathlib.Core.Bool.{Bool, true, false, not, cond}
 use mathlib.Core.List.{List, [], _∷_, map}
 use native.Mathlib.Numerals.{add-one}
 use native.Mathlib.Nat.{add-zero, mul-zero, mul-suc}
 use native.Mathlib.Omega.{arith}
-use borrow.Author.Tests.{not-true, not-false, eq-eqb, ne-eqb, le-leb, leb-true, ltb-false, eqb-true}
+use borrow.Author.Tests.{eq-eqb, ne-eqb, le-leb, leb-true, eqb-true}
+use lib.Bits.{bitOr, or-add-and, and-le-l, and-le-r}
 use lib.ListN.{length, getD, drop, drop-of-length-le}
 use lib.Seq.{drop-cons}
 use Rattle.isdb_mmt.specs.Lent.{part, flag, placesFrom, namesFrom, distinct, every}
-use Rattle.isdb_mmt.specs.Session.{Session, mediaSize, mediaPlaces, controlSize, controlPlaces, sectionSize, sectionPlaces, limitsOf, usedOf, latestOf, countersOf, mediaOf, objectOf, statsOf, controlOf, sectionOf}
-use Rattle.isdb_mmt.specs.Check.{countFits, lengthFits, statsCounts, packetCounts, tableCounts, lengthsOf, sound, soundIn, Sound, mediaSound, controlSound, sectionSound, usedSound, latestSound, countersSound, mediaIn, controlsIn, sectionsIn, headSound, placesSound, namesSound, PlacesThere}
-use Rattle.isdb_mmt.specs.Limits.{inRange, placesInRange, areasInRange, packetsInRange, lengthsFor, longEnough, asked}
+use Rattle.isdb_mmt.specs.Session.{Session, mediaSize, mediaPlaces, controlSize, controlPlaces, limitsOf, usedOf, latestOf, countersOf, mediaPlaceOf, heldObjectOf, statsOf, controlPlaceOf, sectionPlaceOf}
+use Rattle.isdb_mmt.specs.Check.{countFits, lengthFits, statsCounts, packetCounts, lengthsOf, sound, soundIn, Sound, mediaSound, controlSound, sectionSound, usedSound, latestSound, countersSound, mediaIn, controlsIn, sectionsIn, headSound, placesSound, namesSound, PlacesThere}
+use Rattle.isdb_mmt.specs.Limits.{asked}
 use Rattle.isdb_mmt.specs.declared.decoder.limits.Limits.{Limits}
 use Rattle.isdb_mmt.specs.declared.decoder.limits.Lengths.{Lengths}
 use Rattle.isdb_mmt.specs.declared.decoder.counts.AssetStats.{AssetStats}
@@ -23,34 +24,17 @@ use Rattle.isdb_mmt.specs.declared.decoder.control.Control.{Control}
 use Rattle.isdb_mmt.specs.declared.decoder.section.KeptSection.{KeptSection}
 use Rattle.isdb_mmt.specs.declared.decoder.head.Used.{Used}
 use Rattle.isdb_mmt.specs.declared.decoder.head.Latest.{Latest}
-use Rattle.isdb_tlv.specs.Guards.{_<?_, _≤?_, _=?_}
+use Rattle.isdb_tlv.specs.Guards.{_≤?_, _=?_}
 use Rattle.isdb_tlv.specs.Bytes.{be}
-
--- what a branch on the answer of a call tells of the test that the call makes
-pub no : {r b : Bool} → r ≡ b → not r ≡ true → b ≡ false
-no {r} e t = sym e ∙ not-true r t
-
-pub yes : {r b : Bool} → r ≡ b → not r ≡ false → b ≡ true
-yes {r} e t = sym e ∙ not-false r t
-
--- guards, one by one: a test that must hold before the rest is asked
-pub both : {r a q b : Bool} → r ≡ a → r ≡ true → q ≡ b → q ≡ cond a b false
-both e t p = rw (sym e ∙ t) p
-
-pub not-both : {r a : Bool} (b : Bool) → r ≡ a → r ≡ false → false ≡ cond a b false
-not-both b e t = rw (sym e ∙ t)
-
-pub guard-holds : {r a q b : Bool} → r ≡ a → not r ≡ false → q ≡ b → q ≡ cond (not a) false b
-guard-holds e t p = rw (yes e t) p
-
-pub guard-fails : {r a : Bool} (b : Bool) → r ≡ a → not r ≡ true → false ≡ cond (not a) false b
-guard-fails b e t = rw (no e t)
+use Rattle.isdb_tlv.proofs.Guards.{cond-same}
+use Rattle.isdb_mmt.proofs.Names.{clash}
+use Rattle.isdb_mmt.proofs.Guards.{no, yes, both, not-both, guard-holds, guard-fails, was-both, was-guarded}
+use Rattle.isdb_mmt.proofs.Limits.{passed}
 
 -- every count, the first of them and the last
-module _ (x : ℕ) (r b : Bool) where
-  pub first-fits : (l : List ℕ) → r ≡ countFits x → not r ≡ false → b ≡ every countFits l → b ≡ every countFits (x ∷ l)
-  unfolding every
-  first-fits l e t p = rw (yes e t) p
+pub first-fits : (x : ℕ) (r b : Bool) (l : List ℕ) → r ≡ countFits x → not r ≡ false → b ≡ every countFits l → b ≡ every countFits (x ∷ l)
+unfolding every
+first-fits x r b l e t p = rw (yes e t) p
 
 pub last-fits : (x : ℕ) (r : Bool) → r ≡ countFits x → r ≡ every countFits (x ∷ [])
 unfolding every
@@ -58,15 +42,11 @@ last-fits x true e = rw (← e)
 last-fits x false e = rw (← e)
 
 -- one count that does not fit
-cut : (b : Bool) {x : Bool} → false ≡ x → false ≡ cond b x false
-cut true e = e
-cut false e = refl
-
 pub fails : (i : ℕ) (l : List ℕ) {r : Bool} → r ≡ countFits (getD l i 0) → not r ≡ true → false ≡ every countFits l
 unfolding every
 fails i [] e t = sym (no e t)
 fails zero (x ∷ l) e t = rw (no e t)
-fails (suc i) (x ∷ l) e t = cut (countFits x) (fails i l e t)
+fails (suc i) (x ∷ l) e t = rw (← fails i l e t) (sym (cond-same (countFits x) false))
 
 -- a media place: its length, and its counts
 module _ (l : Limits) (p : List ℕ) (h r : Bool) (n : ℕ) (eh : h ≡ flag p 18) (en : n ≡ be 4 p 44)
@@ -76,12 +56,12 @@ module _ (l : Limits) (p : List ℕ) (h r : Bool) (n : ℕ) (eh : h ≡ flag p 1
       → (s : AssetStats) (q : Bool)
       → s ≡ statsOf p
       → q ≡ every countFits (statsCounts s)
-      → q ≡ mediaSound l (mediaOf p)
-  unfolding mediaSound mediaOf objectOf
+      → q ≡ mediaSound l (mediaPlaceOf p)
+  unfolding mediaSound mediaPlaceOf heldObjectOf
   media-fits t s q es eq = rw (← eh, ← en) (both er t (rw es at eq))
 
-  pub media-fails : r ≡ false → false ≡ mediaSound l (mediaOf p)
-  unfolding mediaSound mediaOf objectOf
+  pub media-fails : r ≡ false → false ≡ mediaSound l (mediaPlaceOf p)
+  unfolding mediaSound mediaPlaceOf heldObjectOf
   media-fails t = rw (← eh, ← en) (not-both _ er t)
 
 -- one turn of a walk over places
@@ -125,13 +105,13 @@ module _ (l : List ℕ) (i : ℕ) (y : Bool) (inv : y ≡ every countFits (drop 
 
 -- the places of every sort
 module _ (s : List ℕ) (l : Limits) (u : Used) (el : l ≡ limitsOf s) (eu : u ≡ usedOf s) (a : Bool)
-    (ea : a ≡ every (mediaSound l) (map mediaOf (placesFrom (u .«media_ids») 120 184 s))) where
+    (ea : a ≡ every (mediaSound l) (map mediaPlaceOf (placesFrom (u .«media_ids») 120 184 s))) where
   pub some-media-fails : not a ≡ true → false ≡ placesSound s
   unfolding placesSound mediaIn
   some-media-fails t = guard-fails _ (rw (el, eu) at ea) t
 
   module _ (ta : not a ≡ false) (b : Bool)
-      (eb : b ≡ every (controlSound l) (map controlOf (placesFrom (u .«control_ids») 21 7864 s))) where
+      (eb : b ≡ every (controlSound l) (map controlPlaceOf (placesFrom (u .«control_ids») 21 7864 s))) where
     pub some-control-fails : not b ≡ true → false ≡ placesSound s
     unfolding placesSound mediaIn controlsIn
     some-control-fails t = guard-holds (rw (el, eu) at ea) ta (guard-fails _ (rw (el, eu) at eb) t)
@@ -139,7 +119,7 @@ module _ (s : List ℕ) (l : Limits) (u : Used) (el : l ≡ limitsOf s) (eu : u 
     pub sections-decide :
         not b ≡ false
         → (c : Bool)
-        → c ≡ every (sectionSound l) (map sectionOf (placesFrom (u .sections) 9 8536 s))
+        → c ≡ every (sectionSound l) (map sectionPlaceOf (placesFrom (u .sections) 9 8536 s))
         → c ≡ placesSound s
     unfolding placesSound mediaIn controlsIn sectionsIn
     sections-decide t c ec = guard-holds (rw (el, eu) at ea) ta (guard-holds (rw (el, eu) at eb) t (rw (el, eu) at ec))
@@ -206,81 +186,30 @@ module _ (s others : List ℕ) (lent : Lengths) (l : Limits) (k : ℕ) (el : l �
         others-decide t d ed =
             rw (← el, ← ek, eq-eqb k 0 tk, ← eu, ← ex, ← ey) (guard-holds ea ta (guard-holds eb tb (guard-holds ec t ed)))
 
--- and back: what an answer yes says
-never : {A : Type 0} → false ≡ true → A
-never e = let z : _≡_ {A = ℕ} 0 1 = cc in absurd (omega arith)
+-- counts without bits from 53 on
+or-none : (a b : ℕ) → bitOr a b ≡ 0 → (a ≡ 0) × (b ≡ 0)
+or-none a b e =
+    let s = or-add-and a b in
+    let l = and-le-l a b in
+    let r = and-le-r a b in
+    (omega arith, omega arith)
 
-was-both : (a b : Bool) → cond a b false ≡ true → (a ≡ true) × (b ≡ true)
-was-both true b e = (refl, e)
-was-both false b e = never e
+module _ (l : List ℕ) (i bits : ℕ) (y : Bool) (inv : bits ≡ 0 → y ≡ every countFits (drop i l)) where
+  pub low-bits : i < length l → bitOr bits (getD l i 0 / 9007199254740992) ≡ 0 → y ≡ every countFits (drop (i + 1) l)
+  low-bits h e =
+      let o = or-none bits (getD l i 0 / 9007199254740992) e in
+      count-fits l i y (inv (o .0)) h true (sym (le-leb (getD l i 0) 9007199254740992 (omega (arith, o .1)))) refl
 
-was-left : (a b : Bool) → cond a false b ≡ true → (a ≡ false) × (b ≡ true)
-was-left true b e = never e
-was-left false b e = (refl, e)
+  pub all-low : length l ≤ i → bits ≡ 0 → y ≡ true
+  all-low h e = sym (counts-end l i y (inv e) h)
 
-was-guarded : (a b : Bool) → cond (not a) false b ≡ true → (a ≡ true) × (b ≡ true)
-was-guarded true b e = (refl, e)
-was-guarded false b e = never e
-
-was-asked : (a : Bool) (k x : ℕ) → cond (not a) (suc k) x ≡ 0 → (a ≡ true) × (x ≡ 0)
-was-asked true k x e = (refl, e)
-was-asked false k x e = absurd (omega arith)
-
-was-there : (a : Bool) (n area : ℕ) → lengthFits a n area ≡ true → a ≡ true → n ≤ area
-was-there true n area e t = leb-true n area e
-was-there false n area e t = never t
-
-in-range : (most x : ℕ) → inRange most x ≡ true → (1 ≤ x) × (x ≤ most)
-unfolding inRange
-in-range most x e = let h = was-left (x <? 1) _ e in (ltb-false x 1 (h .0), leb-true x most (h .1))
-
--- limits that pass questions 1 to 4, with the lengths that are lent
-pub record Passed (l : Limits) (lent : Lengths) : Type 0 where
-  pub media : (1 ≤ l .«media_ids») × (l .«media_ids» ≤ 64)
-  pub controls : (1 ≤ l .«control_ids») × (l .«control_ids» ≤ 32)
-  pub sections : (1 ≤ l .sections) × (l .sections ≤ 512)
-  pub object : (1 ≤ l .«mfu_area») × (l .«mfu_area» ≤ 16777216)
-  pub message : (1 ≤ l .«message_area») × (l .«message_area» ≤ 1048576)
-  pub table : (1 ≤ l .«table_area») × (l .«table_area» ≤ 65539)
-  pub packets : (1 ≤ l .packets) × (l .packets ≤ 4294967295)
-  pub state : 13144 ≤ lent .state
-  pub objects : l .«media_ids» * l .«mfu_area» ≤ lent .objects
-  pub messages : l .«control_ids» * l .«message_area» ≤ lent .messages
-  pub tables : (l .sections + l .«control_ids» + 2) * l .«table_area» ≤ lent .tables
-
-pub passed : (l : Limits) (lent : Lengths) → asked l lent ≡ 0 → Passed l lent
-unfolding asked placesInRange areasInRange packetsInRange lengthsFor longEnough
-passed l lent e =
-    let q1 = was-asked (placesInRange l) 0 _ e in
-    let q2 = was-asked (areasInRange l) 1 _ (q1 .1) in
-    let q3 = was-asked (longEnough (lengthsFor l) lent) 2 _ (q2 .1) in
-    let q4 = was-asked (packetsInRange l) 3 _ (q3 .1) in
-    let p1 = was-guarded (inRange 64 (l .«media_ids»)) _ (q1 .0) in
-    let p2 = was-guarded (inRange 32 (l .«control_ids»)) _ (p1 .1) in
-    let a1 = was-guarded (inRange 16777216 (l .«mfu_area»)) _ (q2 .0) in
-    let a2 = was-guarded (inRange 1048576 (l .«message_area»)) _ (a1 .1) in
-    let b1 = was-left (lent .state <? 13144) _ (q3 .0) in
-    let b2 = was-left (lent .objects <? lengthsFor l .objects) _ (b1 .1) in
-    let b3 = was-left (lent .messages <? lengthsFor l .messages) _ (b2 .1) in
-    record {
-      media = in-range _ _ (p1 .0);
-      controls = in-range _ _ (p2 .0);
-      sections = in-range _ _ (p2 .1);
-      object = in-range _ _ (a1 .0);
-      message = in-range _ _ (a2 .0);
-      table = in-range _ _ (a2 .1);
-      packets = in-range _ _ (q4 .0);
-      state = ltb-false _ _ (b1 .0);
-      objects = ltb-false _ _ (b2 .0);
-      messages = ltb-false _ _ (b3 .0);
-      tables = leb-true _ _ (b3 .1);
-    }
+-- ---- and back: what an answer yes says
 
 -- no more places in use than there may be
-pub record InUse (l : Limits) (u : Used) : Type 0 where
-  pub media : u .«media_ids» ≤ l .«media_ids»
-  pub controls : u .«control_ids» ≤ l .«control_ids»
-  pub sections : u .sections ≤ l .sections
+record InUse (l : Limits) (u : Used) : Type 0 where
+  media : u .«media_ids» ≤ l .«media_ids»
+  controls : u .«control_ids» ≤ l .«control_ids»
+  sections : u .sections ≤ l .sections
 
 used-was : (l : Limits) (u : Used) → usedSound l u ≡ true → InUse l u
 unfolding usedSound
@@ -313,14 +242,23 @@ module _ (s others : List ℕ) (lent : Lengths) where
         let p = passed _ _ (h .limits) in
         let u = used-was _ _ (h .used) in
         record {
-          long = omega (arith, p .state, long);
-          media = omega (arith, u .media, p .media);
-          controls = omega (arith, u .controls, p .controls);
-          sections = omega (arith, u .sections, p .sections);
+          long = omega arith;
+          media = omega arith;
+          controls = omega arith;
+          sections = omega arith;
         }
 
     pub head-there : (r : Bool) → r ≡ headSound s others lent → not r ≡ false → PlacesThere s
     head-there r e t = there (yes e t)
+
+-- a length that fits where there is something, and two of them
+was-there : (a : Bool) (n area : ℕ) → lengthFits a n area ≡ true → a ≡ true → n ≤ area
+was-there true n area e t = leb-true n area e
+was-there false n area e t = clash false t refl
+
+were-there : (a b : Bool) (n m x y : ℕ) → cond (lengthFits a n x) (lengthFits b m y) false ≡ true → (a ≡ true → n ≤ x) × (b ≡ true → m ≤ y)
+were-there a b n m x y e =
+    let h = was-both (lengthFits a n x) (lengthFits b m y) e in (was-there a n x (h .0), was-there b m y (h .1))
 
 -- a place that is sound
 module _ (l : Limits) where
@@ -338,18 +276,14 @@ module _ (l : Limits) where
       → controlSound l c ≡ true
       → (c .joining ≡ true → c .length ≤ l .«message_area») × (c .mpt ≡ true → c .«mpt_length» ≤ l .«table_area»)
   unfolding controlSound
-  control-was c e =
-      let h = was-both (lengthFits (c .joining) (c .length) (l .«message_area»)) _ e in
-      (was-there (c .joining) _ _ (h .0), was-there (c .mpt) _ _ (h .1))
+  control-was c e = were-there (c .joining) (c .mpt) _ _ _ _ e
 
   latest-was :
       (x : Latest)
       → latestSound l x ≡ true
       → (x .plt ≡ true → x .«plt_length» ≤ l .«table_area») × (x .tot ≡ true → x .«tot_length» ≤ l .«table_area»)
   unfolding latestSound
-  latest-was x e =
-      let h = was-both (lengthFits (x .plt) (x .«plt_length») (l .«table_area»)) _ e in
-      (was-there (x .plt) _ _ (h .0), was-there (x .tot) _ _ (h .1))
+  latest-was x e = were-there (x .plt) (x .tot) _ _ _ _ e
 
   pub section-was : (x : KeptSection) → sectionSound l x ≡ true → x .length ≤ l .«table_area»
   section-was x e = leb-true _ _ e
@@ -415,16 +349,14 @@ pub sound-session : (s : Session) → sound s ≡ true → Sound (s .state) (s .
 unfolding sound
 sound-session s e = sound-is (s .state) (s .others) (lengthsOf s) refl e
 
--- and the facts are enough
-joined : {a b : Bool} → a ≡ true → b ≡ true → cond a b false ≡ true
-joined p q = rw p q
-
-guarded : {a b : Bool} → a ≡ true → b ≡ true → cond (not a) false b ≡ true
-guarded p q = rw p q
+-- ---- and the facts are enough
 
 fits-there : (a : Bool) (n area : ℕ) → (a ≡ true → n ≤ area) → lengthFits a n area ≡ true
 fits-there true n area h = le-leb n area (h refl)
 fits-there false n area h = refl
+
+fit-there : (a b : Bool) (n m x y : ℕ) → (a ≡ true → n ≤ x) → (b ≡ true → m ≤ y) → cond (lengthFits a n x) (lengthFits b m y) false ≡ true
+fit-there a b n m x y h k = rw (fits-there a n x h) (fits-there b m y k)
 
 module _ (l : Limits) where
   pub media-is :
@@ -433,7 +365,7 @@ module _ (l : Limits) where
       → every countFits (statsCounts (m .stats)) ≡ true
       → mediaSound l m ≡ true
   unfolding mediaSound
-  media-is m h c = joined (fits-there (m .held) _ _ h) c
+  media-is m h c = rw (fits-there (m .held) (m .object .length) (l .«mfu_area») h) c
 
   pub control-is :
       (c : Control)
@@ -441,7 +373,7 @@ module _ (l : Limits) where
       → (c .mpt ≡ true → c .«mpt_length» ≤ l .«table_area»)
       → controlSound l c ≡ true
   unfolding controlSound
-  control-is c h k = joined (fits-there (c .joining) _ _ h) (fits-there (c .mpt) _ _ k)
+  control-is c h k = fit-there (c .joining) (c .mpt) _ _ _ _ h k
 
   latest-is :
       (x : Latest)
@@ -449,19 +381,15 @@ module _ (l : Limits) where
       → (x .tot ≡ true → x .«tot_length» ≤ l .«table_area»)
       → latestSound l x ≡ true
   unfolding latestSound
-  latest-is x h k = joined (fits-there (x .plt) _ _ h) (fits-there (x .tot) _ _ k)
+  latest-is x h k = fit-there (x .plt) (x .tot) _ _ _ _ h k
 
   used-is : (u : Used) → InUse l u → usedSound l u ≡ true
   unfolding usedSound
-  used-is u h = guarded (le-leb _ _ (h .media)) (guarded (le-leb _ _ (h .controls)) (le-leb _ _ (h .sections)))
+  used-is u h = simp (le-leb _ _ (h .media), le-leb _ _ (h .controls), le-leb _ _ (h .sections))
 
 pub is-sound : (l others : List ℕ) (lent : Lengths) → Sound l others lent → soundIn l others lent ≡ true
 unfolding soundIn countersSound
 is-sound l others lent h =
-    guarded
-    (guarded (eq-eqb _ 0 (h .limits))
-    (guarded (used-is _ _ (record { media = h .media; controls = h .controls; sections = h .sections }))
-    (guarded (latest-is _ _ (h .plt) (h .tot))
-    (guarded (joined (h .packets) (h .tables)) (h .counts)))))
-    (guarded (guarded (h .objects) (guarded (h .messages) (h .kept)))
-    (guarded (h .mediaNames) (guarded (h .controlNames) (h .keys))))
+    let u = used-is (limitsOf l) (usedOf l) (record { media = h .media; controls = h .controls; sections = h .sections }) in
+    let x = latest-is (limitsOf l) (latestOf l) (h .plt) (h .tot) in
+    simp (h .limits, u, x, h .packets, h .tables, h .counts, h .objects, h .messages, h .kept, h .mediaNames, h .controlNames, h .keys)

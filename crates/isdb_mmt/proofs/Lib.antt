@@ -25,10 +25,12 @@ pub mod Run
 pub mod BookFacts
 pub mod Demand
 pub mod Smallness
+pub mod Guards
 pub mod Lent
 pub mod Names
-pub mod Views
-pub mod Checks
-pub mod Limits
-pub mod Opening
 pub mod Stored
+pub mod Sessions
+pub mod Views
+pub mod Limits
+pub mod Checks
+pub mod Opening

@@ -17,7 +17,7 @@ use Rattle.isdb_mmt.specs.Lent.{over, flag, flagByte, placesFrom, namesF
 use Rattle.isdb_mmt.specs.Limits.{asked}
 use Rattle.isdb_mmt.specs.Session.{Session, limitsFields, limitsOf, usedOf, latestOf, timeOf, countersOf}
 use Rattle.isdb_mmt.specs.Check.{lengthsOf, countFits, sound, soundIn, headSound, placesSound, namesSound, usedSound, latestSound, countersSound, mediaIn, controlsIn, sectionsIn}
-use Rattle.isdb_mmt.specs.View.{view, viewBy, Fresh, Opening}
+use Rattle.isdb_mmt.specs.View.{view, viewBy, Opening}
 use Rattle.isdb_mmt.specs.Kept.{zeros as noCounters}
 use Rattle.isdb_mmt.specs.Model.{opened}
 use Rattle.isdb_mmt.specs.Opening.{lent, openedState, openedSession, Opened}
@@ -28,7 +28,7 @@ use Rattle.isdb_mmt.specs.declared.decoder.head.Latest.{Latest}
 use Rattle.isdb_mmt.specs.declared.decoder.head.Time.{Time}
 use Rattle.isdb_mmt.specs.declared.decoder.counts.Counters.{Counters}
 use Rattle.isdb_mmt.proofs.Lent.{over-start, length-over}
-use Rattle.isdb_mmt.proofs.Limits.{state-long, all-passed, places-bound, areas-bound, packets-bound}
+use Rattle.isdb_mmt.proofs.Limits.{passed}
 
 -- `s` has come of `s₀` by zeros in the first `i` elements
 pub record Cleared (s₀ s : List ℕ) (i : ℕ) : Type 0 where
@@ -55,7 +55,7 @@ cleared-all s₀ s i c h =
     c .zeros ∙ rw (d, e, append-nil)
 
 -- `n` zeros
-abbrev pub zeros : ℕ → List ℕ
+abbrev zeros : ℕ → List ℕ
 zeros n = replicate n 0
 
 drop-zeros : (n m : ℕ) → drop n (zeros (n + m)) ≡ zeros m
@@ -91,7 +91,7 @@ opens-state l s m b h e f = f ∙ over-zeros (written (limitsFields l)) s m 57 1
 -- the answer `r` of an opening and what it leaves
 module _ (l : Limits) (state others objects messages tables : List ℕ) (r : ℕ) (e : r ≡ asked l (lengthsOf (lent state others objects messages tables))) where
   pub opens-long : r ≡ 0 → 13144 ≤ length state
-  opens-long z = state-long l (lengthsOf (lent state others objects messages tables)) (sym e ∙ z)
+  opens-long z = passed l (lengthsOf (lent state others objects messages tables)) (sym e ∙ z) .state
 
   pub opens : (state′ others′ : List ℕ) → r ≡ 0 → length others ≡ 256 → state′ ≡ over 0 (openedState l) state
       → others′ ≡ replicate (length others) 0
@@ -141,24 +141,6 @@ unfolding openedState
 opened-bytes l m =
     sym (front (openedState l) m 13144 (length-opened l)) ∙ append-assoc (written (limitsFields l)) (zeros 13087) (drop 13144 m)
 
--- a limit is read where it stands
-limit-read : (l : Limits) (m : List ℕ) → Fit (limitsFields l) → (k : ℕ)
-    → be (fieldAt k (limitsFields l) .width) (over 0 (openedState l) m) (offsetOf k (limitsFields l)) ≡ fieldAt k (limitsFields l) .value
-limit-read l m h k =
-    ap (λ (b : List ℕ). be (fieldAt k (limitsFields l) .width) b (offsetOf k (limitsFields l))) (opened-bytes l m)
-    ∙ read (limitsFields l) h k (zeros 13087 ++ drop 13144 m)
-
--- each number behind the limits is 0
-blank : (l : Limits) (m : List ℕ) (w at : ℕ) → 57 ≤ at → at + w ≤ 13144 → be w (over 0 (openedState l) m) at ≡ 0
-blank l m w at h b =
-    let e : 57 + (at - 57) ≡ at = omega arith in
-    let z : length (zeros 13087) ≡ 13087 = length-zeros 13087 in
-    ap (λ (x : List ℕ). be w x at) (opened-bytes l m)
-    ∙ ap (λ n. be w (written (limitsFields l) ++ (zeros 13087 ++ drop 13144 m)) n) (sym e)
-    ∙ be-behind w (written (limitsFields l)) (zeros 13087 ++ drop 13144 m) {n = 57} (length-written (limitsFields l)) (at - 57)
-    ∙ be-before w (zeros 13087) (drop 13144 m) (at - 57) (omega arith)
-    ∙ be-zeros w 13087 (at - 57)
-
 -- a head's fields at the start: no place in use, neither PLT nor TOT, no time, all counts 0
 abbrev pub noPlaces : Used
 noPlaces = record { «media_ids» = 0; «control_ids» = 0; sections = 0 }
@@ -189,17 +171,17 @@ noCounts =
 -- limits that pass the questions fit their fields
 limits-fit : (l : Limits) (n : Lengths) → asked l n ≡ 0 → Fit (limitsFields l)
 limits-fit l n e =
-    let q = all-passed l n e in
-    let p = places-bound l (q .places) in
-    let a = areas-bound l (q .areas) in
-    let k = packets-bound l (q .packets) in (
+    let p = passed l n e in (
       omega arith,
       (omega arith, (omega arith, (omega arith, (omega arith, (omega arith, (omega arith, (flag-fits (l .«pass_scrambled»), tt))))))),
     )
 
 module _ (l : Limits) (s : Session) (e : asked l (lengthsOf s) ≡ 0) where
+  -- a limit is read where it stands
   at-limit : (k : ℕ) → be (fieldAt k (limitsFields l) .width) (over 0 (openedState l) (s .state)) (offsetOf k (limitsFields l)) ≡ fieldAt k (limitsFields l) .value
-  at-limit k = limit-read l (s .state) (limits-fit l (lengthsOf s) e) k
+  at-limit k =
+      ap (λ (b : List ℕ). be (fieldAt k (limitsFields l) .width) b (offsetOf k (limitsFields l))) (opened-bytes l (s .state))
+      ∙ read (limitsFields l) (limits-fit l (lengthsOf s) e) k (zeros 13087 ++ drop 13144 (s .state))
 
   -- after an accepted opening the limits are those that it was given
   pub opened-limits : limitsOf (openedSession l s .state) ≡ l
@@ -219,8 +201,17 @@ module _ (l : Limits) (s : Session) (e : asked l (lengthsOf s) ≡ 0) where
       }
 
 module _ (l : Limits) (s : Session) where
+  -- each number behind the limits is 0, and each flag is off
   none : (w at : ℕ) → 57 ≤ at → at + w ≤ 13144 → be w (over 0 (openedState l) (s .state)) at ≡ 0
-  none = blank l (s .state)
+  none w at h b =
+      let e : 57 + (at - 57) ≡ at = omega arith in
+      let z : length (zeros 13087) ≡ 13087 = length-zeros 13087 in
+      let r = zeros 13087 ++ drop 13144 (s .state) in
+      ap (λ (x : List ℕ). be w x at) (opened-bytes l (s .state))
+      ∙ ap (λ n. be w (written (limitsFields l) ++ r) n) (sym e)
+      ∙ be-behind w (written (limitsFields l)) r {n = 57} (length-written (limitsFields l)) (at - 57)
+      ∙ be-before w (zeros 13087) (drop 13144 (s .state)) (at - 57) (omega arith)
+      ∙ be-zeros w 13087 (at - 57)
 
   off : (at : ℕ) → 57 ≤ at → at + 1 ≤ 13144 → flag (over 0 (openedState l) (s .state)) at ≡ false
   off at h b = flag-read false (be 1 (over 0 (openedState l) (s .state)) at) (none 1 at h b)
@@ -306,7 +297,7 @@ blank-sound l m others n e el eu et ec eo =
 pub opened-sound : (l : Limits) (s : Session) → asked l (lengthsOf s) ≡ 0 → sound (openedSession l s) ≡ true
 unfolding sound
 opened-sound l s e =
-    let h : 13144 ≤ length (s .state) = state-long l (lengthsOf s) e in
+    let h = passed l (lengthsOf s) e .state in
     blank-sound l (openedSession l s .state) (openedSession l s .others) (lengthsOf (openedSession l s))
     (ap (asked l) (opened-lengths l s h) ∙ e)
     (opened-limits l s e)

@@ -17,7 +17,7 @@ use Rattle.isdb_tlv.specs.Fields.{Field, written, Fit}
 use Rattle.isdb_tlv.proofs.Numbers.{be-drop, be-take}
 use Rattle.isdb_tlv.proofs.Fields.{be-behind, fieldAt, offsetOf, size, read, length-written}
 use Rattle.isdb_mmt.specs.Lent.{part, over, puts, flag, flagByte}
-use Rattle.isdb_mmt.specs.Session.{limitsOf, limitsFields, usedOf, usedFields, latestOf, latestFields, timeOf, timeFields, countersOf, countersFields, objectOf, statsOf, mediaOf, mediaFields, mediaPlaces, mediaSize, mediaAt, controlOf, controlFields, controlPlaces, controlSize, controlAt, sectionOf, sectionFields, sectionPlaces, sectionSize, sectionAt}
+use Rattle.isdb_mmt.specs.Session.{limitsOf, limitsFields, usedOf, usedFields, latestOf, latestFields, timeOf, timeFields, countersOf, countersFields, heldObjectOf, statsOf, mediaPlaceOf, mediaFields, mediaPlaces, mediaSize, mediaAt, controlPlaceOf, controlFields, controlPlaces, controlSize, controlAt, sectionPlaceOf, sectionFields, sectionPlaces, sectionSize, sectionAt}
 use Rattle.isdb_mmt.specs.declared.decoder.limits.Limits.{Limits}
 use Rattle.isdb_mmt.specs.declared.decoder.counts.Counters.{Counters}
 use Rattle.isdb_mmt.specs.declared.decoder.head.Used.{Used}
@@ -114,8 +114,8 @@ counters-held x l h =
       «split_errors» = h 11 i;
     }
 
-media-held : (x : Media) (p : List ℕ) → Holds 0 (mediaFields x) p → mediaOf p ≡ x
-unfolding mediaOf objectOf statsOf
+media-held : (x : Media) (p : List ℕ) → Holds 0 (mediaFields x) p → mediaPlaceOf p ≡ x
+unfolding mediaPlaceOf heldObjectOf statsOf
 media-held x p h =
     let o = x .object in
     λ i.
@@ -158,8 +158,8 @@ media-held x p h =
           };
     }
 
-control-held : (x : Control) (p : List ℕ) → Holds 0 (controlFields x) p → controlOf p ≡ x
-unfolding controlOf
+control-held : (x : Control) (p : List ℕ) → Holds 0 (controlFields x) p → controlPlaceOf p ≡ x
+unfolding controlPlaceOf
 control-held x p h =
     λ i.
     record {
@@ -174,18 +174,18 @@ control-held x p h =
       «mpt_length» = h 8 i;
     }
 
-section-held : (x : KeptSection) (p : List ℕ) → Holds 0 (sectionFields x) p → sectionOf p ≡ x
-unfolding sectionOf
+section-held : (x : KeptSection) (p : List ℕ) → Holds 0 (sectionFields x) p → sectionPlaceOf p ≡ x
+unfolding sectionPlaceOf
 section-held x p h = λ i. record { key = h 0 i; version = h 1 i; length = h 2 i }
 
 -- of a place's bytes
-pub media-back : (m : Media) → Fit (mediaFields m) → mediaOf (written (mediaFields m)) ≡ m
+pub media-back : (m : Media) → Fit (mediaFields m) → mediaPlaceOf (written (mediaFields m)) ≡ m
 media-back m f = media-held m (written (mediaFields m)) (holds-written (mediaFields m) f)
 
-pub control-back : (c : Control) → Fit (controlFields c) → controlOf (written (controlFields c)) ≡ c
+pub control-back : (c : Control) → Fit (controlFields c) → controlPlaceOf (written (controlFields c)) ≡ c
 control-back c f = control-held c (written (controlFields c)) (holds-written (controlFields c) f)
 
-pub section-back : (x : KeptSection) → Fit (sectionFields x) → sectionOf (written (sectionFields x)) ≡ x
+pub section-back : (x : KeptSection) → Fit (sectionFields x) → sectionPlaceOf (written (sectionFields x)) ≡ x
 section-back x f = section-held x (written (sectionFields x)) (holds-written (sectionFields x) f)
 
 -- of the state: a value whose fields are stored from `at` on is read again there
@@ -218,15 +218,15 @@ back-at of fs at x s e h =
 
 pub media-at-back : (x : Media) (i : ℕ) (s : List ℕ) → Fit (mediaFields x) → i < 64 → 13144 ≤ length s
     → mediaAt (over (mediaPlaces + mediaSize * i) (written (mediaFields x)) s) i ≡ x
-media-at-back x i s f b h = back-at mediaOf (mediaFields x) (mediaPlaces + mediaSize * i) x s (media-back x f) (omega arith)
+media-at-back x i s f b h = back-at mediaPlaceOf (mediaFields x) (mediaPlaces + mediaSize * i) x s (media-back x f) (omega arith)
 
 pub control-at-back : (x : Control) (i : ℕ) (s : List ℕ) → Fit (controlFields x) → i < 32 → 13144 ≤ length s
     → controlAt (over (controlPlaces + controlSize * i) (written (controlFields x)) s) i ≡ x
-control-at-back x i s f b h = back-at controlOf (controlFields x) (controlPlaces + controlSize * i) x s (control-back x f) (omega arith)
+control-at-back x i s f b h = back-at controlPlaceOf (controlFields x) (controlPlaces + controlSize * i) x s (control-back x f) (omega arith)
 
 pub section-at-back : (x : KeptSection) (i : ℕ) (s : List ℕ) → Fit (sectionFields x) → i < 512 → 13144 ≤ length s
     → sectionAt (over (sectionPlaces + sectionSize * i) (written (sectionFields x)) s) i ≡ x
-section-at-back x i s f b h = back-at sectionOf (sectionFields x) (sectionPlaces + sectionSize * i) x s (section-back x f) (omega arith)
+section-at-back x i s f b h = back-at sectionPlaceOf (sectionFields x) (sectionPlaces + sectionSize * i) x s (section-back x f) (omega arith)
 
 -- ---- what is written elsewhere leaves it
 

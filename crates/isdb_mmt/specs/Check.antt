@@ -8,7 +8,7 @@ use lib.ListN.{length}
 use Rattle.isdb_tlv.specs.Guards.{if_then_else_, _≤?_, _=?_}
 use Rattle.isdb_mmt.specs.Lent.{placesFrom, namesFrom, distinct, every}
 use Rattle.isdb_mmt.specs.Limits.{asked}
-use Rattle.isdb_mmt.specs.Session.{Session, limitsOf, usedOf, latestOf, countersOf, mediaOf, controlOf, sectionOf, mediaPlaces, mediaSize, controlPlaces, controlSize, sectionPlaces, sectionSize}
+use Rattle.isdb_mmt.specs.Session.{Session, limitsOf, usedOf, latestOf, countersOf, mediaPlaceOf, controlPlaceOf, sectionPlaceOf, mediaPlaces, mediaSize, controlPlaces, controlSize, sectionPlaces, sectionSize}
 use Rattle.isdb_mmt.specs.declared.decoder.limits.Limits.{Limits}
 use Rattle.isdb_mmt.specs.declared.decoder.limits.Lengths.{Lengths}
 use Rattle.isdb_mmt.specs.declared.decoder.counts.AssetStats.{AssetStats}
@@ -89,16 +89,16 @@ countersSound c = if every countFits (packetCounts c) then every countFits (tabl
 
 -- the places in use of each sort, from the state
 unfoldable pub mediaIn : List ℕ → List Media
-unfolding placesFrom mediaOf
-mediaIn l = map mediaOf (placesFrom (usedOf l .«media_ids») mediaSize mediaPlaces l)
+unfolding placesFrom mediaPlaceOf
+mediaIn l = map mediaPlaceOf (placesFrom (usedOf l .«media_ids») mediaSize mediaPlaces l)
 
 unfoldable pub controlsIn : List ℕ → List Control
-unfolding placesFrom controlOf
-controlsIn l = map controlOf (placesFrom (usedOf l .«control_ids») controlSize controlPlaces l)
+unfolding placesFrom controlPlaceOf
+controlsIn l = map controlPlaceOf (placesFrom (usedOf l .«control_ids») controlSize controlPlaces l)
 
 unfoldable pub sectionsIn : List ℕ → List KeptSection
-unfolding placesFrom sectionOf
-sectionsIn l = map sectionOf (placesFrom (usedOf l .sections) sectionSize sectionPlaces l)
+unfolding placesFrom sectionPlaceOf
+sectionsIn l = map sectionPlaceOf (placesFrom (usedOf l .sections) sectionSize sectionPlaces l)
 
 -- limits, with the buffers as they are lent now; what the head has; the counts of table ids
 unfoldable pub headSound : List ℕ → List ℕ → Lengths → Bool

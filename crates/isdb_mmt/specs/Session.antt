@@ -131,8 +131,8 @@ abbrev pub countersFields : Counters → List Field
 countersFields c = packetFields c ++ tableFields c
 
 -- a media place
-unfoldable pub objectOf : List ℕ → Object
-objectOf p =
+unfoldable pub heldObjectOf : List ℕ → Object
+heldObjectOf p =
     record {
       «mpu_sequence_number» = be 4 p 19;
       rap = flag p 23;
@@ -164,9 +164,9 @@ statsOf p =
       malformed = be 8 p 112;
     }
 
-unfoldable pub mediaOf : List ℕ → Media
-unfolding objectOf statsOf
-mediaOf p =
+unfoldable pub mediaPlaceOf : List ℕ → Media
+unfolding heldObjectOf statsOf
+mediaPlaceOf p =
     record {
       «packet_id» = be 4 p 0;
       seen = flag p 4;
@@ -175,7 +175,7 @@ mediaOf p =
       mpu = be 4 p 10;
       «first_mpu» = be 4 p 14;
       held = flag p 18;
-      object = objectOf p;
+      object = heldObjectOf p;
       stats = statsOf p;
     }
 
@@ -227,8 +227,8 @@ abbrev pub mediaFields : Media → List Field
 mediaFields m = numberFields m ++ (objectFields (m .object) ++ statsFields (m .stats))
 
 -- a control place
-unfoldable pub controlOf : List ℕ → Control
-controlOf p =
+unfoldable pub controlPlaceOf : List ℕ → Control
+controlPlaceOf p =
     record {
       «packet_id» = be 4 p 0;
       seen = flag p 4;
@@ -256,18 +256,18 @@ abbrev pub controlFields : Control → List Field
 controlFields c = lineFields c ++ (field 1 (flagByte (c .mpt)) ∷ field 4 (c .«mpt_length») ∷ [])
 
 -- a section place
-unfoldable pub sectionOf : List ℕ → KeptSection
-sectionOf p = record { key = be 4 p 0; version = be 1 p 4; length = be 4 p 5 }
+unfoldable pub sectionPlaceOf : List ℕ → KeptSection
+sectionPlaceOf p = record { key = be 4 p 0; version = be 1 p 4; length = be 4 p 5 }
 
 abbrev pub sectionFields : KeptSection → List Field
 sectionFields x = field 4 (x .key) ∷ field 1 (x .version) ∷ field 4 (x .length) ∷ []
 
 -- the place with the index `i`
 abbrev pub mediaAt : List ℕ → ℕ → Media
-mediaAt l i = mediaOf (part (mediaPlaces + mediaSize * i) mediaSize l)
+mediaAt l i = mediaPlaceOf (part (mediaPlaces + mediaSize * i) mediaSize l)
 
 abbrev pub controlAt : List ℕ → ℕ → Control
-controlAt l i = controlOf (part (controlPlaces + controlSize * i) controlSize l)
+controlAt l i = controlPlaceOf (part (controlPlaces + controlSize * i) controlSize l)
 
 abbrev pub sectionAt : List ℕ → ℕ → KeptSection
-sectionAt l i = sectionOf (part (sectionPlaces + sectionSize * i) sectionSize l)
+sectionAt l i = sectionPlaceOf (part (sectionPlaces + sectionSize * i) sectionSize l)

@@ -51,9 +51,9 @@ mfuOf o b =
     }
 
 -- a media place; the range of MPU numbers ends with the last one
-unfoldable pub assetOf : Media → Bytes → Asset
+unfoldable pub assetOfPlace : Media → Bytes → Asset
 unfolding mfuOf
-assetOf m b =
+assetOfPlace m b =
     record {
       number = given (m .seen) (m .sequence);
       mpu = given (m .«mpu_seen») (m .mpu);
@@ -88,7 +88,7 @@ abbrev pub tableAt : Limits → Session → ℕ → ℕ → Bytes
 tableAt l s i n = part (i * l .«table_area») n (s .tables)
 
 abbrev pub assetEntry : Limits → Session → ℕ → Media → ℕ × Asset
-assetEntry l s i m = (m .«packet_id», assetOf m (part (i * l .«mfu_area») (m .object .length) (s .objects)))
+assetEntry l s i m = (m .«packet_id», assetOfPlace m (part (i * l .«mfu_area») (m .object .length) (s .objects)))
 
 abbrev pub controlEntry : Limits → Session → ℕ → Control → ℕ × ControlState
 controlEntry l s i c = (
@@ -117,7 +117,7 @@ countsOf c =
     }
 
 unfoldable pub viewBy : Limits → Session → State
-unfolding indexed assetOf controlStateOf
+unfolding indexed assetOfPlace controlStateOf
 viewBy l s =
     record {
       passing = l .«pass_scrambled»;

@@ -5,7 +5,7 @@ ghost use mathlib.Core.List.{map};
 ghost use Prim.Native.Nat.{_≤_};
 ghost use lib.ListN.{length};
 ghost use Rattle.isdb_mmt.specs.Lent.{placesFrom, every};
-ghost use Rattle.isdb_mmt.specs.Session.{limitsOf, usedOf, mediaOf, controlOf, sectionOf};
+ghost use Rattle.isdb_mmt.specs.Session.{limitsOf, usedOf, mediaPlaceOf, controlPlaceOf, sectionPlaceOf};
 ghost use Rattle.isdb_mmt.specs.Check.{countFits, statsCounts, packetCounts, tableCounts, lengthFits, mediaSound, controlSound, sectionSound, usedSound, latestSound, countersSound, headSound, placesSound, namesSound, soundIn, PlacesThere};
 use crate::decoder::control;
 use crate::decoder::control::Control;
@@ -117,7 +117,20 @@ fn counters_fit(c: Counters) -> bool
     false
 }
 
-fn others_fit(others: &[u64]) -> bool
+// The bits from 53 on of all counts together. No branch in the loop, so that it runs on several counts at once.
+fn high_bits(others: &[u64]) -> u64
+    ensures { λ r. ⌜ (r ≡ 0 → every countFits (now (others .entry)) ≡ true) ⌝ }
+{
+    let mut bits = 0u64;
+    let mut i = 0;
+    while i < others.len() {
+        bits = bits | (others[i] >> 53);
+        i += 1;
+    }
+    bits
+}
+
+fn each_fits(others: &[u64]) -> bool
     ensures { λ r. ⌜ r ≡ every countFits (now (others .entry)) ⌝ }
 {
     let mut i = 0;
@@ -128,6 +141,16 @@ fn others_fit(others: &[u64]) -> bool
         i += 1;
     }
     true
+}
+
+// 2^53 has a bit there and fits, so a bit decides nothing yet.
+fn others_fit(others: &[u64]) -> bool
+    ensures { λ r. ⌜ r ≡ every countFits (now (others .entry)) ⌝ }
+{
+    if high_bits(others) == 0 {
+        return true;
+    }
+    each_fits(others)
 }
 
 fn used_fit(l: Limits, u: Used) -> bool
@@ -152,7 +175,7 @@ fn latest_fits(l: Limits, x: Latest) -> bool
 }
 
 fn media_fits(l: Limits, p: &[u8]) -> bool
-    ensures { λ r. ⌜ r ≡ mediaSound l (mediaOf (now (p .entry))) ⌝ }
+    ensures { λ r. ⌜ r ≡ mediaSound l (mediaPlaceOf (now (p .entry))) ⌝ }
 {
     if length_fits(place::flag(p, 18), bytes::get_u32(p, 44), l.mfu_area) {
         return stats_fit(counts::stats_of(p));
@@ -170,14 +193,14 @@ fn control_fits(l: Limits, c: Control) -> bool
 }
 
 fn section_fits(l: Limits, p: &[u8]) -> bool
-    ensures { λ r. ⌜ r ≡ sectionSound l (sectionOf (now (p .entry))) ⌝ }
+    ensures { λ r. ⌜ r ≡ sectionSound l (sectionPlaceOf (now (p .entry))) ⌝ }
 {
     bytes::get_u32(p, 5) as u64 <= l.table_area
 }
 
 fn all_media_fit(s: &[u8], l: Limits, n: usize) -> bool
     requires { ⌜ n ≤ 64 ⌝ }
-    ensures { λ r. ⌜ r ≡ every (mediaSound l) (map mediaOf (placesFrom n 120 184 (now (s .entry)))) ⌝ }
+    ensures { λ r. ⌜ r ≡ every (mediaSound l) (map mediaPlaceOf (placesFrom n 120 184 (now (s .entry)))) ⌝ }
 {
     let mut i = 0;
     let mut at = 184;
@@ -193,7 +216,7 @@ fn all_media_fit(s: &[u8], l: Limits, n: usize) -> bool
 
 fn all_controls_fit(s: &[u8], l: Limits, n: usize) -> bool
     requires { ⌜ n ≤ 32 ⌝ }
-    ensures { λ r. ⌜ r ≡ every (controlSound l) (map controlOf (placesFrom n 21 7864 (now (s .entry)))) ⌝ }
+    ensures { λ r. ⌜ r ≡ every (controlSound l) (map controlPlaceOf (placesFrom n 21 7864 (now (s .entry)))) ⌝ }
 {
     let mut i = 0;
     let mut at = 7864;
@@ -209,7 +232,7 @@ fn all_controls_fit(s: &[u8], l: Limits, n: usize) -> bool
 
 fn all_sections_fit(s: &[u8], l: Limits, n: usize) -> bool
     requires { ⌜ n ≤ 512 ⌝ }
-    ensures { λ r. ⌜ r ≡ every (sectionSound l) (map sectionOf (placesFrom n 9 8536 (now (s .entry)))) ⌝ }
+    ensures { λ r. ⌜ r ≡ every (sectionSound l) (map sectionPlaceOf (placesFrom n 9 8536 (now (s .entry)))) ⌝ }
 {
     let mut i = 0;
     let mut at = 8536;
@@ -262,13 +285,14 @@ fn names_fit(s: &[u8]) -> bool
     ensures { λ r. ⌜ r ≡ namesSound (now (s .entry)) ⌝ }
 {
     let u = head::load_used(s);
-    if !place::no_name_twice(s, 184, 120, u.media_ids as usize) {
+    let mut marks = [0u64; 512];
+    if !place::no_name_twice(s, 184, 120, u.media_ids as usize, &mut marks) {
         return false;
     }
-    if !place::no_name_twice(s, 7864, 21, u.control_ids as usize) {
+    if !place::no_name_twice(s, 7864, 21, u.control_ids as usize, &mut marks) {
         return false;
     }
-    place::no_name_twice(s, 8536, 9, u.sections as usize)
+    place::no_name_twice(s, 8536, 9, u.sections as usize, &mut marks)
 }
 
 // Whether state and counts hold a session, with areas of so many bytes lent.

@@ -5,7 +5,7 @@ ghost use Prim.Native.Nat.{_+_, _*_, _≤_, _<_};
 ghost use lib.ListN.{length};
 ghost use Rattle.isdb_tlv.specs.Fields.{written};
 ghost use Rattle.isdb_mmt.specs.Lent.{over, puts};
-ghost use Rattle.isdb_mmt.specs.Session.{controlOf, lineFields, controlFields, controlAt};
+ghost use Rattle.isdb_mmt.specs.Session.{controlPlaceOf, lineFields, controlFields, controlAt};
 use crate::decoder::place::flag;
 use crate::decoder::place::put_flag;
 use isdb_tlv::bytes;
@@ -25,7 +25,7 @@ pub struct Control {
 }
 
 pub fn control_of(p: &[u8]) -> Control
-    ensures { λ r. ⌜ r ≡ controlOf (now (p .entry)) ⌝ }
+    ensures { λ r. ⌜ r ≡ controlPlaceOf (now (p .entry)) ⌝ }
 {
     Control {
         packet_id: bytes::get_u32(p, 0),

@@ -5,7 +5,7 @@ ghost use Prim.Native.Nat.{_+_, _*_, _≤_, _<_};
 ghost use lib.ListN.{length};
 ghost use Rattle.isdb_tlv.specs.Fields.{written};
 ghost use Rattle.isdb_mmt.specs.Lent.{over, puts};
-ghost use Rattle.isdb_mmt.specs.Session.{numberFields, headerFields, objectOf, objectFields, mediaOf, mediaFields, mediaAt};
+ghost use Rattle.isdb_mmt.specs.Session.{numberFields, headerFields, heldObjectOf, objectFields, mediaPlaceOf, mediaFields, mediaAt};
 use crate::decoder::counts;
 use crate::decoder::counts::AssetStats;
 use crate::decoder::place::flag;
@@ -40,7 +40,7 @@ pub struct Media {
 }
 
 fn object_of(p: &[u8]) -> Object
-    ensures { λ r. ⌜ r ≡ objectOf (now (p .entry)) ⌝ }
+    ensures { λ r. ⌜ r ≡ heldObjectOf (now (p .entry)) ⌝ }
 {
     let header = MfuHeader {
         movie_fragment_sequence_number: bytes::get_u32(p, 25),
@@ -61,7 +61,7 @@ fn object_of(p: &[u8]) -> Object
 }
 
 fn media_of(p: &[u8]) -> Media
-    ensures { λ r. ⌜ r ≡ mediaOf (now (p .entry)) ⌝ }
+    ensures { λ r. ⌜ r ≡ mediaPlaceOf (now (p .entry)) ⌝ }
 {
     let object = object_of(p);
     let stats = counts::stats_of(p);

@@ -88,12 +88,12 @@ fn is_among(s: &[u8], at: usize, size: usize, n: usize, x: u32, mark: u64) -> bo
     }
 }
 
-// Whether no name stands twice. A name is compared with the earlier ones only where its cell is marked.
-pub fn no_name_twice(s: &[u8], at: usize, size: usize, n: usize) -> bool
-    requires { ⌜ at + n * size ≤ length (now s) ⌝ }
+// Whether no name stands twice. A name is compared with the earlier ones only where its cell is marked; marks that are there
+// before do not matter.
+pub fn no_name_twice(s: &[u8], at: usize, size: usize, n: usize, marks: &mut [u64]) -> bool
+    requires { ⌜ (at + n * size ≤ length (now s)) × (length (now marks) ≡ 512) ⌝ }
     ensures { λ r. ⌜ r ≡ distinct (namesFrom n size at (now (s .entry))) ⌝ }
 {
-    let mut marks = [0u64; 512];
     let mut i = 0;
     let mut p = at;
     while i < n {

@@ -4,7 +4,7 @@ ghost use Prim.Native.Nat.{_+_, _*_, _≤_, _<_};
 ghost use lib.ListN.{length};
 ghost use Rattle.isdb_tlv.specs.Fields.{written};
 ghost use Rattle.isdb_mmt.specs.Lent.{over};
-ghost use Rattle.isdb_mmt.specs.Session.{sectionOf, sectionFields, sectionAt};
+ghost use Rattle.isdb_mmt.specs.Session.{sectionPlaceOf, sectionFields, sectionAt};
 use isdb_tlv::bytes;
 
 pub struct KeptSection {
@@ -15,7 +15,7 @@ pub struct KeptSection {
 }
 
 fn section_of(p: &[u8]) -> KeptSection
-    ensures { λ r. ⌜ r ≡ sectionOf (now (p .entry)) ⌝ }
+    ensures { λ r. ⌜ r ≡ sectionPlaceOf (now (p .entry)) ⌝ }
 {
     KeptSection {
         key: bytes::get_u32(p, 0),

@@ -3,7 +3,7 @@ use borrow.Author.Needs.{needs}
 use Prim.Native.Nat.{_+_, _-_, _*_}
 use mathlib.Core.Path.{_≡_}
 use mathlib.Core.List.{map}
-use Rattle.isdb_mmt.specs.Session.{controlOf}
+use Rattle.isdb_mmt.specs.Session.{controlPlaceOf}
 use Rattle.isdb_mmt.specs.Check.{controlSound}
 use Rattle.isdb_mmt.specs.Lent.{placesFrom, every}
 use Rattle.isdb_mmt.proofs.Checks.{place-fails, place-fits, places-end}
@@ -11,7 +11,7 @@ use Rattle.isdb_mmt.proofs.decoder.check.all_controls_fit.Statement.{st
 use Rattle.isdb_mmt.proofs.decoder.check.all_controls_fit.Tie as tie
 
 abbrev Inv-loop : tie.InvT-loop
-Inv-loop s l n i₀ at₀ i at = (at ≡ 7864 + 21 * i) × (every (controlSound l) (map controlOf (placesFrom n 21 7864 s)) ≡ every (controlSound l) (map controlOf (placesFrom (n - i) 21 at s)))
+Inv-loop s l n i₀ at₀ i at = (at ≡ 7864 + 21 * i) × (every (controlSound l) (map controlPlaceOf (placesFrom n 21 7864 s)) ≡ every (controlSound l) (map controlPlaceOf (placesFrom (n - i) 21 at s)))
 
 abbrev μ-loop : tie.MeasureT-loop
 μ-loop s l n i₀ at₀ i at = n - i

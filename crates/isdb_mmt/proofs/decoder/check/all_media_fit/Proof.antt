@@ -3,7 +3,7 @@ use borrow.Author.Needs.{needs}
 use Prim.Native.Nat.{_+_, _-_, _*_}
 use mathlib.Core.Path.{_≡_}
 use mathlib.Core.List.{map}
-use Rattle.isdb_mmt.specs.Session.{mediaOf}
+use Rattle.isdb_mmt.specs.Session.{mediaPlaceOf}
 use Rattle.isdb_mmt.specs.Check.{mediaSound}
 use Rattle.isdb_mmt.specs.Lent.{placesFrom, every}
 use Rattle.isdb_mmt.proofs.Checks.{place-fails, place-fits, places-end}
@@ -11,7 +11,7 @@ use Rattle.isdb_mmt.proofs.decoder.check.all_media_fit.Statement.{state
 use Rattle.isdb_mmt.proofs.decoder.check.all_media_fit.Tie as tie
 
 abbrev Inv-loop : tie.InvT-loop
-Inv-loop s l n i₀ at₀ i at = (at ≡ 184 + 120 * i) × (every (mediaSound l) (map mediaOf (placesFrom n 120 184 s)) ≡ every (mediaSound l) (map mediaOf (placesFrom (n - i) 120 at s)))
+Inv-loop s l n i₀ at₀ i at = (at ≡ 184 + 120 * i) × (every (mediaSound l) (map mediaPlaceOf (placesFrom n 120 184 s)) ≡ every (mediaSound l) (map mediaPlaceOf (placesFrom (n - i) 120 at s)))
 
 abbrev μ-loop : tie.MeasureT-loop
 μ-loop s l n i₀ at₀ i at = n - i

@@ -3,7 +3,7 @@ use borrow.Author.Needs.{needs}
 use Prim.Native.Nat.{_+_, _-_, _*_}
 use mathlib.Core.Path.{_≡_}
 use mathlib.Core.List.{map}
-use Rattle.isdb_mmt.specs.Session.{sectionOf}
+use Rattle.isdb_mmt.specs.Session.{sectionPlaceOf}
 use Rattle.isdb_mmt.specs.Check.{sectionSound}
 use Rattle.isdb_mmt.specs.Lent.{placesFrom, every}
 use Rattle.isdb_mmt.proofs.Checks.{place-fails, place-fits, places-end}
@@ -11,7 +11,7 @@ use Rattle.isdb_mmt.proofs.decoder.check.all_sections_fit.Statement.{st
 use Rattle.isdb_mmt.proofs.decoder.check.all_sections_fit.Tie as tie
 
 abbrev Inv-loop : tie.InvT-loop
-Inv-loop s l n i₀ at₀ i at = (at ≡ 8536 + 9 * i) × (every (sectionSound l) (map sectionOf (placesFrom n 9 8536 s)) ≡ every (sectionSound l) (map sectionOf (placesFrom (n - i) 9 at s)))
+Inv-loop s l n i₀ at₀ i at = (at ≡ 8536 + 9 * i) × (every (sectionSound l) (map sectionPlaceOf (placesFrom n 9 8536 s)) ≡ every (sectionSound l) (map sectionPlaceOf (placesFrom (n - i) 9 at s)))
 
 abbrev μ-loop : tie.MeasureT-loop
 μ-loop s l n i₀ at₀ i at = n - i

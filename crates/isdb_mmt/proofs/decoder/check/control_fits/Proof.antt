@@ -1,5 +1,5 @@
 use Rattle.isdb_mmt.specs.Check.{controlSound}
-use Rattle.isdb_mmt.proofs.Checks.{both, not-both}
+use Rattle.isdb_mmt.proofs.Guards.{both, not-both}
 use borrow.Author.Needs.{needs}
 use Rattle.isdb_mmt.proofs.decoder.check.control_fits.Statement.{statement}
 use Rattle.isdb_mmt.proofs.decoder.check.control_fits.Tie as tie

@@ -1,40 +1,10 @@
+use mathlib.Core.Path.{sym}
 use borrow.Author.Needs.{needs}
-use Prim.Native.Nat.{_-_}
-use mathlib.Core.Path.{_≡_}
-use lib.ListN.{length, drop}
-use Rattle.isdb_mmt.specs.Check.{countFits}
-use Rattle.isdb_mmt.specs.Lent.{every}
-use Rattle.isdb_mmt.proofs.Checks.{count-fails, count-fits, counts-end}
 use Rattle.isdb_mmt.proofs.decoder.check.others_fit.Statement.{statement}
 use Rattle.isdb_mmt.proofs.decoder.check.others_fit.Tie as tie
 
-abbrev Inv-loop : tie.InvT-loop
-Inv-loop others i₀ i = every countFits others ≡ every countFits (drop i others)
-
-abbrev μ-loop : tie.MeasureT-loop
-μ-loop others i₀ i = length others - i
-
-returns : tie.Need-returns Inv-loop μ-loop
-returns c = search (needs, count-fails)
-
-loop-again : tie.Need-loop-again Inv-loop μ-loop
-loop-again c = search (needs, count-fits)
-
-returns-2 : tie.Need-returns-2 Inv-loop μ-loop
-returns-2 c = search (needs, counts-end)
+returns : tie.Need-returns
+returns c = sym (c .before .high-bits .ensures (c .if1 .taken))
 
 pub others-fit-spec : {M : Type 1} → statement M
-others-fit-spec =
-    tie.close
-    (tie.spec
-    Inv-loop
-    μ-loop
-    (λ c. search needs)
-    (λ c. search needs)
-    (λ c. search needs)
-    (λ c κs. search needs)
-    returns
-    (λ c. search needs)
-    (λ c. search needs)
-    loop-again
-    returns-2)
+others-fit-spec = tie.close (tie.spec (λ c κs. search needs) returns (λ c κs. search needs) (λ c. search needs))

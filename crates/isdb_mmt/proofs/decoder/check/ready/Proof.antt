@@ -1,5 +1,6 @@
 use Rattle.isdb_mmt.specs.Check.{soundIn}
-use Rattle.isdb_mmt.proofs.Checks.{guard-fails, guard-holds, head-there}
+use Rattle.isdb_mmt.proofs.Guards.{guard-fails, guard-holds}
+use Rattle.isdb_mmt.proofs.Checks.{head-there}
 use borrow.Author.Needs.{needs}
 use Rattle.isdb_mmt.proofs.decoder.check.ready.Statement.{statement}
 use Rattle.isdb_mmt.proofs.decoder.check.ready.Tie as tie

@@ -1,10 +1,10 @@
-use Rattle.isdb_mmt.specs.Session.{sectionOf}
+use Rattle.isdb_mmt.specs.Session.{sectionPlaceOf}
 use borrow.Author.Needs.{needs}
 use Rattle.isdb_mmt.proofs.decoder.check.section_fits.Statement.{statement}
 use Rattle.isdb_mmt.proofs.decoder.check.section_fits.Tie as tie
 
 returns : tie.Need-returns
-unfolding sectionOf
+unfolding sectionPlaceOf
 returns c = rw (← c .before .get-u32 .ensures)
 
 pub section-fits-spec : {M : Type 1} → statement M

@@ -1,10 +1,10 @@
-use Rattle.isdb_mmt.specs.Session.{controlOf}
+use Rattle.isdb_mmt.specs.Session.{controlPlaceOf}
 use borrow.Author.Needs.{needs}
 use Rattle.isdb_mmt.proofs.decoder.control.control_of.Statement.{statement}
 use Rattle.isdb_mmt.proofs.decoder.control.control_of.Tie as tie
 
 returns : tie.Need-returns
-unfolding controlOf
+unfolding controlPlaceOf
 returns c = cc
 
 pub control-of-spec : {M : Type 1} → statement M

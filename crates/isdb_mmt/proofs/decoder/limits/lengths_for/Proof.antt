@@ -1,24 +1,24 @@
 use native.Mathlib.Omega.{arith}
 use borrow.Author.Needs.{needs}
 use Rattle.isdb_mmt.specs.Limits.{lengthsFor}
-use Rattle.isdb_mmt.proofs.Limits.{objects-fit, messages-fit, tables-fit, places-bound}
+use Rattle.isdb_mmt.proofs.Limits.{in-ranges, areas-fit}
 use Rattle.isdb_mmt.proofs.decoder.limits.lengths_for.Statement.{statement}
 use Rattle.isdb_mmt.proofs.decoder.limits.lengths_for.Tie as tie
 
 mul-t2 : tie.Need-mul-t2
-mul-t2 c = search (needs, objects-fit)
+mul-t2 c = let r = in-ranges _ (c .before .pre .0) (c .before .pre .1) in areas-fit _ _ (omega arith) (omega arith)
 
 mul-t3 : tie.Need-mul-t3
-mul-t3 c = search (needs, messages-fit)
+mul-t3 c = let r = in-ranges _ (c .before .before .pre .0) (c .before .before .pre .1) in areas-fit _ _ (omega arith) (omega arith)
 
 add-t4 : tie.Need-add-t4
-add-t4 c = let b = places-bound _ (c .before .before .before .pre .0) in omega arith
+add-t4 c = let r = in-ranges _ (c .before .before .before .pre .0) (c .before .before .before .pre .1) in omega arith
 
 add-t5 : tie.Need-add-t5
-add-t5 c = let b = places-bound _ (c .before .before .before .pre .0) in omega arith
+add-t5 c = let r = in-ranges _ (c .before .before .before .pre .0) (c .before .before .before .pre .1) in omega arith
 
 mul-t6 : tie.Need-mul-t6
-mul-t6 c = search (needs, tables-fit)
+mul-t6 c = let r = in-ranges _ (c .before .before .before .before .pre .0) (c .before .before .before .before .pre .1) in areas-fit _ _ (omega arith) (omega arith)
 
 returns : tie.Need-returns
 unfolding lengthsFor

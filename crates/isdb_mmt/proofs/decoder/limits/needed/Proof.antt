@@ -1,4 +1,4 @@
-use Rattle.isdb_mmt.proofs.Limits.{passed}
+use Rattle.isdb_mmt.proofs.Guards.{yes}
 use Rattle.isdb_mmt.specs.Limits.{neededOf}
 use borrow.Author.Needs.{needs}
 use Rattle.isdb_mmt.proofs.decoder.limits.needed.Statement.{statement}
@@ -17,7 +17,7 @@ unfolding neededOf
 returns-3 c = simp (← c .before .before .before .before .before .places-in-range .ensures, c .before .before .before .before .if1 .left, ← c .before .before .before .areas-in-range .ensures, c .before .before .if2 .left, ← c .before .packets-in-range .ensures, c .if3 .taken)
 
 lengths-for-requires : tie.Need-lengths-for-requires
-lengths-for-requires c κs = (passed _ _ (c .before .before .before .before .before .places-in-range .ensures) (c .before .before .before .before .if1 .left), passed _ _ (c .before .before .before .areas-in-range .ensures) (c .before .before .if2 .left))
+lengths-for-requires c κs = (yes (c .before .before .before .before .before .places-in-range .ensures) (c .before .before .before .before .if1 .left), yes (c .before .before .before .areas-in-range .ensures) (c .before .before .if2 .left))
 
 returns-4 : tie.Need-returns-4
 unfolding neededOf

@@ -1,10 +1,10 @@
-use Rattle.isdb_mmt.specs.Session.{objectOf}
+use Rattle.isdb_mmt.specs.Session.{heldObjectOf}
 use borrow.Author.Needs.{needs}
 use Rattle.isdb_mmt.proofs.decoder.media.object_of.Statement.{statement}
 use Rattle.isdb_mmt.proofs.decoder.media.object_of.Tie as tie
 
 returns : tie.Need-returns
-unfolding objectOf
+unfolding heldObjectOf
 returns c = cc
 
 pub object-of-spec : {M : Type 1} → statement M

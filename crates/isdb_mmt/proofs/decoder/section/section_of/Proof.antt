@@ -1,10 +1,10 @@
-use Rattle.isdb_mmt.specs.Session.{sectionOf}
+use Rattle.isdb_mmt.specs.Session.{sectionPlaceOf}
 use borrow.Author.Needs.{needs}
 use Rattle.isdb_mmt.proofs.decoder.section.section_of.Statement.{statement}
 use Rattle.isdb_mmt.proofs.decoder.section.section_of.Tie as tie
 
 returns : tie.Need-returns
-unfolding sectionOf
+unfolding sectionPlaceOf
 returns c = cc
 
 pub section-of-spec : {M : Type 1} → statement M
