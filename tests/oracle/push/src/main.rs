@@ -1,5 +1,5 @@
 //! Feeds pushed through the Rust's decoder. A feed is lines of `KIND HEX` up to a line `--`. For each it writes the numbers that
-//! tests/oracle/feeds compares, `|`, and the keys that are kept, with 1 + the version of each behind another `|`.
+//! tests/oracle/feeds compares, `|`, and the keys that are kept, with the version and last section number of each behind another `|`.
 use isdb_mmt::decoder::Decoder;
 use isdb_mmt::mpu::{AssetStats, Mfu};
 use isdb_tlv::tlv::{Packet, PacketType};
@@ -39,17 +39,22 @@ fn record(m: &Mfu) -> Vec<u64> {
 }
 
 fn kept(d: &Decoder) -> Vec<(u64, u64)> {
-    let eits = d.eits.iter().map(|(k, x)| (k, x.header.version));
-    let sdts = d.sdts.iter().map(|(k, x)| (k, x.header.version));
-    let bits = d.bits.iter().map(|(k, x)| (k, x.header.version));
-    let nits = d.nits.iter().map(|(k, x)| (k, x.header.version));
-    let amts = d.amts.iter().map(|(k, x)| (k, x.header.version));
+    let eits = d.eits.iter().map(|(k, x)| (k, &x.header));
+    let sdts = d.sdts.iter().map(|(k, x)| (k, &x.header));
+    let bits = d.bits.iter().map(|(k, x)| (k, &x.header));
+    let nits = d.nits.iter().map(|(k, x)| (k, &x.header));
+    let amts = d.amts.iter().map(|(k, x)| (k, &x.header));
     eits.chain(sdts)
         .chain(bits)
         .chain(nits)
         .chain(amts)
-        .map(|(k, v)| (u64::from(k.0) << 24 | u64::from(k.1) << 8 | u64::from(k.2), 1 + u64::from(v)))
+        .map(|(k, h)| (u64::from(k.0) << 24 | u64::from(k.1) << 8 | u64::from(k.2), told(h.version, h.last_section_number.into())))
         .collect()
+}
+
+/// A table that is kept: its version, and a number that tells it from others of that version.
+fn told(version: u8, other: u64) -> u64 {
+    1 + u64::from(version) + 256 * other
 }
 
 fn words(v: impl Iterator<Item = u64>) -> String {
@@ -69,9 +74,9 @@ fn answer(feed: &str) -> String {
     }
     v.extend(out.iter().flat_map(record));
     v.push(d.ntp.map_or(0, |t| t + 1));
-    v.push(d.plt.as_ref().map_or(0, |p| 1 + u64::from(p.version)));
-    v.push(d.tot.is_some().into());
-    v.extend([0, 0x8001].map(|id| d.mpts.get(&id).map_or(0, |m| 1 + u64::from(m.version))));
+    v.push(d.plt.as_ref().map_or(0, |p| told(p.version, p.packages.len() as u64)));
+    v.push(d.tot.as_ref().map_or(0, |t| 1 + t.jst.0));
+    v.extend([0, 0x8001].map(|id| d.mpts.get(&id).map_or(0, |m| told(m.version, m.table_id.into()))));
     let keys = kept(&d);
     v.extend([keys.len() as u64, d.other_tables.values().sum()]);
     v.extend([0, 0x10, 0x21, 0x81, 0xA2, 0xC0].map(|id| d.other_tables.get(&id).copied().unwrap_or(0)));
