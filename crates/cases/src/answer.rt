@@ -1,15 +1,18 @@
 // What each reading finds.
 use crate::print::bytes_field;
 use crate::print::field;
+use crate::print::flag_field;
 use crate::print::hex_byte;
 use crate::print::hex_field;
 use crate::print::say;
 use isdb_tlv::ip::Address;
 use isdb_tlv::ip::Datagram;
+use isdb_tlv::ip::Flow;
 use isdb_tlv::ip::IpError;
 use isdb_tlv::ip::IpResult;
 use isdb_tlv::ip::MaybeContext;
 use isdb_tlv::ip::MaybeFlow;
+use isdb_tlv::mmtp::Header;
 use isdb_tlv::mmtp::MaybeControl;
 use isdb_tlv::mmtp::Message;
 use isdb_tlv::mmtp::MessageCount;
@@ -93,23 +96,33 @@ fn ip_error(e: IpError) {
 
 fn found(d: Datagram, b: &[u8]) {
     let context = d.context;
-    match context {
+    let flow = d.flow;
+    context_of(context);
+    flow_of(flow);
+    bytes_field(b"payload", d.payload(b));
+}
+
+fn context_of(c: MaybeContext) {
+    match c {
         MaybeContext::None => say(b" context none"),
         MaybeContext::Some(c) => field(b"context", c as u64),
     }
-    let flow = d.flow;
-    match flow {
+}
+
+fn flow_of(f: MaybeFlow) {
+    match f {
         MaybeFlow::None => say(b" flow none"),
-        MaybeFlow::Some(f) => {
-            let src = f.src;
-            let dst = f.dst;
-            address(b"src", src);
-            address(b"dst", dst);
-            field(b"sport", f.sport as u64);
-            field(b"dport", f.dport as u64);
-        }
+        MaybeFlow::Some(f) => ends(f),
     }
-    bytes_field(b"payload", d.payload(b));
+}
+
+fn ends(f: Flow) {
+    let src = f.src;
+    let dst = f.dst;
+    address(b"src", src);
+    address(b"dst", dst);
+    field(b"sport", f.sport as u64);
+    field(b"dport", f.dport as u64);
 }
 
 fn address(name: &[u8], a: Address) {
@@ -131,20 +144,28 @@ fn mmtp(r: Parsed, b: &[u8]) {
 
 fn packet(p: Packet, b: &[u8]) {
     let h = p.header;
+    header(h);
+    bytes_field(b"payload", p.payload(b));
+}
+
+fn header(h: Header) {
     let fec_type = h.fec_type;
     let payload_type = h.payload_type;
+    let control = h.scramble_control;
     field(b"fec", fec_type.code() as u64);
-    field(b"rap", h.rap as u64);
+    flag_field(b"rap", h.rap);
     field(b"type", payload_type.code() as u64);
     field(b"id", h.packet_id as u64);
     field(b"sequence", h.sequence as u64);
-    field(b"scrambled", h.scramble_info as u64);
-    let control = h.scramble_control;
-    match control {
+    flag_field(b"scrambled", h.scramble_info);
+    scrambling(control);
+}
+
+fn scrambling(c: MaybeControl) {
+    match c {
         MaybeControl::None => say(b" control none"),
         MaybeControl::Some(c) => field(b"control", c as u64),
     }
-    bytes_field(b"payload", p.payload(b));
 }
 
 fn messages(b: &[u8]) {

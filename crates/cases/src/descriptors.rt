@@ -6,6 +6,8 @@ use crate::print::hex_byte;
 use crate::print::hex_number;
 use crate::print::part_field;
 use crate::print::say;
+use crate::print::say_decimal;
+use crate::print::say_hex;
 use isdb_mmt::desc;
 use isdb_mmt::desc::Descriptor;
 use isdb_mmt::desc::GenreStep;
@@ -18,6 +20,8 @@ use isdb_mmt::maybe::MaybeU16;
 use isdb_mmt::maybe::MaybeU32;
 use isdb_mmt::part::Part;
 use isdb_mmt::timestamp;
+use isdb_mmt::timestamp::AccessUnit;
+use isdb_mmt::timestamp::AccessUnitStep;
 use isdb_mmt::timestamp::Extended;
 use isdb_mmt::timestamp::MpuStep;
 use isdb_mmt::timestamp::TimestampStep;
@@ -32,13 +36,7 @@ pub fn location(l: Location, b: &[u8]) {
             dst,
             port,
             packet_id,
-        } => {
-            say(b" ipv4 ");
-            hex_number(src as u64, 8);
-            say(b" ");
-            hex_number(dst as u64, 8);
-            ports(port, packet_id);
-        }
+        } => ipv4(src, dst, port, packet_id),
         Location::Ipv6 {
             src_high,
             src_low,
@@ -47,46 +45,46 @@ pub fn location(l: Location, b: &[u8]) {
             port,
             packet_id,
         } => {
-            say(b" ipv6 ");
-            hex_number(src_high, 16);
-            hex_number(src_low, 16);
-            say(b" ");
-            hex_number(dst_high, 16);
-            hex_number(dst_low, 16);
+            ipv6(src_high, src_low, dst_high, dst_low);
             ports(port, packet_id);
         }
-        _ => other_location(l, b),
-    }
-}
-
-fn ports(port: u16, packet_id: u16) {
-    say(b" ");
-    decimal(port as u64);
-    say(b" ");
-    decimal(packet_id as u64);
-}
-
-fn other_location(l: Location, b: &[u8]) {
-    match l {
         Location::Mpeg2Ts {
             network_id,
             ts_id,
             pid,
-        } => {
-            field(b"mpeg2_ts", network_id as u64);
-            say(b" ");
-            decimal(ts_id as u64);
-            say(b" ");
-            hex_number(pid as u64, 4);
-        }
-        Location::Mpeg2TsIpv6 { port, pid } => {
-            field(b"mpeg2_ts_ipv6", port as u64);
-            say(b" ");
-            hex_number(pid as u64, 4);
-        }
-        Location::Url { start, length } => part_field(b"url", b, Part { start, length }),
-        _ => {}
+        } => mpeg2_ts(network_id, ts_id, pid),
+        Location::Mpeg2TsIpv6 { port, pid } => mpeg2_ts_ipv6(port, pid),
+        Location::Url(p) => part_field(b"url", b, p),
     }
+}
+
+fn ipv4(src: u32, dst: u32, port: u16, packet_id: u16) {
+    say_hex(b" ipv4 ", src as u64, 8);
+    say_hex(b" ", dst as u64, 8);
+    ports(port, packet_id);
+}
+
+fn ipv6(src_high: u64, src_low: u64, dst_high: u64, dst_low: u64) {
+    say_hex(b" ipv6 ", src_high, 16);
+    hex_number(src_low, 16);
+    say_hex(b" ", dst_high, 16);
+    hex_number(dst_low, 16);
+}
+
+fn ports(port: u16, packet_id: u16) {
+    say_decimal(b" ", port as u64);
+    say_decimal(b" ", packet_id as u64);
+}
+
+fn mpeg2_ts(network_id: u16, ts_id: u16, pid: u16) {
+    field(b"mpeg2_ts", network_id as u64);
+    say_decimal(b" ", ts_id as u64);
+    say_hex(b" ", pid as u64, 4);
+}
+
+fn mpeg2_ts_ipv6(port: u16, pid: u16) {
+    field(b"mpeg2_ts_ipv6", port as u64);
+    say_hex(b" ", pid as u64, 4);
 }
 
 // The descriptors of a loop, each on a line of its own behind some space.
@@ -96,9 +94,7 @@ pub fn each(pad: &[u8], b: &[u8]) {
     while 0 < left {
         match desc::next(b, at) {
             Step::Raw { tag, body, next } => {
-                say(b"\n");
-                say(pad);
-                say(b"descriptor");
+                line(pad);
                 descriptor(tag, body.of(b));
                 at = next;
             }
@@ -109,90 +105,85 @@ pub fn each(pad: &[u8], b: &[u8]) {
     }
 }
 
+fn line(pad: &[u8]) {
+    say(b"\n");
+    say(pad);
+    say(b"descriptor");
+}
+
 fn descriptor(tag: u16, b: &[u8]) {
-    let d = Descriptor::decode(tag, b);
-    match d {
+    match Descriptor::decode(tag, b) {
         Descriptor::MpuTimestamp => timestamps(b),
         Descriptor::ExtendedTimestamp(e) => extended(e, b),
         Descriptor::AccessControl {
             ca_system_id,
             location,
         } => access_control(ca_system_id, location, b),
-        Descriptor::ServiceList => {
-            say(b" service_list ");
-            services(b);
-        }
-        Descriptor::Content => genres(b),
-        _ => plain(d, b),
-    }
-}
-
-// Those without a list.
-fn plain(d: Descriptor, b: &[u8]) {
-    match d {
         Descriptor::Scrambler {
             layer_type,
             system_id,
-        } => {
-            field(b"scrambler", layer_type as u64);
-            say(b" ");
-            decimal(system_id as u64);
-        }
+        } => scrambler(layer_type, system_id),
         Descriptor::StreamIdentifier { component_tag } => {
             field(b"stream_identifier", component_tag as u64)
         }
-        Descriptor::Hevc {
-            profile_idc,
-            tier,
-            level_idc,
-        } => {
-            field(b"hevc", profile_idc as u64);
-            say(b" ");
-            decimal(tier as u64);
-            say(b" ");
-            decimal(level_idc as u64);
-        }
-        _ => text(d, b),
-    }
-}
-
-// Those with texts.
-fn text(d: Descriptor, b: &[u8]) {
-    match d {
         Descriptor::Service {
             service_type,
             provider,
             name,
-        } => {
-            field(b"service", service_type as u64);
-            part_field(b"provider", b, provider);
-            part_field(b"name", b, name);
-        }
+        } => service(service_type, provider, name, b),
+        Descriptor::ServiceList => service_list(b),
         Descriptor::ShortEvent {
             language,
             name,
             text,
-        } => {
-            say(b" short_event ");
-            code(language);
-            part_field(b"name", b, name);
-            part_field(b"text", b, text);
-        }
+        } => short_event(language, name, text, b),
+        Descriptor::Content => genres(b),
+        Descriptor::Hevc {
+            profile_idc,
+            tier,
+            level_idc,
+        } => hevc(profile_idc, tier, level_idc),
         Descriptor::BroadcasterName(name) => part_field(b"broadcaster_name", b, name),
-        Descriptor::Other { tag, body } => {
-            say(b" other 0x");
-            hex_number(tag as u64, 4);
-            say(b" ");
-            bytes_of(body.of(b));
-        }
-        _ => {}
+        Descriptor::Other { tag, body } => other(tag, body.of(b)),
     }
 }
 
-fn code(l: Language) {
+fn scrambler(layer_type: u8, system_id: u8) {
+    field(b"scrambler", layer_type as u64);
+    say_decimal(b" ", system_id as u64);
+}
+
+fn service(service_type: u8, provider: Part, name: Part, b: &[u8]) {
+    field(b"service", service_type as u64);
+    part_field(b"provider", b, provider);
+    part_field(b"name", b, name);
+}
+
+fn short_event(l: Language, name: Part, text: Part, b: &[u8]) {
+    say(b" short_event ");
     hex_byte(l.first);
     hex_byte(l.second);
     hex_byte(l.third);
+    part_field(b"name", b, name);
+    part_field(b"text", b, text);
+}
+
+fn hevc(profile_idc: u8, tier: bool, level_idc: u8) {
+    field(b"hevc", profile_idc as u64);
+    say_decimal(b" ", tier as u64);
+    say_decimal(b" ", level_idc as u64);
+}
+
+fn other(tag: u16, body: &[u8]) {
+    say_hex(b" other 0x", tag as u64, 4);
+    say(b" ");
+    bytes_of(body);
+}
+
+// The entries of a service list, of MMT-SI or TLV-SI.
+pub fn service_list(b: &[u8]) {
+    say(b" service_list ");
+    services(b);
 }
 
 fn access_control(ca_system_id: u16, l: MaybeLocation, b: &[u8]) {
@@ -210,6 +201,12 @@ fn comma(at: usize) {
     }
 }
 
+fn timestamp(at: usize, mpu_sequence_number: u32, presentation_time: u64) {
+    comma(at);
+    decimal(mpu_sequence_number as u64);
+    say_hex(b":", presentation_time, 16);
+}
+
 fn timestamps(b: &[u8]) {
     say(b" mpu_timestamp ");
     if b.len() < 12 {
@@ -225,10 +222,7 @@ fn timestamps(b: &[u8]) {
                 presentation_time,
                 next,
             } => {
-                comma(at);
-                decimal(mpu_sequence_number as u64);
-                say(b":");
-                hex_number(presentation_time, 16);
+                timestamp(at, mpu_sequence_number, presentation_time);
                 at = next;
             }
         }
@@ -236,8 +230,14 @@ fn timestamps(b: &[u8]) {
     }
 }
 
-// The entries of a service list, of MMT-SI or TLV-SI.
-pub fn services(b: &[u8]) {
+// Two numbers of the entry at a place of a list.
+fn entry(at: usize, x: u16, y: u8) {
+    comma(at);
+    decimal(x as u64);
+    say_decimal(b":", y as u64);
+}
+
+fn services(b: &[u8]) {
     if b.len() < 3 {
         say(b"-");
     }
@@ -251,10 +251,7 @@ pub fn services(b: &[u8]) {
                 service_type,
                 next,
             } => {
-                comma(at);
-                decimal(service_id as u64);
-                say(b":");
-                decimal(service_type as u64);
+                entry(at, service_id, service_type);
                 at = next;
             }
         }
@@ -278,12 +275,8 @@ fn genres(b: &[u8]) {
                 user,
                 next,
             } => {
-                comma(at);
-                decimal(level_1 as u64);
-                say(b":");
-                decimal(level_2 as u64);
-                say(b":");
-                decimal(user as u64);
+                entry(at, level_1 as u16, level_2);
+                say_decimal(b":", user as u64);
                 at = next;
             }
         }
@@ -313,6 +306,10 @@ fn extended(e: Extended, b: &[u8]) {
     say(b" default_pts_offset ");
     maybe_u16(default_pts_offset);
     say(b" mpus ");
+    mpus(e, b);
+}
+
+fn mpus(e: Extended, b: &[u8]) {
     let start = e.start;
     if b.len() <= start {
         say(b"-");
@@ -325,22 +322,15 @@ fn extended(e: Extended, b: &[u8]) {
                 mpu_sequence_number,
                 leap_indicator,
                 decoding_time_offset,
-                access_units,
-                start: first,
+                access_units: _,
+                units,
                 next,
             } => {
                 if start < at {
                     say(b",");
                 }
-                say(b"[");
-                decimal(mpu_sequence_number as u64);
-                say(b" ");
-                decimal(leap_indicator as u64);
-                say(b" ");
-                decimal(decoding_time_offset as u64);
-                say(b" ");
-                units(b, e, access_units, first);
-                say(b"]");
+                mpu(mpu_sequence_number, leap_indicator, decoding_time_offset);
+                access_units(e, units.of(b));
                 at = next;
             }
             MpuStep::End => return,
@@ -350,23 +340,41 @@ fn extended(e: Extended, b: &[u8]) {
     }
 }
 
-fn units(b: &[u8], e: Extended, n: u8, first: usize) {
-    if n == 0 {
+fn mpu(mpu_sequence_number: u32, leap_indicator: u8, decoding_time_offset: u16) {
+    say_decimal(b"[", mpu_sequence_number as u64);
+    say_decimal(b" ", leap_indicator as u64);
+    say_decimal(b" ", decoding_time_offset as u64);
+    say(b" ");
+}
+
+// The access units of an MPU, and the end of its bracket.
+fn access_units(e: Extended, units: &[u8]) {
+    if units.len() == 0 {
         say(b"-");
     }
-    let size: usize = if e.own_pts_offset { 4 } else { 2 };
-    let mut at = first;
-    let mut left = n;
+    each_unit(e, units);
+    say(b"]");
+}
+
+fn each_unit(e: Extended, units: &[u8]) {
+    let mut at: usize = 0;
+    let mut left = units.len();
     while 0 < left {
-        if left < n {
-            say(b",");
+        match timestamp::next_access_unit(units, e, at) {
+            AccessUnitStep::End => return,
+            AccessUnitStep::Unit(u, next) => {
+                comma(at);
+                access_unit(u);
+                at = next;
+            }
         }
-        let u = timestamp::access_unit(b, e, at);
-        let pts_offset = u.pts_offset;
-        decimal(u.dts_pts_offset as u64);
-        say(b"/");
-        maybe_u16(pts_offset);
-        at = std::num::wrapping_add_usize(at, size);
         left -= 1;
     }
+}
+
+fn access_unit(u: AccessUnit) {
+    let pts_offset = u.pts_offset;
+    decimal(u.dts_pts_offset as u64);
+    say(b"/");
+    maybe_u16(pts_offset);
 }

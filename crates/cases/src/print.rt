@@ -5,19 +5,28 @@ pub fn say(text: &[u8]) {
     io::write_all(1, text);
 }
 
+// A text and a number behind it.
+pub fn say_decimal(text: &[u8], n: u64) {
+    say(text);
+    decimal(n);
+}
+
+pub fn say_hex(text: &[u8], n: u64, width: usize) {
+    say(text);
+    hex_number(n, width);
+}
+
 // A space, a word, a space and a number.
 pub fn field(name: &[u8], n: u64) {
     say(b" ");
     say(name);
-    say(b" ");
-    io::print_decimal(1, n);
+    say_decimal(b" ", n);
 }
 
 pub fn hex_field(name: &[u8], n: u64, width: usize) {
     say(b" ");
     say(name);
-    say(b" ");
-    io::print_hex(1, n, width);
+    say_hex(b" ", n, width);
 }
 
 // Two digits.

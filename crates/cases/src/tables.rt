@@ -2,8 +2,9 @@
 use crate::descriptors::each;
 use crate::descriptors::location;
 use crate::descriptors::maybe_u16;
-use crate::descriptors::services;
+use crate::descriptors::service_list;
 use crate::print::bytes_field;
+use crate::print::bytes_of;
 use crate::print::decimal;
 use crate::print::field;
 use crate::print::flag_field;
@@ -11,11 +12,14 @@ use crate::print::hex_field;
 use crate::print::hex_number;
 use crate::print::part_field;
 use crate::print::say;
+use crate::print::say_decimal;
+use crate::print::say_hex;
 use isdb_mmt::desc;
 use isdb_mmt::desc::Descriptor;
 use isdb_mmt::desc::Found;
 use isdb_mmt::location::Located;
 use isdb_mmt::location::Location;
+use isdb_mmt::maybe::MaybeU16;
 use isdb_mmt::maybe::MaybeU64;
 use isdb_mmt::part::Part;
 use isdb_mmt::table::amt;
@@ -25,6 +29,7 @@ use isdb_mmt::table::amt::AmtStep;
 use isdb_mmt::table::bit;
 use isdb_mmt::table::bit::Bit;
 use isdb_mmt::table::bit::BitResult;
+use isdb_mmt::table::bit::Broadcaster;
 use isdb_mmt::table::bit::BroadcasterStep;
 use isdb_mmt::table::eit;
 use isdb_mmt::table::eit::Eit;
@@ -40,11 +45,14 @@ use isdb_mmt::table::nit;
 use isdb_mmt::table::nit::MaybePart;
 use isdb_mmt::table::nit::Nit;
 use isdb_mmt::table::nit::NitResult;
+use isdb_mmt::table::nit::NitStream;
 use isdb_mmt::table::nit::StreamStep;
 use isdb_mmt::table::nit::TlvStep;
 use isdb_mmt::table::plt;
 use isdb_mmt::table::plt::DeliveryStep;
+use isdb_mmt::table::plt::IpDelivery;
 use isdb_mmt::table::plt::MaybePlt;
+use isdb_mmt::table::plt::Package;
 use isdb_mmt::table::plt::PackageStep;
 use isdb_mmt::table::plt::Plt;
 use isdb_mmt::table::sdt;
@@ -55,6 +63,7 @@ use isdb_mmt::table::sdt::SdtStep;
 use isdb_mmt::table::section::SectionError;
 use isdb_mmt::table::section::SectionHeader;
 use isdb_mmt::table::tot;
+use isdb_mmt::table::tot::Tot;
 use isdb_mmt::table::tot::TotResult;
 use isdb_tlv::bytes;
 use isdb_tlv::ip::Address;
@@ -135,24 +144,16 @@ fn failed(e: SectionError) {
 }
 
 fn header(h: SectionHeader) {
-    say(b" header 0x");
-    hex_number(h.table_id as u64, 2);
-    say(b" ");
-    decimal(h.extension as u64);
-    say(b" ");
-    decimal(h.section_number as u64);
+    place(h.table_id, h.extension, h.section_number);
     field(b"last_section_number", h.last_section_number as u64);
     field(b"version", h.version as u64);
     flag_field(b"current", h.current);
 }
 
-// A section's body: what stands between its header and its CRC.
-fn body(b: &[u8]) -> &[u8] {
-    let n = bytes::get_u12(b, 1) as usize;
-    if n < 9 {
-        return bytes::part(b, 0, 0);
-    }
-    bytes::part(b, 8, n - 9)
+fn place(table_id: u8, extension: u16, section_number: u8) {
+    say_hex(b" header 0x", table_id as u64, 2);
+    say_decimal(b" ", extension as u64);
+    say_decimal(b" ", section_number as u64);
 }
 
 fn mpt_answer(b: &[u8]) {
@@ -166,18 +167,29 @@ fn mpt_answer(b: &[u8]) {
 }
 
 fn mpt_table(t: Mpt, b: &[u8]) {
-    say(b" table_id 0x");
-    hex_number(t.table_id as u64, 2);
-    field(b"version", t.version as u64);
-    field(b"mode", t.mode as u64);
     let id = t.package_id;
     let d = t.descriptors;
+    mpt_head(t.table_id, t.version, t.mode);
     part_field(b"package_id", b, id);
-    say(b" service_id ");
-    maybe_u16(t.service_id(b));
+    tag_field(b" service_id ", t.service_id(b));
     each(b"  ", d.of(b));
-    let mut at = t.start;
-    let mut left = t.assets;
+    assets(b, t.assets, t.start);
+}
+
+fn mpt_head(table_id: u8, version: u8, mode: u8) {
+    say_hex(b" table_id 0x", table_id as u64, 2);
+    field(b"version", version as u64);
+    field(b"mode", mode as u64);
+}
+
+fn tag_field(text: &[u8], x: MaybeU16) {
+    say(text);
+    maybe_u16(x);
+}
+
+fn assets(b: &[u8], n: u8, from: usize) {
+    let mut at = from;
+    let mut left = n;
     while 0 < left {
         match mpt::asset_at(b, at) {
             AssetStep::Malformed => return,
@@ -193,18 +205,20 @@ fn mpt_table(t: Mpt, b: &[u8]) {
 fn asset(a: Asset, b: &[u8]) {
     let id = a.asset_id;
     let d = a.descriptors;
-    say(b"\n  asset");
-    field(b"identifier_type", a.identifier_type as u64);
-    field(b"scheme", a.asset_id_scheme as u64);
-    part_field(b"id", b, id);
-    hex_field(b"type", a.asset_type as u64, 8);
+    asset_head(a.identifier_type, a.asset_id_scheme, id.of(b), a.asset_type);
     flag_field(b"clock_relation", a.clock_relation);
-    say(b" packet_id ");
-    maybe_u16(a.packet_id(b));
-    say(b" component_tag ");
-    maybe_u16(mpt::component_tag(d.of(b)));
+    tag_field(b" packet_id ", a.packet_id(b));
+    tag_field(b" component_tag ", mpt::component_tag(d.of(b)));
     locations(b, a.locations, a.locations_start);
     each(b"    ", d.of(b));
+}
+
+fn asset_head(identifier_type: u8, scheme: u32, id: &[u8], asset_type: u32) {
+    say(b"\n  asset");
+    field(b"identifier_type", identifier_type as u64);
+    field(b"scheme", scheme as u64);
+    bytes_field(b"id", id);
+    hex_field(b"type", asset_type as u64, 8);
 }
 
 fn locations(b: &[u8], n: u8, from: usize) {
@@ -241,18 +255,22 @@ fn packages(t: Plt, b: &[u8]) {
         match plt::package_at(b, at) {
             PackageStep::Malformed => return,
             PackageStep::Package(p, next) => {
-                let id = p.package_id;
-                let l = p.location;
-                let start = p.location_start;
-                say(b"\n  package ");
-                crate::print::bytes_of(id.of(b));
-                say(b" location");
-                location(l, bytes::rest(b, start));
+                package(p, b);
                 at = next;
             }
         }
         left -= 1;
     }
+}
+
+fn package(p: Package, b: &[u8]) {
+    let id = p.package_id;
+    let l = p.location;
+    let start = p.location_start;
+    say(b"\n  package ");
+    bytes_of(id.of(b));
+    say(b" location");
+    location(l, bytes::rest(b, start));
 }
 
 fn deliveries(t: Plt, b: &[u8]) {
@@ -262,14 +280,17 @@ fn deliveries(t: Plt, b: &[u8]) {
         match plt::delivery_at(b, at) {
             DeliveryStep::Malformed => return,
             DeliveryStep::Delivery(d, next) => {
-                say(b"\n  ip_delivery ");
-                decimal(d.transport_file_id as u64);
-                field(b"location_type", d.location_type as u64);
+                delivery(d);
                 at = next;
             }
         }
         left -= 1;
     }
+}
+
+fn delivery(d: IpDelivery) {
+    say_decimal(b"\n  ip_delivery ", d.transport_file_id as u64);
+    field(b"location_type", d.location_type as u64);
 }
 
 fn eit_answer(b: &[u8]) {
@@ -279,8 +300,9 @@ fn eit_answer(b: &[u8]) {
     match r {
         EitResult::Err(e) => failed(e),
         EitResult::Ok(h, t) => {
+            let body = h.body;
             header(h);
-            eit_table(t, body(b));
+            eit_table(t, body.of(b));
         }
     }
 }
@@ -288,13 +310,15 @@ fn eit_answer(b: &[u8]) {
 fn eit_table(t: Eit, s: &[u8]) {
     field(b"tlv_stream_id", t.tlv_stream_id as u64);
     field(b"original_network_id", t.original_network_id as u64);
-    field(
-        b"segment_last_section_number",
-        t.segment_last_section_number as u64,
-    );
+    let last = t.segment_last_section_number;
+    field(b"segment_last_section_number", last as u64);
     field(b"last_table_id", t.last_table_id as u64);
+    events(s, t.events);
+}
+
+fn events(s: &[u8], n: usize) {
     let mut at: usize = 6;
-    let mut left = t.events;
+    let mut left = n;
     while 0 < left {
         match eit::next_event(s, at) {
             EventStep::End => return,
@@ -310,15 +334,22 @@ fn eit_table(t: Eit, s: &[u8]) {
 
 fn event(e: Event, s: &[u8]) {
     let d = e.descriptors;
-    say(b"\n  event ");
-    decimal(e.event_id as u64);
-    hex_field(b"start", e.start, 10);
-    hex_field(b"duration", e.duration as u64, 6);
-    field(b"running_status", e.running_status as u64);
-    flag_field(b"free_ca", e.free_ca);
+    event_head(e.event_id, e.start, e.duration);
+    status(e.running_status, e.free_ca);
     say(b" short_event");
     short_event(d.of(s));
     each(b"    ", d.of(s));
+}
+
+fn event_head(event_id: u16, start: u64, duration: u32) {
+    say_decimal(b"\n  event ", event_id as u64);
+    hex_field(b"start", start, 10);
+    hex_field(b"duration", duration as u64, 6);
+}
+
+fn status(running_status: u8, free_ca: bool) {
+    field(b"running_status", running_status as u64);
+    flag_field(b"free_ca", free_ca);
 }
 
 fn short_event(b: &[u8]) {
@@ -341,8 +372,7 @@ fn names(d: Descriptor, b: &[u8]) {
             provider,
             name,
         } => {
-            say(b" ");
-            decimal(service_type as u64);
+            say_decimal(b" ", service_type as u64);
             both(b, provider, name);
         }
         _ => {}
@@ -351,9 +381,9 @@ fn names(d: Descriptor, b: &[u8]) {
 
 fn both(b: &[u8], p: Part, q: Part) {
     say(b" ");
-    crate::print::bytes_of(p.of(b));
+    bytes_of(p.of(b));
     say(b" ");
-    crate::print::bytes_of(q.of(b));
+    bytes_of(q.of(b));
 }
 
 fn sdt_answer(b: &[u8]) {
@@ -363,8 +393,9 @@ fn sdt_answer(b: &[u8]) {
     match r {
         SdtResult::Err(e) => failed(e),
         SdtResult::Ok(h, t) => {
+            let body = h.body;
             header(h);
-            sdt_table(t, body(b));
+            sdt_table(t, body.of(b));
         }
     }
 }
@@ -388,16 +419,22 @@ fn sdt_table(t: Sdt, s: &[u8]) {
 
 fn sdt_service(e: SdtService, s: &[u8]) {
     let d = e.descriptors;
-    say(b"\n  service ");
-    decimal(e.service_id as u64);
-    field(b"eit_user_defined_flags", e.eit_user_defined_flags as u64);
-    flag_field(b"eit_schedule", e.eit_schedule);
-    flag_field(b"eit_present_following", e.eit_present_following);
-    field(b"running_status", e.running_status as u64);
-    flag_field(b"free_ca", e.free_ca);
+    say_decimal(b"\n  service ", e.service_id as u64);
+    eit_flags(
+        e.eit_user_defined_flags,
+        e.eit_schedule,
+        e.eit_present_following,
+    );
+    status(e.running_status, e.free_ca);
     say(b" service");
     service_names(d.of(s));
     each(b"    ", d.of(s));
+}
+
+fn eit_flags(user_defined: u8, schedule: bool, present_following: bool) {
+    field(b"eit_user_defined_flags", user_defined as u64);
+    flag_field(b"eit_schedule", schedule);
+    flag_field(b"eit_present_following", present_following);
 }
 
 fn service_names(b: &[u8]) {
@@ -413,12 +450,14 @@ fn tot_answer(b: &[u8]) {
     let r = p.result;
     match r {
         TotResult::Err(e) => failed(e),
-        TotResult::Ok(t) => {
-            let d = t.descriptors;
-            hex_field(b"jst", t.jst, 10);
-            each(b"  ", d.of(b));
-        }
+        TotResult::Ok(t) => tot_table(t, b),
     }
+}
+
+fn tot_table(t: Tot, b: &[u8]) {
+    let d = t.descriptors;
+    hex_field(b"jst", t.jst, 10);
+    each(b"  ", d.of(b));
 }
 
 fn bit_answer(b: &[u8]) {
@@ -428,8 +467,9 @@ fn bit_answer(b: &[u8]) {
     match r {
         BitResult::Err(e) => failed(e),
         BitResult::Ok(h, t) => {
+            let body = h.body;
             header(h);
-            bit_table(t, body(b));
+            bit_table(t, body.of(b));
         }
     }
 }
@@ -438,17 +478,19 @@ fn bit_table(t: Bit, s: &[u8]) {
     let d = t.descriptors;
     flag_field(b"broadcast_view_propriety", t.broadcast_view_propriety);
     each(b"  ", d.of(s));
-    let mut at = std::num::wrapping_add_usize(d.start, d.length);
-    let mut left = t.broadcasters;
+    let from = std::num::wrapping_add_usize(d.start, d.length);
+    broadcasters(s, t.broadcasters, from);
+}
+
+fn broadcasters(s: &[u8], n: usize, from: usize) {
+    let mut at = from;
+    let mut left = n;
     while 0 < left {
         match bit::next_broadcaster(s, at) {
             BroadcasterStep::End => return,
             BroadcasterStep::Malformed => return,
             BroadcasterStep::Broadcaster(e, next) => {
-                let d = e.descriptors;
-                say(b"\n  broadcaster ");
-                decimal(e.broadcaster_id as u64);
-                each(b"    ", d.of(s));
+                broadcaster(e, s);
                 at = next;
             }
         }
@@ -456,12 +498,19 @@ fn bit_table(t: Bit, s: &[u8]) {
     }
 }
 
+fn broadcaster(e: Broadcaster, s: &[u8]) {
+    let d = e.descriptors;
+    say_decimal(b"\n  broadcaster ", e.broadcaster_id as u64);
+    each(b"    ", d.of(s));
+}
+
 fn nit_answer(b: &[u8]) {
     match nit::parse(b) {
         NitResult::Err(e) => failed(e),
         NitResult::Ok(h, t) => {
+            let body = h.body;
             header(h);
-            nit_table(t, body(b));
+            nit_table(t, body.of(b));
         }
     }
 }
@@ -481,16 +530,19 @@ fn streams(s: &[u8], n: usize) {
             StreamStep::End => return,
             StreamStep::Malformed => return,
             StreamStep::Stream(e, next) => {
-                let d = e.descriptors;
-                say(b"\n  stream ");
-                decimal(e.tlv_stream_id as u64);
-                field(b"original_network_id", e.original_network_id as u64);
-                tlv_each(b"    ", d.of(s));
+                stream(e, s);
                 at = next;
             }
         }
         left -= 1;
     }
+}
+
+fn stream(e: NitStream, s: &[u8]) {
+    let d = e.descriptors;
+    say_decimal(b"\n  stream ", e.tlv_stream_id as u64);
+    field(b"original_network_id", e.original_network_id as u64);
+    tlv_each(b"    ", d.of(s));
 }
 
 fn tlv_each(pad: &[u8], b: &[u8]) {
@@ -500,9 +552,7 @@ fn tlv_each(pad: &[u8], b: &[u8]) {
         match nit::next_tlv(b, at) {
             TlvStep::End => return,
             TlvStep::Descriptor { tag, body, next } => {
-                say(b"\n");
-                say(pad);
-                tlv_descriptor(tag, body.of(b));
+                tlv_descriptor(pad, tag, body.of(b));
                 at = next;
             }
         }
@@ -510,27 +560,40 @@ fn tlv_each(pad: &[u8], b: &[u8]) {
     }
 }
 
-fn tlv_descriptor(tag: u8, b: &[u8]) {
-    say(b"descriptor 0x");
-    hex_number(tag as u64, 2);
+fn tlv_descriptor(pad: &[u8], tag: u8, b: &[u8]) {
+    say(b"\n");
+    say(pad);
+    say_hex(b"descriptor 0x", tag as u64, 2);
     say(b" ");
-    crate::print::bytes_of(b);
-    if tag == 0x41 {
-        say(b" service_list ");
-        services(b);
+    bytes_of(b);
+    tlv_services(tag, b);
+    network_name(tag, b);
+    frequency(tag, b);
+}
+
+fn tlv_services(tag: u8, b: &[u8]) {
+    match nit::service_list(tag, b) {
+        MaybePart::None => {}
+        MaybePart::Some(p) => service_list(p.of(b)),
     }
+}
+
+fn network_name(tag: u8, b: &[u8]) {
     match nit::network_name(tag, b) {
         MaybePart::None => {}
         MaybePart::Some(p) => bytes_field(b"network_name", p.of(b)),
     }
-    if tag == 0x43 {
-        frequency(tag, b);
-    }
 }
 
 fn frequency(tag: u8, b: &[u8]) {
-    say(b" frequency_khz ");
-    match nit::satellite_frequency_khz(tag, b) {
+    if tag == 0x43 {
+        say(b" frequency_khz ");
+        maybe_u64(nit::satellite_frequency_khz(tag, b));
+    }
+}
+
+fn maybe_u64(x: MaybeU64) {
+    match x {
         MaybeU64::None => say(b"none"),
         MaybeU64::Some(n) => decimal(n),
     }
@@ -540,8 +603,9 @@ fn amt_answer(b: &[u8]) {
     match amt::parse(b) {
         AmtResult::Err(e) => failed(e),
         AmtResult::Ok(h, t) => {
+            let body = h.body;
             header(h);
-            flows(body(b), t.services);
+            flows(body.of(b), t.services);
         }
     }
 }
@@ -564,14 +628,15 @@ fn flows(s: &[u8], n: u16) {
 fn flow(e: AmtService) {
     let src = e.src;
     let dst = e.dst;
-    say(b"\n  service ");
-    decimal(e.service_id as u64);
-    say(b" src ");
-    address(src);
-    field(b"mask", e.src_mask as u64);
-    say(b" dst ");
-    address(dst);
-    field(b"mask", e.dst_mask as u64);
+    say_decimal(b"\n  service ", e.service_id as u64);
+    end(b" src ", src, e.src_mask);
+    end(b" dst ", dst, e.dst_mask);
+}
+
+fn end(text: &[u8], a: Address, mask: u8) {
+    say(text);
+    address(a);
+    field(b"mask", mask as u64);
 }
 
 fn address(a: Address) {

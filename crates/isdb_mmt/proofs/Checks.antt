@@ -1,24 +1,26 @@
 -- Laws of question 5: what a test of one count, one length or one place says of the whole, and what an answer yes says.
 -- Assumes nothing.
-use Prim.Native.Nat.{ℕ, zero, suc, _+_, _-_, _*_, _/_, _≤_, _<_}
+use Prim.Native.Nat.{ℕ, zero, suc, _+_, _-_, _*_, _≤_, _<_, zero-le}
 use mathlib.Core.Path.{_≡_, refl, sym, _∙_}
 use mathlib.Core.Bool.{Bool, true, false, not, cond}
-use mathlib.Core.List.{List, [], _∷_, map}
+use mathlib.Core.List.{List, [], _∷_, _++_, map}
 use native.Mathlib.Numerals.{add-one}
-use native.Mathlib.Nat.{add-zero, mul-zero, mul-suc}
+use native.Mathlib.Nat.{add-zero, mul-zero, mul-suc, sub-zero}
 use native.Mathlib.Omega.{arith}
-use borrow.Author.Tests.{eq-eqb, ne-eqb, le-leb, leb-true, eqb-true}
+use mir.Val.{Fits}
+use mir.Syntax.{w8}
+use borrow.Author.Tests.{eq-eqb, ne-eqb, le-leb, leb-true, ltb-true, ltb-false, eqb-true}
+use lib.Dec.{leb, ltb}
 use lib.Bits.{bitOr, or-add-and, and-le-l, and-le-r}
-use lib.ListN.{length, getD, drop, drop-of-length-le}
-use lib.Seq.{drop-cons}
+use lib.ListN.{length, getD, take, drop, length-drop, drop-of-length-le}
+use lib.Seq.{drop-cons, length-take-le}
 use Rattle.isdb_mmt.specs.Lent.{part, flag, placesFrom, namesFrom, distinct, every}
-use Rattle.isdb_mmt.specs.Session.{Session, mediaSize, mediaPlaces, controlSize, controlPlaces, limitsOf, usedOf, latestOf, countersOf, mediaPlaceOf, heldObjectOf, statsOf, controlPlaceOf, sectionPlaceOf}
-use Rattle.isdb_mmt.specs.Check.{countFits, lengthFits, statsCounts, packetCounts, lengthsOf, sound, soundIn, Sound, mediaSound, controlSound, sectionSound, usedSound, latestSound, countersSound, mediaIn, controlsIn, sectionsIn, headSound, placesSound, namesSound, PlacesThere}
+use Rattle.isdb_mmt.specs.Session.{Session, limitsOf, usedOf, latestOf, countersOf, mediaPlaceOf, heldObjectOf, statsOf, controlPlaceOf, sectionPlaceOf}
+use Rattle.isdb_mmt.specs.Layout.{mostMediaIds, mostControlIds, mostSections, mostCount, usedPlace, latestPlace, countersPlace, heldPlace, objectPlace, statsPlace, mediaSize, mediaPlaces, controlSize, controlPlaces, sectionSize, sectionPlaces, stateSize}
+use Rattle.isdb_mmt.specs.Check.{countFits, countsFrom, lengthFits, statsCounts, packetCounts, tableCounts, lengthsOf, sound, soundIn, Sound, mediaSound, controlSound, sectionSound, usedSound, latestSound, countersSound, mediaIn, controlsIn, sectionsIn, headSound, placesSound, namesSound, PlacesThere}
 use Rattle.isdb_mmt.specs.Limits.{asked}
 use Rattle.isdb_mmt.specs.declared.decoder.limits.Limits.{Limits}
 use Rattle.isdb_mmt.specs.declared.decoder.limits.Lengths.{Lengths}
-use Rattle.isdb_mmt.specs.declared.decoder.counts.AssetStats.{AssetStats}
-use Rattle.isdb_mmt.specs.declared.decoder.counts.Counters.{Counters}
 use Rattle.isdb_mmt.specs.declared.decoder.media.Media.{Media}
 use Rattle.isdb_mmt.specs.declared.decoder.control.Control.{Control}
 use Rattle.isdb_mmt.specs.declared.decoder.section.KeptSection.{KeptSection}
@@ -26,63 +28,149 @@ use Rattle.isdb_mmt.specs.declared.decoder.head.Used.{Used}
 use Rattle.isdb_mmt.specs.declared.decoder.head.Latest.{Latest}
 use Rattle.isdb_tlv.specs.Guards.{_≤?_, _=?_}
 use Rattle.isdb_tlv.specs.Bytes.{be}
-use Rattle.isdb_tlv.proofs.Guards.{cond-same}
+use Rattle.isdb_tlv.proofs.Numbers.{be-lt, be-add}
+use Rattle.isdb_tlv.proofs.Guards.{either, cond-same}
 use Rattle.isdb_mmt.proofs.Names.{clash}
 use Rattle.isdb_mmt.proofs.Guards.{no, yes, both, not-both, guard-holds, guard-fails, was-both, was-guarded}
 use Rattle.isdb_mmt.proofs.Limits.{passed}
+use Rattle.isdb_mmt.proofs.Stored.{own-front, limits-own, used-own, latest-own, counters-own}
 
--- every count, the first of them and the last
-pub first-fits : (x : ℕ) (r b : Bool) (l : List ℕ) → r ≡ countFits x → not r ≡ false → b ≡ every countFits l → b ≡ every countFits (x ∷ l)
-unfolding every
-first-fits x r b l e t p = rw (yes e t) p
+-- no number is above numbers or'ed with it
+or-low : (a b : ℕ) → (a ≤ bitOr a b) × (b ≤ bitOr a b)
+or-low a b =
+    let s = or-add-and a b in
+    let l = and-le-l a b in
+    let r = and-le-r a b in
+    (omega arith, omega arith)
 
-pub last-fits : (x : ℕ) (r : Bool) → r ≡ countFits x → r ≡ every countFits (x ∷ [])
+every-both : {A : Type 0} (f : A → Bool) (xs ys : List A) → every f (xs ++ ys) ≡ cond (every f xs) (every f ys) false
 unfolding every
-last-fits x true e = rw (← e)
-last-fits x false e = rw (← e)
+every-both f [] ys = refl
+every-both f (x ∷ xs) ys = either (f x) (λ t. rw t (every-both f xs ys)) (λ z. rw z)
 
--- one count that does not fit
-pub fails : (i : ℕ) (l : List ℕ) {r : Bool} → r ≡ countFits (getD l i 0) → not r ≡ true → false ≡ every countFits l
-unfolding every
-fails i [] e t = sym (no e t)
-fails zero (x ∷ l) e t = rw (no e t)
-fails (suc i) (x ∷ l) e t = rw (← fails i l e t) (sym (cond-same (countFits x) false))
+-- one turn of a walk over counts that are stored one behind the other
+module _ (n i at : ℕ) (p : List ℕ) (y : Bool) (inv : y ≡ every countFits (countsFrom (n - i) at p)) where
+  next-count : i < n → countsFrom (n - i) at p ≡ be 8 p at ∷ countsFrom (n - (i + 1)) (at + 8) p
+  unfolding countsFrom
+  next-count h = let e : n - i ≡ suc (n - (i + 1)) = omega arith in rw e
+
+  module _ (h : i < n) (v : ℕ) (r : Bool) (ev : v ≡ be 8 p at) (er : r ≡ countFits v) where
+    pub stored-fails : not r ≡ true → false ≡ y
+    unfolding every
+    stored-fails t = sym (inv ∙ rw (next-count h, ← ev, no er t))
+
+    pub stored-fits : not r ≡ false → y ≡ every countFits (countsFrom (n - (i + 1)) (at + 8) p)
+    unfolding every
+    stored-fits t = inv ∙ rw (next-count h, ← ev, yes er t)
+
+  pub stored-end : n ≤ i → true ≡ y
+  unfolding every countsFrom
+  stored-end h = let e : n - i ≡ 0 = omega arith in sym (inv ∙ rw e)
+
+-- the high half of a count decides, but for 2^53
+module _ (p : List ℕ) (bytes : (k : ℕ) → Fits w8 (getD p k 0)) where
+  high-fits : (at : ℕ) → be 4 p at * 4294967296 < mostCount → countFits (be 8 p at) ≡ true
+  high-fits at h = le-leb (be 8 p at) mostCount (omega (arith, be-add 4 4 at p, be-lt p bytes 4 (at + 4)))
+
+  module _ (n i at bits : ℕ) (y : Bool) (inv : bits * 4294967296 < mostCount → y ≡ every countFits (countsFrom (n - i) at p)) where
+    pub high-next :
+        i < n
+        → (v : ℕ)
+        → v ≡ be 4 p at
+        → bitOr bits v * 4294967296 < mostCount
+        → y ≡ every countFits (countsFrom (n - (i + 1)) (at + 8) p)
+    high-next h v ev e =
+        let o = or-low bits v in
+        stored-fits n i at p y (inv (omega arith)) h (be 8 p at) true refl (sym (high-fits at (rw (← ev) (omega arith)))) refl
+
+pub high-end :
+    (p : List ℕ) (n i at bits : ℕ) (y : Bool)
+    → (bits * 4294967296 < mostCount → y ≡ every countFits (countsFrom (n - i) at p))
+    → n ≤ i
+    → bits * 4294967296 < mostCount
+    → y ≡ true
+high-end p n i at bits y inv h e = sym (stored-end n i at p y (inv e) h)
 
 -- a media place: its length, and its counts
-module _ (l : Limits) (p : List ℕ) (h r : Bool) (n : ℕ) (eh : h ≡ flag p 18) (en : n ≡ be 4 p 44)
+module _ (l : Limits) (p : List ℕ) (h r : Bool) (n : ℕ) (eh : h ≡ flag p heldPlace) (en : n ≡ be 4 p (objectPlace + 25))
     (er : r ≡ lengthFits h n (l .«mfu_area»)) where
-  pub media-fits :
-      r ≡ true
-      → (s : AssetStats) (q : Bool)
-      → s ≡ statsOf p
-      → q ≡ every countFits (statsCounts s)
-      → q ≡ mediaSound l (mediaPlaceOf p)
-  unfolding mediaSound mediaPlaceOf heldObjectOf
-  media-fits t s q es eq = rw (← eh, ← en) (both er t (rw es at eq))
+  pub media-fits : r ≡ true → (q : Bool) → q ≡ every countFits (countsFrom 9 statsPlace p) → q ≡ mediaSound l (mediaPlaceOf p)
+  unfolding mediaSound mediaPlaceOf heldObjectOf statsOf countsFrom
+  media-fits t q eq = rw (← eh, ← en) (both er t eq)
 
   pub media-fails : r ≡ false → false ≡ mediaSound l (mediaPlaceOf p)
   unfolding mediaSound mediaPlaceOf heldObjectOf
   media-fails t = rw (← eh, ← en) (not-both _ er t)
 
--- one turn of a walk over places
+-- one turn of a walk over places, each lent with its bounds
+pub media-length : (n i at : ℕ) (s : List ℕ) → n ≤ mostMediaIds → stateSize ≤ length s → at ≡ mediaPlaces + mediaSize * i → i < n
+    → length (take (at + mediaSize - at) (drop at s)) ≡ mediaSize
+media-length n i at s m h e b =
+    let d : at + mediaSize - at ≡ mediaSize = omega arith in
+    rw d (length-take-le mediaSize (drop at s) (rw length-drop (omega arith)))
+
+next : (size n i at : ℕ) (s : List ℕ) → i < n
+    → placesFrom (n - i) size at s ≡ take (at + size - at) (drop at s) ∷ placesFrom (n - (i + 1)) size (at + size) s
+unfolding placesFrom
+next size n i at s h =
+    let e : n - i ≡ suc (n - (i + 1)) = omega arith in
+    let d : at + size - at ≡ size = omega arith in
+    rw (e, d)
+
 module _ {A : Type 0} (f : A → Bool) (g : List ℕ → A) (size n i at : ℕ) (s : List ℕ) (y : Bool)
     (inv : y ≡ every f (map g (placesFrom (n - i) size at s))) where
-  next : i < n → placesFrom (n - i) size at s ≡ part at size s ∷ placesFrom (n - (i + 1)) size (at + size) s
-  unfolding placesFrom
-  next h = let e : n - i ≡ suc (n - (i + 1)) = omega arith in rw e
-
-  module _ (p : List ℕ) (x : A) (r : Bool) (h : i < n) (ep : p ≡ part at size s) (er : r ≡ f x) (ex : x ≡ g p) where
+  module _ (x : A) (r : Bool) (h : i < n) (er : r ≡ f x) (ex : x ≡ g (take (at + size - at) (drop at s))) where
     pub place-fails : not r ≡ true → false ≡ y
     unfolding every
-    place-fails t = sym (inv ∙ rw (next h, ← ep, ← ex, no er t))
+    place-fails t = sym (inv ∙ rw (next size n i at s h, ← ex, no er t))
 
     pub place-fits : not r ≡ false → y ≡ every f (map g (placesFrom (n - (i + 1)) size (at + size) s))
     unfolding every
-    place-fits t = inv ∙ rw (next h, ← ep, ← ex, yes er t)
+    place-fits t = inv ∙ rw (next size n i at s h, ← ex, yes er t)
 
   pub places-end : n ≤ i → true ≡ y
   unfolding every placesFrom
   places-end h = let e : n - i ≡ 0 = omega arith in sym (inv ∙ rw e)
+
+-- of two lengths the larger one decides
+larger-fits : (a b c : ℕ) → leb (cond (ltb a b) b a) c ≡ cond (leb a c) (leb b c) false
+larger-fits a b c =
+    either (ltb a b)
+    (λ t.
+    rw t
+    (either (leb b c) (λ u. rw (u, le-leb a c (omega (arith, ltb-true a b t, leb-true b c u)))) (λ u. rw u (sym (cond-same (leb a c) false)))))
+    (λ t. rw t (either (leb a c) (λ u. rw (u, le-leb b c (omega (arith, ltb-false a b t, leb-true a c u)))) (λ u. rw u)))
+
+cond-both : (a b c : Bool) → cond (cond a b false) c false ≡ cond a (cond b c false) false
+cond-both true b c = refl
+cond-both false b c = refl
+
+-- sections: the longest so far, and those behind
+module _ (l : Limits) (n i at m : ℕ) (s : List ℕ) (y : Bool)
+    (inv : y ≡ cond (m ≤? l .«table_area») (every (sectionSound l) (map sectionPlaceOf (placesFrom (n - i) sectionSize at s))) false) where
+  pub section-next :
+      i < n
+      → (v k : ℕ)
+      → v ≡ be 4 (take (at + sectionSize - at) (drop at s)) 5
+      → k ≡ cond (ltb m v) v m
+      → y
+      ≡ cond (k ≤? l .«table_area») (every (sectionSound l) (map sectionPlaceOf (placesFrom (n - (i + 1)) sectionSize (at + sectionSize) s))) false
+  unfolding every sectionPlaceOf
+  section-next h v k ev ek =
+      inv
+      ∙ rw (next sectionSize n i at s h, ← ev, ek, larger-fits m v (l .«table_area»))
+      (sym (cond-both (leb m (l .«table_area»)) (leb v (l .«table_area»)) _))
+
+  pub sections-end : n ≤ i → (m ≤? l .«table_area») ≡ y
+  unfolding every placesFrom
+  sections-end h =
+      let e : n - i ≡ 0 = omega arith in
+      sym (inv ∙ rw e (either (m ≤? l .«table_area») (λ t. rw t) (λ t. rw t)))
+
+pub sections-start : (l : Limits) (n : ℕ) (s : List ℕ)
+    → every (sectionSound l) (map sectionPlaceOf (placesFrom n sectionSize sectionPlaces s))
+    ≡ cond (0 ≤? l .«table_area») (every (sectionSound l) (map sectionPlaceOf (placesFrom (n - 0) sectionSize sectionPlaces s))) false
+sections-start l n s = rw (sub-zero, le-leb 0 (l .«table_area») zero-le)
 
 -- and over the counts of table ids
 module _ (l : List ℕ) (i : ℕ) (y : Bool) (inv : y ≡ every countFits (drop i l)) where
@@ -105,13 +193,13 @@ module _ (l : List ℕ) (i : ℕ) (y : Bool) (inv : y ≡ every countFits (drop 
 
 -- the places of every sort
 module _ (s : List ℕ) (l : Limits) (u : Used) (el : l ≡ limitsOf s) (eu : u ≡ usedOf s) (a : Bool)
-    (ea : a ≡ every (mediaSound l) (map mediaPlaceOf (placesFrom (u .«media_ids») 120 184 s))) where
+    (ea : a ≡ every (mediaSound l) (map mediaPlaceOf (placesFrom (u .«media_ids») mediaSize mediaPlaces s))) where
   pub some-media-fails : not a ≡ true → false ≡ placesSound s
   unfolding placesSound mediaIn
   some-media-fails t = guard-fails _ (rw (el, eu) at ea) t
 
   module _ (ta : not a ≡ false) (b : Bool)
-      (eb : b ≡ every (controlSound l) (map controlPlaceOf (placesFrom (u .«control_ids») 21 7864 s))) where
+      (eb : b ≡ every (controlSound l) (map controlPlaceOf (placesFrom (u .«control_ids») controlSize controlPlaces s))) where
     pub some-control-fails : not b ≡ true → false ≡ placesSound s
     unfolding placesSound mediaIn controlsIn
     some-control-fails t = guard-holds (rw (el, eu) at ea) ta (guard-fails _ (rw (el, eu) at eb) t)
@@ -119,7 +207,7 @@ module _ (s : List ℕ) (l : Limits) (u : Used) (el : l ≡ limitsOf s) (eu : u 
     pub sections-decide :
         not b ≡ false
         → (c : Bool)
-        → c ≡ every (sectionSound l) (map sectionPlaceOf (placesFrom (u .sections) 9 8536 s))
+        → c ≡ every (sectionSound l) (map sectionPlaceOf (placesFrom (u .sections) sectionSize sectionPlaces s))
         → c ≡ placesSound s
     unfolding placesSound mediaIn controlsIn sectionsIn
     sections-decide t c ec = guard-holds (rw (el, eu) at ea) ta (guard-holds (rw (el, eu) at eb) t (rw (el, eu) at ec))
@@ -127,35 +215,35 @@ module _ (s : List ℕ) (l : Limits) (u : Used) (el : l ≡ limitsOf s) (eu : u 
 -- the names of every sort
 module _ (s : List ℕ) (u : Used) (eu : u ≡ usedOf s) where
   module _ (h : PlacesThere s) where
-    pub media-there : u .«media_ids» ≤ 64
+    pub media-there : u .«media_ids» ≤ mostMediaIds
     media-there = rw eu (h .media)
 
-    pub controls-there : u .«control_ids» ≤ 32
+    pub controls-there : u .«control_ids» ≤ mostControlIds
     controls-there = rw eu (h .controls)
 
-    pub sections-there : u .sections ≤ 512
+    pub sections-there : u .sections ≤ mostSections
     sections-there = rw eu (h .sections)
 
-    pub media-within : 184 + u .«media_ids» * 120 ≤ length s
+    pub media-within : mediaPlaces + u .«media_ids» * mediaSize ≤ length s
     media-within = omega (arith, media-there, h .long)
 
-    pub controls-within : 7864 + u .«control_ids» * 21 ≤ length s
+    pub controls-within : controlPlaces + u .«control_ids» * controlSize ≤ length s
     controls-within = omega (arith, controls-there, h .long)
 
-    pub sections-within : 8536 + u .sections * 9 ≤ length s
+    pub sections-within : sectionPlaces + u .sections * sectionSize ≤ length s
     sections-within = omega (arith, sections-there, h .long)
 
-  module _ (a : Bool) (ea : a ≡ distinct (namesFrom (u .«media_ids») 120 184 s)) where
+  module _ (a : Bool) (ea : a ≡ distinct (namesFrom (u .«media_ids») mediaSize mediaPlaces s)) where
     pub media-twice : not a ≡ true → false ≡ namesSound s
     unfolding namesSound
     media-twice t = guard-fails _ (rw eu at ea) t
 
-    module _ (ta : not a ≡ false) (b : Bool) (eb : b ≡ distinct (namesFrom (u .«control_ids») 21 7864 s)) where
+    module _ (ta : not a ≡ false) (b : Bool) (eb : b ≡ distinct (namesFrom (u .«control_ids») controlSize controlPlaces s)) where
       pub control-twice : not b ≡ true → false ≡ namesSound s
       unfolding namesSound
       control-twice t = guard-holds (rw eu at ea) ta (guard-fails _ (rw eu at eb) t)
 
-      pub keys-decide : not b ≡ false → (c : Bool) → c ≡ distinct (namesFrom (u .sections) 9 8536 s) → c ≡ namesSound s
+      pub keys-decide : not b ≡ false → (c : Bool) → c ≡ distinct (namesFrom (u .sections) sectionSize sectionPlaces s) → c ≡ namesSound s
       unfolding namesSound
       keys-decide t c ec = guard-holds (rw eu at ea) ta (guard-holds (rw eu at eb) t (rw eu at ec))
 
@@ -175,32 +263,29 @@ module _ (s others : List ℕ) (lent : Lengths) (l : Limits) (k : ℕ) (el : l �
       unfolding headSound
       latest-fails t = rw (← el, ← ek, eq-eqb k 0 tk, ← eu, ← ex) (guard-holds ea ta (guard-fails _ eb t))
 
-      module _ (tb : not b ≡ false) (y : Counters) (c : Bool) (ey : y ≡ countersOf s) (ec : c ≡ countersSound y) where
+      module _ (tb : not b ≡ false) (c : Bool) (ef : c ≡ every countFits (countsFrom 12 countersPlace s)) where
+        ec : c ≡ countersSound (countersOf s)
+        unfolding countsFrom countersOf countersSound
+        ec = ef ∙ every-both countFits (packetCounts (countersOf s)) (tableCounts (countersOf s))
+
         pub counters-fail : not c ≡ true → false ≡ headSound s others lent
         unfolding headSound
         counters-fail t =
-            rw (← el, ← ek, eq-eqb k 0 tk, ← eu, ← ex, ← ey) (guard-holds ea ta (guard-holds eb tb (guard-fails _ ec t)))
+            rw (← el, ← ek, eq-eqb k 0 tk, ← eu, ← ex) (guard-holds ea ta (guard-holds eb tb (guard-fails _ ec t)))
 
         pub others-decide : not c ≡ false → (d : Bool) → d ≡ every countFits others → d ≡ headSound s others lent
         unfolding headSound
         others-decide t d ed =
-            rw (← el, ← ek, eq-eqb k 0 tk, ← eu, ← ex, ← ey) (guard-holds ea ta (guard-holds eb tb (guard-holds ec t ed)))
+            rw (← el, ← ek, eq-eqb k 0 tk, ← eu, ← ex) (guard-holds ea ta (guard-holds eb tb (guard-holds ec t ed)))
 
--- counts without bits from 53 on
-or-none : (a b : ℕ) → bitOr a b ≡ 0 → (a ≡ 0) × (b ≡ 0)
-or-none a b e =
-    let s = or-add-and a b in
-    let l = and-le-l a b in
-    let r = and-le-r a b in
-    (omega arith, omega arith)
-
-module _ (l : List ℕ) (i bits : ℕ) (y : Bool) (inv : bits ≡ 0 → y ≡ every countFits (drop i l)) where
-  pub low-bits : i < length l → bitOr bits (getD l i 0 / 9007199254740992) ≡ 0 → y ≡ every countFits (drop (i + 1) l)
+-- the counts of table ids, or'ed
+module _ (l : List ℕ) (i bits : ℕ) (y : Bool) (inv : bits ≤ mostCount → y ≡ every countFits (drop i l)) where
+  pub low-bits : i < length l → bitOr bits (getD l i 0) ≤ mostCount → y ≡ every countFits (drop (i + 1) l)
   low-bits h e =
-      let o = or-none bits (getD l i 0 / 9007199254740992) e in
-      count-fits l i y (inv (o .0)) h true (sym (le-leb (getD l i 0) 9007199254740992 (omega (arith, o .1)))) refl
+      let o = or-low bits (getD l i 0) in
+      count-fits l i y (inv (omega arith)) h true (sym (le-leb (getD l i 0) mostCount (omega arith))) refl
 
-  pub all-low : length l ≤ i → bits ≡ 0 → y ≡ true
+  pub all-low : length l ≤ i → bits ≤ mostCount → y ≡ true
   all-low h e = sym (counts-end l i y (inv e) h)
 
 -- ---- and back: what an answer yes says
@@ -247,9 +332,6 @@ module _ (s others : List ℕ) (lent : Lengths) where
           controls = omega arith;
           sections = omega arith;
         }
-
-    pub head-there : (r : Bool) → r ≡ headSound s others lent → not r ≡ false → PlacesThere s
-    head-there r e t = there (yes e t)
 
 -- a length that fits where there is something, and two of them
 was-there : (a : Bool) (n area : ℕ) → lengthFits a n area ≡ true → a ≡ true → n ≤ area
@@ -302,7 +384,7 @@ place-was f g (suc n) size at s (suc i) e h =
     rw p (place-was f g n size (at + size) s i (was-both (f (g (part at size s))) _ e .1) (omega arith))
 
 -- one count of those that fit
-pub count-was : (l : List ℕ) (i : ℕ) → every countFits l ≡ true → getD l i 0 ≤ 9007199254740992
+pub count-was : (l : List ℕ) (i : ℕ) → every countFits l ≡ true → getD l i 0 ≤ mostCount
 unfolding every
 count-was [] i e = omega arith
 count-was (x ∷ l) zero e = leb-true x _ (was-both (countFits x) _ e .0)
@@ -393,3 +475,48 @@ is-sound l others lent h =
     let u = used-is (limitsOf l) (usedOf l) (record { media = h .media; controls = h .controls; sections = h .sections }) in
     let x = latest-is (limitsOf l) (latestOf l) (h .plt) (h .tot) in
     simp (h .limits, u, x, h .packets, h .tables, h .counts, h .objects, h .messages, h .kept, h .mediaNames, h .controlNames, h .keys)
+
+-- ---- the whole question, with a head that is read from its own bytes
+
+module _ (s : List ℕ) where
+  pub front-length : stateSize ≤ length s → length (take mediaPlaces s) ≡ mediaPlaces
+  front-length h = length-take-le mediaPlaces s (omega arith)
+
+  pub limits-front : (l : Limits) → l ≡ limitsOf (take mediaPlaces s) → l ≡ limitsOf s
+  limits-front l e = e ∙ own-front limitsOf 0 usedPlace mediaPlaces limits-own (omega arith) s
+
+  pub used-front : (u : Used) → u ≡ usedOf (take mediaPlaces s) → u ≡ usedOf s
+  used-front u e = e ∙ own-front usedOf usedPlace 12 mediaPlaces used-own (omega arith) s
+
+  head-front : (others : List ℕ) (lent : Lengths) → headSound (take mediaPlaces s) others lent ≡ headSound s others lent
+  unfolding headSound
+  head-front others lent =
+      rw (
+        limits-front (limitsOf (take mediaPlaces s)) refl,
+        used-front (usedOf (take mediaPlaces s)) refl,
+        own-front latestOf latestPlace 10 mediaPlaces latest-own (omega arith) s,
+        own-front countersOf countersPlace 96 mediaPlaces counters-own (omega arith) s,
+      )
+
+  module _ (others : List ℕ) (lent : Lengths) (long : lent .state ≡ length s) where
+    pub too-short : length s < stateSize → false ≡ soundIn s others lent
+    too-short h =
+        either (soundIn s others lent) (λ t. let k = sound-is s others lent long t .there .long in absurd (omega arith)) (λ f. sym f)
+
+    module _ (a : Bool) (ea : a ≡ headSound (take mediaPlaces s) others lent) where
+      pub head-fails : not a ≡ true → false ≡ soundIn s others lent
+      unfolding soundIn
+      head-fails t = guard-fails _ (ea ∙ head-front others lent) t
+
+      module _ (ta : not a ≡ false) where
+        pub head-there : PlacesThere s
+        head-there = there s others lent long (yes (ea ∙ head-front others lent) ta)
+
+        module _ (b : Bool) (eb : b ≡ placesSound s) where
+          pub places-fail : not b ≡ true → false ≡ soundIn s others lent
+          unfolding soundIn
+          places-fail t = guard-holds (ea ∙ head-front others lent) ta (guard-fails _ eb t)
+
+          pub names-decide : not b ≡ false → (c : Bool) → c ≡ namesSound s → c ≡ soundIn s others lent
+          unfolding soundIn
+          names-decide t c ec = guard-holds (ea ∙ head-front others lent) ta (guard-holds eb t ec)

@@ -140,3 +140,7 @@ module _ (l : Loop) {r : Entries} (e : r ≡ entriesTold l) where
   pub count-told : length (l .found) ≡ r .count
   unfolding entriesTold
   count-told = rw e
+
+  pub breaks-told : l .breaks ≡ r .breaks
+  unfolding entriesTold
+  breaks-told = rw e

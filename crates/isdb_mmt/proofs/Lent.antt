@@ -8,13 +8,13 @@ use native.Mathlib.Nat.{add-zero, mul-zero, not-suc-le-zero}
 use native.Mathlib.Numerals.{add-one}
 use native.Mathlib.Omega.{arith}
 use lib.ListN.{length, getD, take, drop, set, length-append, length-take, length-drop, take-append-drop, drop-of-length-le, List·getD-append}
-use lib.Seq.{length-take-le, drop-length, take-append-seam, drop-append-seam, take-append-add, drop-append-add, getD-append-add, getD-take, getD-drop, drop-drop, drop-append-le, take-all, take-suc, set-split, ext-getD, take-at, drop-at}
+use lib.Seq.{length-take-le, drop-length, take-append-seam, drop-append-seam, take-append-add, drop-append-add, getD-append-add, getD-take, getD-drop, drop-drop, drop-append-le, take-all, take-suc, take-take, set-split, ext-getD, take-at, drop-at}
 use borrow.Rule.Slice.PartMut.{putMid}
 use Rattle.isdb_tlv.specs.Bytes.{be, putBe}
-use Rattle.isdb_tlv.specs.Fields.{bytesOf, Field, written}
+use Rattle.isdb_tlv.specs.Fields.{bytesOf, Field, written, puts}
 use Rattle.isdb_tlv.proofs.Numbers.{be-ext, be-drop, be-take, length-putBe}
 use Rattle.isdb_tlv.proofs.Fields.{length-bytesOf, length-written, size}
-use Rattle.isdb_mmt.specs.Lent.{part, over, puts, placesFrom, namesFrom}
+use Rattle.isdb_mmt.specs.Lent.{part, over, placesFrom, namesFrom}
 
 -- ---- one write
 
@@ -87,6 +87,13 @@ pub part-apart : (at n b : ℕ) (bs l : List ℕ) → (at + n ≤ b) ⊎ (b + le
 part-apart at n b bs l d h =
     part-ext at n (over b bs l) l (length-over b bs l h)
     (λ k x y. getD-apart b bs l h k (⊎-elim (λ p. inl (omega arith)) (λ q. inr (omega arith)) d))
+
+-- a part of the first `k` bytes
+pub part-take : (at n k : ℕ) (l : List ℕ) → at + n ≤ k → part at n (take k l) ≡ part at n l
+part-take zero n k l h = take-take n k l (omega arith)
+part-take (suc at) n zero l h = absurd (omega arith)
+part-take (suc at) n (suc k) [] h = refl
+part-take (suc at) n (suc k) (x ∷ l) h = part-take at n k l (omega arith)
 
 -- what a call on the part from a to e leaves of the whole
 pub lend-over : (a e : ℕ) (bs l : List ℕ) → length bs ≡ e - a → take a l ++ (bs ++ drop (e - a) (drop a l)) ≡ over a bs l
@@ -161,6 +168,11 @@ copy-next at k b l m m′ h lt e d =
 pub copied : (at k : ℕ) (b l m : List ℕ) → length b ≤ k → m ≡ over at (take k b) l → m ≡ over at b l
 copied at k b l m h e = rw (take-all k b h) at e
 
+-- a field of no bytes
+pub put-none : (at v : ℕ) (l : List ℕ) → putBe 0 at v l ≡ l
+unfolding putBe
+put-none at v l = refl
+
 -- a number stored is its bytes
 pub putBe-over : (w at v : ℕ) (l : List ℕ) → at + w ≤ length l → putBe w at v l ≡ over at (bytesOf w v) l
 unfolding putBe bytesOf
@@ -198,6 +210,9 @@ puts-whole fs l e = puts-over fs 0 l (omega arith) ∙ over-whole (written fs) l
 pub name-of : (size at : ℕ) (l : List ℕ) → 4 ≤ size → be 4 (part at size l) 0 ≡ be 4 l at
 name-of size at l h = be-take 4 size (drop at l) 0 h ∙ be-drop 4 at l 0 ∙ ap (be 4 l) (add-zero at)
 
+pub word-read : (p : ℕ) (l : List ℕ) (r : ℕ) → r ≡ be 4 (take (p + 4 - p) (drop p l)) 0 → r ≡ be 4 l p
+word-read p l r e = let d : p + 4 - p ≡ 4 = omega arith in e ∙ rw d (name-of 4 p l (omega arith))
+
 module _ (size : ℕ) where
   pub length-places : (n at : ℕ) (l : List ℕ) → length (placesFrom n size at l) ≡ n
   unfolding placesFrom
@@ -215,7 +230,7 @@ module _ (size : ℕ) where
   names-of h (suc n) at l =
       let e0 = name-of size at l h in
       let e1 : map (λ p. be 4 p 0) (placesFrom n size (at + size) l) ≡ namesFrom n size (at + size) l = names-of h n (at + size) l in
-      cc
+      λ k. e0 k ∷ e1 k
 
   -- the next place is behind the others
   pub places-snoc : (n at : ℕ) (l : List ℕ) → placesFrom (suc n) size at l ≡ placesFrom n size at l ++ (part (at + size * n) size l ∷ [])
@@ -237,7 +252,7 @@ module _ (size : ℕ) where
         part-apart at size b bs l (⊎-elim (λ x. inr x) (λ y. inl (omega arith)) d) h in
         let e1 : placesFrom n size (at + size) (over b bs l) ≡ placesFrom n size (at + size) l =
         places-apart n (at + size) (⊎-elim (λ x. inl (omega arith)) (λ y. inr (omega arith)) d) in
-        cc
+        λ k. e0 k ∷ e1 k
 
   -- a write to one of them changes that one
   pub places-set : (bs l : List ℕ) → length bs ≡ size → (n i at : ℕ) → i < n → at + size * i + size ≤ length l
@@ -249,11 +264,11 @@ module _ (size : ℕ) where
       let e0 : part at size (over at bs l) ≡ bs = ap (λ k. part at k (over at bs l)) (sym e) ∙ part-over at bs l (omega arith) in
       let e1 : placesFrom n size (at + size) (over at bs l) ≡ placesFrom n size (at + size) l =
       places-apart at bs l (omega arith) n (at + size) (inl (omega arith)) in
-      rw z (cc)
+      rw z (λ k. e0 k ∷ e1 k)
   places-set bs l e (suc n) (suc i) at b h =
       let z : at + size * suc i ≡ at + size + size * i = omega arith in
       let e0 : part at size (over (at + size + size * i) bs l) ≡ part at size l =
       part-apart at size (at + size + size * i) bs l (inl (omega arith)) (omega arith) in
       let e1 : placesFrom n size (at + size) (over (at + size + size * i) bs l) ≡ set (placesFrom n size (at + size) l) i bs =
       places-set bs l e n i (at + size) (omega arith) (omega arith) in
-      rw z (cc)
+      rw z (λ k. e0 k ∷ e1 k)

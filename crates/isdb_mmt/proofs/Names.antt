@@ -4,7 +4,7 @@ use mathlib.Core.Path.{_≡_, refl, sym, ap, _∙_, subst}
 use mathlib.Core.Logic.{_⊎_, inl, inr, ⊎-elim}
 use mathlib.Core.Bool.{Bool, true, false, cond}
 use mathlib.Core.List.{List, [], _∷_, _++_}
-use native.Mathlib.Nat.{mul-le-mul-right, add-zero, zero-add}
+use native.Mathlib.Nat.{mul-le-mul-right, zero-add}
 use native.Mathlib.Numerals.{add-one}
 use native.Mathlib.Omega.{arith}
 use lib.Dec.{eqb, T}
@@ -14,10 +14,9 @@ use borrow.Author.Tests.{eq-eqb, ne-eqb, eqb-true, eqb-false, lt-ltb, le-ltb}
 use Rattle.isdb_tlv.specs.Bytes.{be, withBit}
 use Rattle.isdb_tlv.proofs.Messages.{bit-set}
 use Rattle.isdb_tlv.proofs.Guards.{either, cond-same}
-use Rattle.isdb_mmt.specs.Lent.{namesFrom, among, amongMarked, distinct, cellOf, foundFrom, seatAfter, seatOf}
+use Rattle.isdb_mmt.specs.Lent.{namesFrom, among, amongMarked, distinct, cellOf, foundFrom, seatOf}
 use Rattle.isdb_mmt.specs.declared.decoder.place.Found.{Found}
 use Rattle.isdb_mmt.specs.declared.decoder.place.Found.the-variants.{At, Nothing}
-use Rattle.isdb_mmt.specs.declared.decoder.place.Seat.{Seat}
 use Rattle.isdb_mmt.specs.declared.decoder.place.Seat.the-variants.{Old, New, Full}
 use Rattle.isdb_mmt.proofs.Lent.{length-names}
 
@@ -31,6 +30,10 @@ there Nothing = false
 abbrev pub indexIn : Found → ℕ
 indexIn (At i) = i
 indexIn Nothing = 0
+
+-- a place has its name
+pub name-in : (at size n i p m : ℕ) → 4 ≤ size → at + n * size ≤ m → i < n → p ≡ at + i * size → p + 4 ≤ m
+name-in at size n i p m k h b e = let z : (i + 1) * size ≤ n * size = mul-le-mul-right size (omega arith) in omega arith
 
 -- the next place starts within the memory that has them all
 pub next-in : (at size n i p m : ℕ) → at + n * size ≤ m → i < n → p ≡ at + i * size → (p + size ≤ m) × (p + size ≡ at + (i + 1) * size)
@@ -83,22 +86,30 @@ module _ (l : List ℕ) (size n at limit x : ℕ) (f : Found) (ef : f ≡ foundF
 
 -- ---- no name twice
 
--- finding a name tells whether it is one of them
-among-found : (x i : ℕ) (names : List ℕ) → among x names ≡ there (foundFrom i names x)
-unfolding among foundFrom
-among-found x i [] = refl
-among-found x i (y ∷ ys) = either (eqb y x) (λ t. rw t) (λ f. rw f (among-found x (i + 1) ys))
+-- one turn of a search among them
+module _ (l : List ℕ) (size n i p x : ℕ) (y : Bool) (inv : y ≡ among x (namesFrom (n - i) size p l)) where
+  module _ (h : i < n) (v : ℕ) (d : v ≡ be 4 l p) where
+    pub among-hit : v ≡ x → true ≡ y
+    unfolding among
+    among-hit e = sym (inv ∙ rw (next l size n i p h) (rw (eq-eqb _ _ (sym d ∙ e))))
 
-module _ (l : List ℕ) (size n at x mark : ℕ) where
-  pub unmarked : mark ≡ 0 → false ≡ amongMarked mark x (namesFrom n size at l)
+    pub among-miss : (v ≡ x → ⊥) → y ≡ among x (namesFrom (n - (i + 1)) size (p + size) l)
+    unfolding among
+    among-miss e = inv ∙ rw (next l size n i p h) (rw (ne-eqb _ _ (λ z. e (d ∙ z))))
+
+  pub among-end : n ≤ i → false ≡ y
+  unfolding among
+  among-end h = sym (inv ∙ rw (end l size n i p h))
+
+pub among-start : (l : List ℕ) (size n at x : ℕ) → among x (namesFrom n size at l) ≡ among x (namesFrom (n - 0) size at l)
+among-start l size n at x = let e : n - 0 ≡ n = omega arith in rw e
+
+module _ (names : List ℕ) (x mark : ℕ) where
+  pub unmarked : mark ≡ 0 → false ≡ amongMarked mark x names
   unmarked e = rw (eq-eqb mark 0 e)
 
-  module _ (h : mark ≡ 0 → ⊥) (f : Found) (ef : f ≡ foundFrom 0 (namesFrom n size at l) x) where
-    pub is-there : (i : ℕ) → f ≡ At i → true ≡ amongMarked mark x (namesFrom n size at l)
-    is-there i e = rw (ne-eqb mark 0 h, among-found x 0 (namesFrom n size at l), ← ef, e)
-
-    pub is-not-there : f ≡ Nothing → false ≡ amongMarked mark x (namesFrom n size at l)
-    is-not-there e = rw (ne-eqb mark 0 h, among-found x 0 (namesFrom n size at l), ← ef, e)
+  pub marked-there : (mark ≡ 0 → ⊥) → (r : Bool) → r ≡ among x names → r ≡ amongMarked mark x names
+  marked-there h r e = rw (ne-eqb mark 0 h) e
 
 among-snoc : (x y : ℕ) (xs : List ℕ) → among x (xs ++ (y ∷ [])) ≡ true → (among x xs ≡ true) ⊎ (y ≡ x)
 unfolding among
@@ -189,6 +200,33 @@ pub record Marked (names marks : List ℕ) : Type 0 where
   pub covers : (x : ℕ) → among x names ≡ true → markIn marks (cellOf x) ≡ 0 → ⊥
   pub apart : distinct names ≡ true
 
+-- the name behind `i` others
+module _ (n : ℕ) (l : List ℕ) (size at i x p : ℕ) (ep : p ≡ at + i * size) (ex : x ≡ be 4 l p) where
+  pub found-twice : i < n → among x (namesFrom i size at l) ≡ true → false ≡ distinct (namesFrom n size at l)
+  found-twice h a =
+      let en : n ≡ i + suc (n - (i + 1)) = omega arith in
+      sym
+      (ap (λ m. distinct (namesFrom m size at l)) en
+      ∙ ap distinct (names-split l size (n - (i + 1)) i at)
+      ∙ rw (← ep, ← ex) (distinct-again x (namesFrom i size at l) (namesFrom (n - (i + 1)) size (p + size) l) a))
+
+  pub apart-next : among x (namesFrom i size at l) ≡ false → distinct (namesFrom i size at l) ≡ true → distinct (namesFrom (i + 1) size at l) ≡ true
+  apart-next a d = rw (add-one i, names-snoc l size i at, ← ep, ← ex) (distinct-snoc x (namesFrom i size at l) d a)
+
+  module _ (b : Bool) (eb : b ≡ among x (namesFrom i size at l)) where
+    pub pair-twice : i < n → b ≡ true → false ≡ distinct (namesFrom n size at l)
+    pair-twice h t = found-twice h (sym eb ∙ t)
+
+    pub pair-next : b ≡ false → distinct (namesFrom i size at l) ≡ true → distinct (namesFrom (i + 1) size at l) ≡ true
+    pair-next t d = apart-next (sym eb ∙ t) d
+
+pub none-apart : (l : List ℕ) (size at : ℕ) → distinct (namesFrom 0 size at l) ≡ true
+unfolding namesFrom distinct
+none-apart l size at = refl
+
+pub all-pairs : (l : List ℕ) (size n at i : ℕ) → distinct (namesFrom i size at l) ≡ true → i ≤ n → n ≤ i → true ≡ distinct (namesFrom n size at l)
+all-pairs l size n at i d h m = let e : n ≡ i = omega arith in rw e (sym d)
+
 module _ (l : List ℕ) (size n at i : ℕ) where
   pub none-marked : (marks : List ℕ) → i ≡ 0 → length marks ≡ 512 → Marked (namesFrom i size at l) marks
   unfolding namesFrom among distinct
@@ -197,13 +235,8 @@ module _ (l : List ℕ) (size n at i : ℕ) where
   module _ (marks : List ℕ) (k : Marked (namesFrom i size at l) marks) (x p : ℕ) (ep : p ≡ at + i * size) (ex : x ≡ be 4 l p) (c : ℕ) (ec : c ≡ cellOf x) (b : Bool) (eb : b ≡ amongMarked (markIn marks c) x (namesFrom i size at l)) where
     pub stands-twice : i < n → b ≡ true → false ≡ distinct (namesFrom n size at l)
     stands-twice h t =
-        let a : among x (namesFrom i size at l) ≡ true =
-        either (eqb (markIn marks c) 0) (λ z. clash false (rw (eb, z) at t) refl) (λ z. rw (eb, z) at t) in
-        let en : n ≡ i + suc (n - (i + 1)) = omega arith in
-        sym
-        (ap (λ m. distinct (namesFrom m size at l)) en
-        ∙ ap distinct (names-split l size (n - (i + 1)) i at)
-        ∙ rw (← ep, ← ex) (distinct-again x (namesFrom i size at l) (namesFrom (n - (i + 1)) size (p + size) l) a))
+        found-twice n l size at i x p ep ex h
+        (either (eqb (markIn marks c) 0) (λ z. clash false (rw (eb, z) at t) refl) (λ z. rw (eb, z) at t))
 
     not-before : b ≡ false → among x (namesFrom i size at l) ≡ false
     not-before t =
@@ -216,15 +249,18 @@ module _ (l : List ℕ) (size n at i : ℕ) where
     mark-next t lc w ew =
         let h : c / 64 < length marks = omega (arith, k .long) in
         let r : c % 64 % 64 ≡ c % 64 = omega arith in
-        rw (ew, r, add-one i, names-snoc l size i at, ← ep, ← ex)
+        let d = apart-next n l size at i x p ep ex (not-before t) (k .apart) in
+        let s : namesFrom (i + 1) size at l ≡ namesFrom i size at l ++ (x ∷ []) = rw (add-one i, names-snoc l size i at, ← ep, ← ex) in
+        rw (ew, r)
         (record {
           long = length-set marks (c / 64) (withBit (getD marks (c / 64) 0) (c % 64)) ∙ k .long;
           covers =
               λ z a e.
               let m = marked marks c h (cellOf z) e in
-              ⊎-elim (λ y. k .covers z y (m .1)) (λ y. m .0 (ap cellOf (sym y) ∙ sym ec)) (among-snoc z x (namesFrom i size at l) a);
-          apart = distinct-snoc x (namesFrom i size at l) (k .apart) (not-before t);
+              ⊎-elim (λ y. k .covers z y (m .1)) (λ y. m .0 (ap cellOf (sym y) ∙ sym ec))
+              (among-snoc z x (namesFrom i size at l) (rw s at a));
+          apart = d;
         })
 
 pub all-apart : (l : List ℕ) (size n at i : ℕ) (marks : List ℕ) → Marked (namesFrom i size at l) marks → i ≤ n → n ≤ i → true ≡ distinct (namesFrom n size at l)
-all-apart l size n at i marks k h m = let e : n ≡ i = omega arith in rw e (sym (k .apart))
+all-apart l size n at i marks k h m = all-pairs l size n at i (k .apart) h m

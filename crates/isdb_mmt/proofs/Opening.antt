@@ -1,7 +1,7 @@
 -- Laws of an opening: memory that is set to zeros, and what an opened state holds. Assumes nothing.
 use Prim.Native.Nat.{ℕ, zero, suc, _+_, _*_, _-_, _≤_, _<_, zero-le}
 use mathlib.Core.Path.{_≡_, refl, sym, ap, _∙_}
-use mathlib.Core.Bool.{Bool, true, false, not}
+use mathlib.Core.Bool.{Bool, true, false}
 use mathlib.Core.List.{List, [], _++_, append-assoc, append-nil}
 use native.Mathlib.Nat.{zero-add, suc-add}
 use native.Mathlib.Omega.{arith}
@@ -9,11 +9,11 @@ use lib.ListN.{length, getD, set, take, drop, replicate, length-append, length-r
 use lib.Seq.{length-take-le}
 use borrow.Author.Fill.{fill-more}
 use borrow.Author.Tests.{le-leb}
-use Rattle.isdb_tlv.specs.Guards.{_=?_}
 use Rattle.isdb_tlv.specs.Bytes.{be}
 use Rattle.isdb_tlv.specs.Fields.{written, Fit}
-use Rattle.isdb_tlv.proofs.Fields.{length-written, be-behind, be-before, fieldAt, offsetOf, read}
+use Rattle.isdb_tlv.proofs.Fields.{length-written, be-behind, be-before}
 use Rattle.isdb_mmt.specs.Lent.{over, flag, flagByte, placesFrom, namesFrom, distinct, every, indexed}
+use Rattle.isdb_mmt.specs.Layout.{tableIds, usedPlace, latestPlace, timePlace, countersPlace, stateSize}
 use Rattle.isdb_mmt.specs.Limits.{asked}
 use Rattle.isdb_mmt.specs.Session.{Session, limitsFields, limitsOf, usedOf, latestOf, timeOf, countersOf}
 use Rattle.isdb_mmt.specs.Check.{lengthsOf, countFits, sound, soundIn, headSound, placesSound, namesSound, usedSound, latestSound, countersSound, mediaIn, controlsIn, sectionsIn}
@@ -29,6 +29,7 @@ use Rattle.isdb_mmt.specs.declared.decoder.head.Time.{Time}
 use Rattle.isdb_mmt.specs.declared.decoder.counts.Counters.{Counters}
 use Rattle.isdb_mmt.proofs.Lent.{over-start, length-over}
 use Rattle.isdb_mmt.proofs.Limits.{passed}
+use Rattle.isdb_mmt.proofs.Stored.{holds-front, yes-no, limits-held}
 
 -- `s` has come of `s₀` by zeros in the first `i` elements
 pub record Cleared (s₀ s : List ℕ) (i : ℕ) : Type 0 where
@@ -53,6 +54,10 @@ cleared-all s₀ s i c h =
     let e : i ≡ length s₀ = omega arith in
     let d : drop i s₀ ≡ [] = drop-of-length-le s₀ {i = i} (omega arith) in
     c .zeros ∙ rw (d, e, append-nil)
+
+-- the bytes behind the limits
+abbrev zeroed : ℕ
+zeroed = stateSize - usedPlace
 
 -- `n` zeros
 abbrev zeros : ℕ → List ℕ
@@ -83,17 +88,17 @@ over-zeros bs s m n k e h q =
     ∙ ap (λ (x : List ℕ). over 0 (bs ++ x) s) (drop-zeros n k)
 
 -- the state that is left: `m` of the part that was cleared, then limits over its start
-pub opens-state : (l : Limits) (s m b : List ℕ) → 13144 ≤ length s → m ≡ replicate (length (take 13144 s)) 0
-    → b ≡ over 0 (written (limitsFields l)) (m ++ drop 13144 s) → b ≡ over 0 (openedState l) s
+pub opens-state : (l : Limits) (s m b : List ℕ) → stateSize ≤ length s → m ≡ replicate (length (take stateSize s)) 0
+    → b ≡ over 0 (written (limitsFields l)) (m ++ drop stateSize s) → b ≡ over 0 (openedState l) s
 unfolding openedState
-opens-state l s m b h e f = f ∙ over-zeros (written (limitsFields l)) s m 57 13087 (length-written (limitsFields l)) h e
+opens-state l s m b h e f = f ∙ over-zeros (written (limitsFields l)) s m usedPlace zeroed (length-written (limitsFields l)) h e
 
 -- the answer `r` of an opening and what it leaves
 module _ (l : Limits) (state others objects messages tables : List ℕ) (r : ℕ) (e : r ≡ asked l (lengthsOf (lent state others objects messages tables))) where
-  pub opens-long : r ≡ 0 → 13144 ≤ length state
+  pub opens-long : r ≡ 0 → stateSize ≤ length state
   opens-long z = passed l (lengthsOf (lent state others objects messages tables)) (sym e ∙ z) .state
 
-  pub opens : (state′ others′ : List ℕ) → r ≡ 0 → length others ≡ 256 → state′ ≡ over 0 (openedState l) state
+  pub opens : (state′ others′ : List ℕ) → r ≡ 0 → length others ≡ tableIds → state′ ≡ over 0 (openedState l) state
       → others′ ≡ replicate (length others) 0
       → Opened l (lent state others objects messages tables) r (lent state′ others′ objects messages tables)
   unfolding openedSession
@@ -101,7 +106,7 @@ module _ (l : Limits) (state others objects messages tables : List ℕ) (r : ℕ
       record {
         number = e;
         unchanged = λ x. absurd (x z);
-        done = λ x. let f : others′ ≡ zeros 256 = eo ∙ ap zeros n in λ i. lent (es i) (f i) objects messages tables;
+        done = λ x. let f : others′ ≡ zeros tableIds = eo ∙ ap zeros n in λ i. lent (es i) (f i) objects messages tables;
       }
 
   pub refuses : (r ≡ 0 → ⊥) → Opened l (lent state others objects messages tables) r (lent state others objects messages tables)
@@ -119,27 +124,22 @@ unfolding be
 be-zeros zero n at = refl
 be-zeros (suc w) n at = omega (arith, be-zeros w n at, getD-zeros n (at + w))
 
--- a flag that was stored is read
-flag-read : (b : Bool) (x : ℕ) → x ≡ flagByte b → not (x =? 0) ≡ b
-flag-read true x e = rw e
-flag-read false x e = rw e
-
 flag-fits : (b : Bool) → flagByte b < 256
 flag-fits true = omega arith
 flag-fits false = omega arith
 
-length-opened : (l : Limits) → length (openedState l) ≡ 13144
+length-opened : (l : Limits) → length (openedState l) ≡ stateSize
 unfolding openedState
 length-opened l =
-    length-append (written (limitsFields l)) (zeros 13087)
-    ∙ ap (λ n. n + length (zeros 13087)) (length-written (limitsFields l))
-    ∙ ap (λ n. 57 + n) (length-zeros 13087)
+    length-append (written (limitsFields l)) (zeros zeroed)
+    ∙ ap (λ n. n + length (zeros zeroed)) (length-written (limitsFields l))
+    ∙ ap (λ n. usedPlace + n) (length-zeros zeroed)
 
 -- limits, then zeros, then what else was lent
-opened-bytes : (l : Limits) (m : List ℕ) → over 0 (openedState l) m ≡ written (limitsFields l) ++ (zeros 13087 ++ drop 13144 m)
+opened-bytes : (l : Limits) (m : List ℕ) → over 0 (openedState l) m ≡ written (limitsFields l) ++ (zeros zeroed ++ drop stateSize m)
 unfolding openedState
 opened-bytes l m =
-    sym (front (openedState l) m 13144 (length-opened l)) ∙ append-assoc (written (limitsFields l)) (zeros 13087) (drop 13144 m)
+    sym (front (openedState l) m stateSize (length-opened l)) ∙ append-assoc (written (limitsFields l)) (zeros zeroed) (drop stateSize m)
 
 -- a head's fields at the start: no place in use, neither PLT nor TOT, no time, all counts 0
 abbrev pub noPlaces : Used
@@ -176,48 +176,32 @@ limits-fit l n e =
       (omega arith, (omega arith, (omega arith, (omega arith, (omega arith, (omega arith, (flag-fits (l .«pass_scrambled»), tt))))))),
     )
 
-module _ (l : Limits) (s : Session) (e : asked l (lengthsOf s) ≡ 0) where
-  -- a limit is read where it stands
-  at-limit : (k : ℕ) → be (fieldAt k (limitsFields l) .width) (over 0 (openedState l) (s .state)) (offsetOf k (limitsFields l)) ≡ fieldAt k (limitsFields l) .value
-  at-limit k =
-      ap (λ (b : List ℕ). be (fieldAt k (limitsFields l) .width) b (offsetOf k (limitsFields l))) (opened-bytes l (s .state))
-      ∙ read (limitsFields l) (limits-fit l (lengthsOf s) e) k (zeros 13087 ++ drop 13144 (s .state))
-
-  -- after an accepted opening the limits are those that it was given
-  pub opened-limits : limitsOf (openedSession l s .state) ≡ l
-  unfolding openedSession limitsOf
-  opened-limits =
-      let f = flag-read (l .«pass_scrambled») (be 1 (over 0 (openedState l) (s .state)) 56) (at-limit 7) in
-      λ i.
-      record {
-        «media_ids» = at-limit 0 i;
-        «control_ids» = at-limit 1 i;
-        sections = at-limit 2 i;
-        «mfu_area» = at-limit 3 i;
-        «message_area» = at-limit 4 i;
-        «table_area» = at-limit 5 i;
-        packets = at-limit 6 i;
-        «pass_scrambled» = f i;
-      }
+-- after an accepted opening the limits are those that it was given
+pub opened-limits : (l : Limits) (s : Session) → asked l (lengthsOf s) ≡ 0 → limitsOf (openedSession l s .state) ≡ l
+unfolding openedSession
+opened-limits l s e =
+    rw (opened-bytes l (s .state))
+    (limits-held l (written (limitsFields l) ++ (zeros zeroed ++ drop stateSize (s .state)))
+    (holds-front (limitsFields l) (zeros zeroed ++ drop stateSize (s .state)) (limits-fit l (lengthsOf s) e)))
 
 module _ (l : Limits) (s : Session) where
   -- each number behind the limits is 0, and each flag is off
-  none : (w at : ℕ) → 57 ≤ at → at + w ≤ 13144 → be w (over 0 (openedState l) (s .state)) at ≡ 0
+  none : (w at : ℕ) → usedPlace ≤ at → at + w ≤ stateSize → be w (over 0 (openedState l) (s .state)) at ≡ 0
   none w at h b =
-      let e : 57 + (at - 57) ≡ at = omega arith in
-      let z : length (zeros 13087) ≡ 13087 = length-zeros 13087 in
-      let r = zeros 13087 ++ drop 13144 (s .state) in
+      let e : usedPlace + (at - usedPlace) ≡ at = omega arith in
+      let z : length (zeros zeroed) ≡ zeroed = length-zeros zeroed in
+      let r = zeros zeroed ++ drop stateSize (s .state) in
       ap (λ (x : List ℕ). be w x at) (opened-bytes l (s .state))
       ∙ ap (λ n. be w (written (limitsFields l) ++ r) n) (sym e)
-      ∙ be-behind w (written (limitsFields l)) r {n = 57} (length-written (limitsFields l)) (at - 57)
-      ∙ be-before w (zeros 13087) (drop 13144 (s .state)) (at - 57) (omega arith)
-      ∙ be-zeros w 13087 (at - 57)
+      ∙ be-behind w (written (limitsFields l)) r {n = usedPlace} (length-written (limitsFields l)) (at - usedPlace)
+      ∙ be-before w (zeros zeroed) (drop stateSize (s .state)) (at - usedPlace) (omega arith)
+      ∙ be-zeros w zeroed (at - usedPlace)
 
-  off : (at : ℕ) → 57 ≤ at → at + 1 ≤ 13144 → flag (over 0 (openedState l) (s .state)) at ≡ false
-  off at h b = flag-read false (be 1 (over 0 (openedState l) (s .state)) at) (none 1 at h b)
+  off : (at : ℕ) → usedPlace ≤ at → at + 1 ≤ stateSize → flag (over 0 (openedState l) (s .state)) at ≡ false
+  off at h b = yes-no false (none 1 at h b)
 
   -- the areas keep their lengths, and so does the state
-  opened-lengths : 13144 ≤ length (s .state) → lengthsOf (openedSession l s) ≡ lengthsOf s
+  opened-lengths : stateSize ≤ length (s .state) → lengthsOf (openedSession l s) ≡ lengthsOf s
   unfolding openedSession
   opened-lengths h =
       let n = length-over 0 (openedState l) (s .state) (omega (arith, length-opened l)) in
@@ -233,32 +217,32 @@ module _ (l : Limits) (s : Session) where
   pub opened-used : usedOf (openedSession l s .state) ≡ noPlaces
   unfolding openedSession usedOf
   opened-used =
-      let m = none 4 57 (omega arith) (omega arith) in
-      let c = none 4 61 (omega arith) (omega arith) in
-      let x = none 4 65 (omega arith) (omega arith) in
+      let m = none 4 usedPlace (omega arith) (omega arith) in
+      let c = none 4 (usedPlace + 4) (omega arith) (omega arith) in
+      let x = none 4 (usedPlace + 8) (omega arith) (omega arith) in
       λ i. record { «media_ids» = m i; «control_ids» = c i; sections = x i }
 
   pub opened-latest : latestOf (openedSession l s .state) ≡ noTables
   unfolding openedSession latestOf
   opened-latest =
-      let p = off 69 (omega arith) (omega arith) in
-      let n = none 4 70 (omega arith) (omega arith) in
-      let t = off 74 (omega arith) (omega arith) in
-      let k = none 4 75 (omega arith) (omega arith) in
+      let p = off latestPlace (omega arith) (omega arith) in
+      let n = none 4 (latestPlace + 1) (omega arith) (omega arith) in
+      let t = off (latestPlace + 5) (omega arith) (omega arith) in
+      let k = none 4 (latestPlace + 6) (omega arith) (omega arith) in
       λ i. record { plt = p i; «plt_length» = n i; tot = t i; «tot_length» = k i }
 
   pub opened-time : timeOf (openedSession l s .state) ≡ noTime
   unfolding openedSession timeOf
   opened-time =
-      let p = off 79 (omega arith) (omega arith) in
-      let n = none 8 80 (omega arith) (omega arith) in
+      let p = off timePlace (omega arith) (omega arith) in
+      let n = none 8 (timePlace + 1) (omega arith) (omega arith) in
       λ i. record { seen = p i; timestamp = n i }
 
   pub opened-counters : countersOf (openedSession l s .state) ≡ noCounts
   unfolding openedSession countersOf
   opened-counters =
-      let n : (k : ℕ) → k ≤ 11 → be 8 (over 0 (openedState l) (s .state)) (88 + 8 * k) ≡ 0 =
-      λ k h. none 8 (88 + 8 * k) (omega arith) (omega arith) in
+      let n : (k : ℕ) → k ≤ 11 → be 8 (over 0 (openedState l) (s .state)) (countersPlace + 8 * k) ≡ 0 =
+      λ k h. none 8 (countersPlace + 8 * k) (omega arith) (omega arith) in
       λ i.
       record {
         «tlv_packets» = n 0 (omega arith) i;
@@ -284,7 +268,7 @@ every-zeros f (suc n) e = rw e (every-zeros f n e)
 
 others-fit : (l : Limits) (s : Session) → every countFits (openedSession l s .others) ≡ true
 unfolding openedSession
-others-fit l s = every-zeros countFits 256 refl
+others-fit l s = every-zeros countFits tableIds refl
 
 -- bytes with no place in use, nothing kept and no counts, under limits that pass the questions
 blank-sound : (l : Limits) (m others : List ℕ) (n : Lengths) → asked l n ≡ 0 → limitsOf m ≡ l → usedOf m ≡ noPlaces

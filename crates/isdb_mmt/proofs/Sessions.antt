@@ -10,7 +10,8 @@ use lib.ListN.{length, set}
 use Rattle.isdb_tlv.specs.Fields.{Field, written, Fit}
 use Rattle.isdb_tlv.proofs.Fields.{size, length-written}
 use Rattle.isdb_mmt.specs.Lent.{part, over, placesFrom}
-use Rattle.isdb_mmt.specs.Session.{usedOf, usedFields, mediaPlaceOf, mediaFields, mediaSize, mediaPlaces, controlPlaceOf, controlFields, controlSize, controlPlaces, sectionPlaceOf, sectionFields, sectionSize, sectionPlaces}
+use Rattle.isdb_mmt.specs.Session.{usedOf, usedFields, mediaPlaceOf, mediaFields, controlPlaceOf, controlFields, sectionPlaceOf, sectionFields}
+use Rattle.isdb_mmt.specs.Layout.{mostMediaIds, mostControlIds, mostSections, usedPlace, latestPlace, mediaSize, mediaPlaces, controlSize, controlPlaces, sectionSize, sectionPlaces, stateSize}
 use Rattle.isdb_mmt.specs.Check.{mediaIn, controlsIn, sectionsIn}
 use Rattle.isdb_mmt.specs.declared.decoder.head.Used.{Used}
 use Rattle.isdb_mmt.specs.declared.decoder.media.Media.{Media}
@@ -21,8 +22,8 @@ use Rattle.isdb_mmt.proofs.Stored.{apart, used-own, used-back, media-ba
 use Rattle.isdb_mmt.proofs.Views.{values-set, values-snoc}
 
 -- a write that leaves the numbers of places in use
-pub used-apart : (b : ℕ) (bs l : List ℕ) → (69 ≤ b) ⊎ (b + length bs ≤ 57) → b + length bs ≤ length l → usedOf (over b bs l) ≡ usedOf l
-used-apart b bs l d h = apart usedOf 57 12 used-own b bs l d h
+pub used-apart : (b : ℕ) (bs l : List ℕ) → (latestPlace ≤ b) ⊎ (b + length bs ≤ usedPlace) → b + length bs ≤ length l → usedOf (over b bs l) ≡ usedOf l
+used-apart b bs l d h = apart usedOf usedPlace 12 used-own b bs l d h
 
 -- a sort of places: how a place is read and what is stored in one, where they lie, how many there are and are in use
 pub record Sort (A : Type 0) : Type 0 where
@@ -34,8 +35,8 @@ pub record Sort (A : Type 0) : Type 0 where
   pub count : Used → ℕ
   pub back : (a : A) → Fit (fields a) → of (written (fields a)) ≡ a
   pub full : (a : A) → size (fields a) ≡ width
-  pub behind : 69 ≤ at
-  pub within : at + width * places ≤ 13144
+  pub behind : latestPlace ≤ at
+  pub within : at + width * places ≤ stateSize
 
 abbrev pub media : Sort Media
 media =
@@ -44,7 +45,7 @@ media =
       fields = mediaFields;
       at = mediaPlaces;
       width = mediaSize;
-      places = 64;
+      places = mostMediaIds;
       count = λ u. u .«media_ids»;
       back = media-back;
       full = λ a. refl;
@@ -59,7 +60,7 @@ controls =
       fields = controlFields;
       at = controlPlaces;
       width = controlSize;
-      places = 32;
+      places = mostControlIds;
       count = λ u. u .«control_ids»;
       back = control-back;
       full = λ a. refl;
@@ -74,7 +75,7 @@ sections =
       fields = sectionFields;
       at = sectionPlaces;
       width = sectionSize;
-      places = 512;
+      places = mostSections;
       count = λ u. u .sections;
       back = section-back;
       full = λ a. refl;
@@ -95,7 +96,7 @@ pub named : Named
 unfolding mediaIn controlsIn sectionsIn
 named = record { media = λ l. refl; controls = λ l. refl; sections = λ l. refl }
 
-module _ {A : Type 0} (s : Sort A) (l : List ℕ) (long : 13144 ≤ length l) where
+module _ {A : Type 0} (s : Sort A) (l : List ℕ) (long : stateSize ≤ length l) where
   -- where the place with the index `i` starts, and what storing `a` there leaves
   abbrev pub placeOf : ℕ → ℕ
   placeOf i = s .at + s .width * i
@@ -125,7 +126,7 @@ module _ {A : Type 0} (s : Sort A) (l : List ℕ) (long : 13144 ≤ length l) wh
 
     -- the next one, with one more in use
     pub place-new : (u : Used) → s .count u ≡ suc (s .count (usedOf l)) → Fit (usedFields u) → s .count (usedOf l) < s .places
-        → inUse s (over 57 (written (usedFields u)) (with-place (s .count (usedOf l)) a)) ≡ inUse s l ++ (a ∷ [])
+        → inUse s (over usedPlace (written (usedFields u)) (with-place (s .count (usedOf l)) a)) ≡ inUse s l ++ (a ∷ [])
     place-new u c g p =
         let n : ℕ = s .count (usedOf l) in
         let b : ℕ = placeOf n in
@@ -137,21 +138,21 @@ module _ {A : Type 0} (s : Sort A) (l : List ℕ) (long : 13144 ≤ length l) wh
         let h = s .behind in
         let el : length l′ ≡ length l = length-over b bs l (omega arith) in
         let ew : length us ≡ 12 = length-written (usedFields u) in
-        let cu : s .count (usedOf (over 57 us l′)) ≡ suc n = ap (s .count) (used-back u l′ g (omega arith)) ∙ c in
-        let p0 : placesFrom (suc n) (s .width) (s .at) (over 57 us l′) ≡ placesFrom (suc n) (s .width) (s .at) l′ =
-        places-apart (s .width) 57 us l′ (omega arith) (suc n) (s .at) (inl (omega arith)) in
+        let cu : s .count (usedOf (over usedPlace us l′)) ≡ suc n = ap (s .count) (used-back u l′ g (omega arith)) ∙ c in
+        let p0 : placesFrom (suc n) (s .width) (s .at) (over usedPlace us l′) ≡ placesFrom (suc n) (s .width) (s .at) l′ =
+        places-apart (s .width) usedPlace us l′ (omega arith) (suc n) (s .at) (inl (omega arith)) in
         let p1 : placesFrom n (s .width) (s .at) l′ ≡ placesFrom n (s .width) (s .at) l =
         places-apart (s .width) b bs l (omega arith) n (s .at) (inr (omega arith)) in
         let p2 : s .of (part b (s .width) l′) ≡ a =
         ap (λ w. s .of (part b w l′)) (sym e) ∙ ap (s .of) (part-over b bs l (omega arith)) ∙ s .back a f in
-        ap (λ w. map (s .of) (placesFrom w (s .width) (s .at) (over 57 us l′))) cu
+        ap (λ w. map (s .of) (placesFrom w (s .width) (s .at) (over usedPlace us l′))) cu
         ∙ ap (map (s .of)) p0
         ∙ values-snoc (s .of) (s .width) (s .at) n l′
         ∙ ap (λ (x : List (List ℕ)). map (s .of) x ++ (s .of (part b (s .width) l′) ∷ [])) p1
         ∙ ap (λ (x : A). inUse s l ++ (x ∷ [])) p2
 
   -- a write elsewhere: to the head but for the numbers in use, or to places of another sort
-  pub place-apart : s .count (usedOf l) ≤ s .places → (b : ℕ) (bs : List ℕ) → (69 ≤ b) ⊎ (b + length bs ≤ 57)
+  pub place-apart : s .count (usedOf l) ≤ s .places → (b : ℕ) (bs : List ℕ) → (latestPlace ≤ b) ⊎ (b + length bs ≤ usedPlace)
       → (b + length bs ≤ s .at) ⊎ (placeOf (s .places) ≤ b) → b + length bs ≤ length l → inUse s (over b bs l) ≡ inUse s l
   place-apart t b bs d o k =
       let m : s .width * s .count (usedOf l) ≤ s .width * s .places = mul-le-mul-left (s .width) t in

@@ -186,7 +186,7 @@ module _ (h : Header) (c : HeaderConforming h) (body : List ℕ) (short : length
       with-crc message (length body + 12)
       (rw (length-append, length-written (headerFields h (length body))) (omega arith))
 
-  section-header : longSectionOf (sectionSent h body) ≡ good (headerSeen h) (length body)
+  section-header : longSectionOf (sectionSent h body) ≡ good (headerSeen h (length body))
   unfolding longSectionOf
   section-header =
       let s = sectionSent h body in

@@ -13,11 +13,12 @@ use borrow.Author.Tests.{leb-true}
 use borrow.Rule.Slice.PartMut.{putMid}
 use Rattle.isdb_tlv.specs.Guards.{_=?_}
 use Rattle.isdb_tlv.specs.Bytes.{be}
-use Rattle.isdb_tlv.specs.Fields.{Field, written, Fit}
+use Rattle.isdb_tlv.specs.Fields.{Field, written, Fit, puts}
 use Rattle.isdb_tlv.proofs.Numbers.{be-drop, be-take}
 use Rattle.isdb_tlv.proofs.Fields.{be-behind, fieldAt, offsetOf, size, read, length-written}
-use Rattle.isdb_mmt.specs.Lent.{part, over, puts, flag, flagByte}
-use Rattle.isdb_mmt.specs.Session.{limitsOf, limitsFields, usedOf, usedFields, latestOf, latestFields, timeOf, timeFields, countersOf, countersFields, heldObjectOf, statsOf, mediaPlaceOf, mediaFields, mediaPlaces, mediaSize, mediaAt, controlPlaceOf, controlFields, controlPlaces, controlSize, controlAt, sectionPlaceOf, sectionFields, sectionPlaces, sectionSize, sectionAt}
+use Rattle.isdb_mmt.specs.Lent.{part, over, flag, flagByte}
+use Rattle.isdb_mmt.specs.Session.{limitsOf, limitsFields, usedOf, usedFields, latestOf, latestFields, timeOf, timeFields, countersOf, countersFields, heldObjectOf, statsOf, mediaPlaceOf, mediaFields, mediaAt, controlPlaceOf, controlFields, controlAt, sectionPlaceOf, sectionFields, sectionAt}
+use Rattle.isdb_mmt.specs.Layout.{mostMediaIds, mostControlIds, mostSections, usedPlace, latestPlace, timePlace, countersPlace, mediaPlaces, mediaSize, controlPlaces, controlSize, sectionPlaces, sectionSize, stateSize}
 use Rattle.isdb_mmt.specs.declared.decoder.limits.Limits.{Limits}
 use Rattle.isdb_mmt.specs.declared.decoder.counts.Counters.{Counters}
 use Rattle.isdb_mmt.specs.declared.decoder.head.Used.{Used}
@@ -26,7 +27,7 @@ use Rattle.isdb_mmt.specs.declared.decoder.head.Time.{Time}
 use Rattle.isdb_mmt.specs.declared.decoder.media.Media.{Media}
 use Rattle.isdb_mmt.specs.declared.decoder.control.Control.{Control}
 use Rattle.isdb_mmt.specs.declared.decoder.section.KeptSection.{KeptSection}
-use Rattle.isdb_mmt.proofs.Lent.{part-over, part-apart, puts-over, puts-whole, lent-at}
+use Rattle.isdb_mmt.proofs.Lent.{part-over, part-apart, part-take, puts-over, puts-whole, lent-at}
 
 -- ---- a store
 
@@ -53,15 +54,18 @@ holds-over at fs l f h k =
     let r = drop (length (written fs)) (drop at l) in
     be-behind (fieldAt k fs .width) (take at l) (written fs ++ r) (length-take-le at l h) (offsetOf k fs) ∙ read fs f k r
 
+pub holds-front : (fs : List Field) (r : List ℕ) → Fit fs → Holds 0 fs (written fs ++ r)
+holds-front fs r f k = be-behind (fieldAt k fs .width) [] (written fs ++ r) refl (offsetOf k fs) ∙ read fs f k r
+
 pub holds-written : (fs : List Field) → Fit fs → Holds 0 fs (written fs)
-holds-written fs f k = be-behind (fieldAt k fs .width) [] (written fs) refl (offsetOf k fs) ∙ rw append-nil at (read fs f k [])
+holds-written fs f = rw append-nil at (holds-front fs [] f)
 
 -- a flag that is stored as a byte is the flag again
-yes-no : (b : Bool) {n : ℕ} → n ≡ flagByte b → not (n =? 0) ≡ b
+pub yes-no : (b : Bool) {n : ℕ} → n ≡ flagByte b → not (n =? 0) ≡ b
 yes-no true e = rw e
 yes-no false e = rw e
 
-limits-held : (x : Limits) (l : List ℕ) → Holds 0 (limitsFields x) l → limitsOf l ≡ x
+pub limits-held : (x : Limits) (l : List ℕ) → Holds 0 (limitsFields x) l → limitsOf l ≡ x
 unfolding limitsOf
 limits-held x l h =
     λ i.
@@ -76,11 +80,11 @@ limits-held x l h =
       «pass_scrambled» = yes-no (x .«pass_scrambled») (h 7) i;
     }
 
-used-held : (x : Used) (l : List ℕ) → Holds 57 (usedFields x) l → usedOf l ≡ x
+used-held : (x : Used) (l : List ℕ) → Holds usedPlace (usedFields x) l → usedOf l ≡ x
 unfolding usedOf
 used-held x l h = λ i. record { «media_ids» = h 0 i; «control_ids» = h 1 i; sections = h 2 i }
 
-latest-held : (x : Latest) (l : List ℕ) → Holds 69 (latestFields x) l → latestOf l ≡ x
+latest-held : (x : Latest) (l : List ℕ) → Holds latestPlace (latestFields x) l → latestOf l ≡ x
 unfolding latestOf
 latest-held x l h =
     λ i.
@@ -91,11 +95,11 @@ latest-held x l h =
       «tot_length» = h 3 i;
     }
 
-time-held : (x : Time) (l : List ℕ) → Holds 79 (timeFields x) l → timeOf l ≡ x
+time-held : (x : Time) (l : List ℕ) → Holds timePlace (timeFields x) l → timeOf l ≡ x
 unfolding timeOf
 time-held x l h = λ i. record { seen = yes-no (x .seen) (h 0) i; timestamp = h 1 i }
 
-counters-held : (x : Counters) (l : List ℕ) → Holds 88 (countersFields x) l → countersOf l ≡ x
+counters-held : (x : Counters) (l : List ℕ) → Holds countersPlace (countersFields x) l → countersOf l ≡ x
 unfolding countersOf
 counters-held x l h =
     λ i.
@@ -193,20 +197,20 @@ back : {A : Type 0} (of : List ℕ → A) (fields : A → List Field) (at : ℕ)
     → ((l : List ℕ) → Holds at (fields x) l → of l ≡ x) → at ≤ length s → Fit (fields x) → of (over at (written (fields x)) s) ≡ x
 back of fields at x s held h f = held (over at (written (fields x)) s) (holds-over at (fields x) s f h)
 
-pub limits-back : (x : Limits) (s : List ℕ) → Fit (limitsFields x) → 13144 ≤ length s → limitsOf (over 0 (written (limitsFields x)) s) ≡ x
+pub limits-back : (x : Limits) (s : List ℕ) → Fit (limitsFields x) → stateSize ≤ length s → limitsOf (over 0 (written (limitsFields x)) s) ≡ x
 limits-back x s f h = back limitsOf limitsFields 0 x s (limits-held x) (omega arith) f
 
-pub used-back : (x : Used) (s : List ℕ) → Fit (usedFields x) → 13144 ≤ length s → usedOf (over 57 (written (usedFields x)) s) ≡ x
-used-back x s f h = back usedOf usedFields 57 x s (used-held x) (omega arith) f
+pub used-back : (x : Used) (s : List ℕ) → Fit (usedFields x) → stateSize ≤ length s → usedOf (over usedPlace (written (usedFields x)) s) ≡ x
+used-back x s f h = back usedOf usedFields usedPlace x s (used-held x) (omega arith) f
 
-pub latest-back : (x : Latest) (s : List ℕ) → Fit (latestFields x) → 13144 ≤ length s → latestOf (over 69 (written (latestFields x)) s) ≡ x
-latest-back x s f h = back latestOf latestFields 69 x s (latest-held x) (omega arith) f
+pub latest-back : (x : Latest) (s : List ℕ) → Fit (latestFields x) → stateSize ≤ length s → latestOf (over latestPlace (written (latestFields x)) s) ≡ x
+latest-back x s f h = back latestOf latestFields latestPlace x s (latest-held x) (omega arith) f
 
-pub time-back : (x : Time) (s : List ℕ) → Fit (timeFields x) → 13144 ≤ length s → timeOf (over 79 (written (timeFields x)) s) ≡ x
-time-back x s f h = back timeOf timeFields 79 x s (time-held x) (omega arith) f
+pub time-back : (x : Time) (s : List ℕ) → Fit (timeFields x) → stateSize ≤ length s → timeOf (over timePlace (written (timeFields x)) s) ≡ x
+time-back x s f h = back timeOf timeFields timePlace x s (time-held x) (omega arith) f
 
-pub counters-back : (x : Counters) (s : List ℕ) → Fit (countersFields x) → 13144 ≤ length s → countersOf (over 88 (written (countersFields x)) s) ≡ x
-counters-back x s f h = back countersOf countersFields 88 x s (counters-held x) (omega arith) f
+pub counters-back : (x : Counters) (s : List ℕ) → Fit (countersFields x) → stateSize ≤ length s → countersOf (over countersPlace (written (countersFields x)) s) ≡ x
+counters-back x s f h = back countersOf countersFields countersPlace x s (counters-held x) (omega arith) f
 
 -- of a place of the state
 back-at : {A : Type 0} (of : List ℕ → A) (fs : List Field) (at : ℕ) (x : A) (s : List ℕ)
@@ -216,15 +220,15 @@ back-at of fs at x s e h =
     let p : part at (length (written fs)) (over at (written fs) s) ≡ written fs = part-over at (written fs) s (omega arith) in
     ap of (rw n at p) ∙ e
 
-pub media-at-back : (x : Media) (i : ℕ) (s : List ℕ) → Fit (mediaFields x) → i < 64 → 13144 ≤ length s
+pub media-at-back : (x : Media) (i : ℕ) (s : List ℕ) → Fit (mediaFields x) → i < mostMediaIds → stateSize ≤ length s
     → mediaAt (over (mediaPlaces + mediaSize * i) (written (mediaFields x)) s) i ≡ x
 media-at-back x i s f b h = back-at mediaPlaceOf (mediaFields x) (mediaPlaces + mediaSize * i) x s (media-back x f) (omega arith)
 
-pub control-at-back : (x : Control) (i : ℕ) (s : List ℕ) → Fit (controlFields x) → i < 32 → 13144 ≤ length s
+pub control-at-back : (x : Control) (i : ℕ) (s : List ℕ) → Fit (controlFields x) → i < mostControlIds → stateSize ≤ length s
     → controlAt (over (controlPlaces + controlSize * i) (written (controlFields x)) s) i ≡ x
 control-at-back x i s f b h = back-at controlPlaceOf (controlFields x) (controlPlaces + controlSize * i) x s (control-back x f) (omega arith)
 
-pub section-at-back : (x : KeptSection) (i : ℕ) (s : List ℕ) → Fit (sectionFields x) → i < 512 → 13144 ≤ length s
+pub section-at-back : (x : KeptSection) (i : ℕ) (s : List ℕ) → Fit (sectionFields x) → i < mostSections → stateSize ≤ length s
     → sectionAt (over (sectionPlaces + sectionSize * i) (written (sectionFields x)) s) i ≡ x
 section-at-back x i s f b h = back-at sectionPlaceOf (sectionFields x) (sectionPlaces + sectionSize * i) x s (section-back x f) (omega arith)
 
@@ -239,6 +243,10 @@ pub apart : {A : Type 0} (of : List ℕ → A) (at n : ℕ) → Own of at n → 
     → b + length bs ≤ length l → of (over b bs l) ≡ of l
 apart of at n own b bs l d h = own (over b bs l) l (part-apart at n b bs l d h)
 
+-- and it is read of the first `k` bytes alone
+pub own-front : {A : Type 0} (of : List ℕ → A) (at n k : ℕ) → Own of at n → at + n ≤ k → (l : List ℕ) → of (take k l) ≡ of l
+own-front of at n k own h l = own (take k l) l (part-take at n k l h)
+
 pub part-own : {A : Type 0} (f : List ℕ → A) (at n : ℕ) → Own (λ l. f (part at n l)) at n
 part-own f at n l m e = ap f e
 
@@ -252,11 +260,11 @@ module _ (at n : ℕ) (l m : List ℕ) (e : part at n l ≡ part at n m) where
   same-flag : (k : ℕ) → leb (k + 1) n ≡ true → flag l (at + k) ≡ flag m (at + k)
   same-flag k h = ap (λ (v : ℕ). not (v =? 0)) (same 1 k h)
 
-pub limits-own : Own limitsOf 0 57
+pub limits-own : Own limitsOf 0 usedPlace
 unfolding limitsOf
 limits-own l m e =
-    let own = same 0 57 l m e in
-    let own-flag = same-flag 0 57 l m e in
+    let own = same 0 usedPlace l m e in
+    let own-flag = same-flag 0 usedPlace l m e in
     λ i.
     record {
       «media_ids» = own 8 0 refl i;
@@ -269,10 +277,10 @@ limits-own l m e =
       «pass_scrambled» = own-flag 56 refl i;
     }
 
-pub used-own : Own usedOf 57 12
+pub used-own : Own usedOf usedPlace 12
 unfolding usedOf
 used-own l m e =
-    let own = same 57 12 l m e in
+    let own = same usedPlace 12 l m e in
     λ i.
     record {
       «media_ids» = own 4 0 refl i;
@@ -280,11 +288,11 @@ used-own l m e =
       sections = own 4 8 refl i;
     }
 
-pub latest-own : Own latestOf 69 10
+pub latest-own : Own latestOf latestPlace 10
 unfolding latestOf
 latest-own l m e =
-    let own = same 69 10 l m e in
-    let own-flag = same-flag 69 10 l m e in
+    let own = same latestPlace 10 l m e in
+    let own-flag = same-flag latestPlace 10 l m e in
     λ i.
     record {
       plt = own-flag 0 refl i;
@@ -293,16 +301,16 @@ latest-own l m e =
       «tot_length» = own 4 6 refl i;
     }
 
-pub time-own : Own timeOf 79 9
+pub time-own : Own timeOf timePlace 9
 unfolding timeOf
 time-own l m e =
-    let own = same 79 9 l m e in
-    let own-flag = same-flag 79 9 l m e in λ i. record { seen = own-flag 0 refl i; timestamp = own 8 1 refl i }
+    let own = same timePlace 9 l m e in
+    let own-flag = same-flag timePlace 9 l m e in λ i. record { seen = own-flag 0 refl i; timestamp = own 8 1 refl i }
 
-pub counters-own : Own countersOf 88 96
+pub counters-own : Own countersOf countersPlace 96
 unfolding countersOf
 counters-own l m e =
-    let own = same 88 96 l m e in
+    let own = same countersPlace 96 l m e in
     λ i.
     record {
       «tlv_packets» = own 8 0 refl i;

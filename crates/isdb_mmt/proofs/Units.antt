@@ -9,7 +9,7 @@ use native.Mathlib.Nat.{zero-add}
 use native.Mathlib.Omega.{arith}
 use lib.Dec.{ltb, leb, eqb}
 use lib.ListN.{length}
-use borrow.Author.Tests.{ltb-false, eqb-true, eqb-false}
+use borrow.Author.Tests.{ltb-false, leb-true, eqb-true, eqb-false}
 use Rattle.isdb_tlv.specs.Bytes.{be}
 use Rattle.isdb_tlv.specs.Walk.{turn, Ahead, walk-at}
 use Rattle.isdb_tlv.proofs.Guards.{cond-elim}
@@ -69,23 +69,23 @@ module _ (s : List ℕ) (timed : Bool) where
       record { ahead = omega arith; within = w; starts = omega arith; ends = omega arith }))
 
 module _ (s : List ℕ) (timed aggregated : Bool) where
-  at-inside : (at : ℕ) → Inside s at (unitAt s timed aggregated at)
+  at-inside : (at from : ℕ) → at ≤ from → Inside s at (unitAt s timed aggregated from)
   unfolding unitAt
-  at-inside at =
-      let n = be 2 s at in
-      cond-elim (Inside s at) (not aggregated) (λ e. in-inside s timed at at (length s) (omega arith) (omega arith)) (λ e.
-      cond-elim (Inside s at) (ltb (length s - at) 2) (λ e1. tt) (λ e1.
-      cond-elim (Inside s at) (ltb (length s - (at + 2)) n) (λ e2. tt) (λ e2.
-      let a = ltb-false (length s - at) 2 e1 in
-      let b = ltb-false (length s - (at + 2)) n e2 in
-      in-inside s timed at (at + 2) (at + 2 + n) (omega arith) (omega arith))))
+  at-inside at from h =
+      let n = be 2 s from in
+      cond-elim (Inside s at) (not aggregated) (λ e. in-inside s timed at from (length s) h (omega arith)) (λ e.
+      cond-elim (Inside s at) (ltb (length s - from) 2) (λ e1. tt) (λ e1.
+      cond-elim (Inside s at) (ltb (length s - (from + 2)) n) (λ e2. tt) (λ e2.
+      let a = ltb-false (length s - from) 2 e1 in
+      let b = ltb-false (length s - (from + 2)) n e2 in
+      in-inside s timed at (from + 2) (from + 2 + n) (omega arith) (omega arith))))
 
   pub unit-inside : (at : ℕ) → Inside s at (unitStep s timed aggregated at)
   unfolding unitStep
   unit-inside at =
       cond-elim (Inside s at) (ltb (length s) 8) (λ e. tt) (λ e.
-      cond-elim (Inside s at) (leb at 8) (λ e1. at-inside at) (λ e1.
-      cond-elim (Inside s at) (leb (length s) at) (λ e2. tt) (λ e2. at-inside at)))
+      cond-elim (Inside s at) (leb at 8) (λ e1. at-inside at 8 (leb-true at 8 e1)) (λ e1.
+      cond-elim (Inside s at) (leb (length s) at) (λ e2. tt) (λ e2. at-inside at at (omega arith))))
 
   -- a unit that was found
   pub unit-lies : {at next : ℕ} {u : DataUnit} → unitStep s timed aggregated at ≡ found u next → Lies s at (u .«data») next

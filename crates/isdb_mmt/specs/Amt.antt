@@ -1,22 +1,21 @@
 -- AMT: ARIB STD-B60, Table 5-2.
 use Prim.Native.Nat.{ℕ, zero, suc, _+_, _-_, _*_, _/_, _%_}
-use mathlib.Core.List.{List, [], _∷_, map}
-use mathlib.Core.Bool.{Bool, true, false}
-use lib.ListN.{length, getD, take, drop}
-use Rattle.isdb_tlv.specs.Guards.{if_then_else_, _<?_, _≤?_, _=?_, _≠?_}
+use mathlib.Core.List.{List, [], _∷_}
+use mathlib.Core.Bool.{Bool}
+use lib.ListN.{length, getD, drop}
+use Rattle.isdb_tlv.specs.Guards.{if_then_else_, _<?_, _=?_}
 use Rattle.isdb_tlv.specs.Bytes.{be}
 use mathlib.Core.Option.{Option, none, some}
 use mathlib.Core.Bool.{not}
 use Rattle.isdb_mmt.specs.Timestamp.{isSome}
-use Rattle.isdb_mmt.specs.Section.{longSectionOf, bodyOf}
+use Rattle.isdb_mmt.specs.Part.{partOf}
+use Rattle.isdb_mmt.specs.Section.{longSectionOf}
 use Rattle.isdb_tlv.specs.declared.ip.Address.{Address}
 use Rattle.isdb_tlv.specs.declared.ip.Address.the-variants.{V4, V6}
 use Rattle.isdb_mmt.specs.declared.table.section.SectionHeader.{SectionHeader}
-use Rattle.isdb_mmt.specs.declared.table.section.SectionError.{SectionError}
 use Rattle.isdb_mmt.specs.declared.table.section.SectionError.the-variants.{Malformed}
 use Rattle.isdb_mmt.specs.declared.table.section.LongSection.{LongSection}
 use Rattle.isdb_mmt.specs.declared.table.section.LongSection.the-variants.{Ok as good, Err as bad}
-use Rattle.isdb_mmt.specs.declared.table.amt.Amt.{Amt}
 use Rattle.isdb_mmt.specs.declared.table.amt.AmtResult.{AmtResult}
 use Rattle.isdb_mmt.specs.declared.table.amt.AmtResult.the-variants.{Ok, Err}
 use Rattle.isdb_mmt.specs.declared.table.amt.AmtService.{AmtService}
@@ -81,7 +80,7 @@ amtBody h s =
 
 abbrev pub amtIn : List ℕ → LongSection → AmtResult
 amtIn s (bad e) = Err e
-amtIn s (good h n) = amtBody h (bodyOf s n)
+amtIn s (good h) = amtBody h (partOf s (h .body))
 
 unfoldable pub amtOf : List ℕ → AmtResult
 amtOf s = amtIn s (longSectionOf s)

@@ -1,15 +1,12 @@
 -- MH-BIT: ARIB STD-B60, Table 7-21.
-use Prim.Native.Nat.{ℕ, zero, suc, _+_, _-_, _*_, _/_, _%_}
-use mathlib.Core.List.{List, [], _∷_, map}
-use mathlib.Core.Bool.{Bool, true, false}
+use Prim.Native.Nat.{ℕ, _+_, _/_, _%_}
+use mathlib.Core.List.{List, map}
 use lib.ListN.{length, getD, take, drop}
-use Rattle.isdb_tlv.specs.Guards.{if_then_else_, _<?_, _≤?_, _=?_, _≠?_}
-use Rattle.isdb_tlv.specs.Bytes.{be}
-use Rattle.isdb_mmt.specs.Part.{part}
+use Rattle.isdb_tlv.specs.Guards.{if_then_else_, _<?_, _=?_}
+use Rattle.isdb_mmt.specs.Part.{part, partOf}
 use Rattle.isdb_mmt.specs.Desc.{broken}
-use Rattle.isdb_mmt.specs.Section.{length12, longSectionOf, bodyOf, entryAt, Loop, entriesFrom}
+use Rattle.isdb_mmt.specs.Section.{length12, longSectionOf, entryAt, Loop, entriesFrom}
 use Rattle.isdb_mmt.specs.declared.table.section.SectionHeader.{SectionHeader}
-use Rattle.isdb_mmt.specs.declared.table.section.SectionError.{SectionError}
 use Rattle.isdb_mmt.specs.declared.table.section.SectionError.the-variants.{Malformed}
 use Rattle.isdb_mmt.specs.declared.table.section.LongSection.{LongSection}
 use Rattle.isdb_mmt.specs.declared.table.section.LongSection.the-variants.{Ok as good, Err as bad}
@@ -49,7 +46,7 @@ bitBody h s =
 
 abbrev pub bitIn : List ℕ → LongSection → BitParsed
 bitIn s (bad e) = told (Err e) 0
-bitIn s (good h n) = bitBody h (bodyOf s n)
+bitIn s (good h) = bitBody h (partOf s (h .body))
 
 unfoldable pub bitOf : List ℕ → BitParsed
 bitOf s = bitIn s (longSectionOf s)

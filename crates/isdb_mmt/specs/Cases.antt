@@ -1,10 +1,11 @@
 -- Worked cases, proved as one table by computation: the lengths of descriptors, and feeds from their bytes through `classify` and
 -- `pushed`, with the readings that are easily got wrong.
 use Prim.Native.Nat.{ℕ, _+_, _-_, _*_, _/_, _%_, _^_}
-use mathlib.Core.Path.{_≡_, refl}
+use mathlib.Core.Path.{refl}
 use mathlib.Core.Bool.{Bool, true, false}
 use mathlib.Core.List.{List, [], _∷_, _++_, map}
 use mathlib.Core.Option.{Option, none, some}
+use Rattle.isdb_mmt.specs.Worked.{Case, _⇒_, Holds}
 use lib.ListN.{length, replicate}
 use Rattle.isdb_tlv.specs.Fields.{bytesOf}
 use Rattle.isdb_tlv.specs.Bytes.{be}
@@ -46,10 +47,10 @@ pub record Left : Type 0 where
   pub dropped : ℕ
   pub held : Option Bytes
 
-abbrev id : ℕ
+abbrev pub id : ℕ
 id = 0xF100
 
-abbrev leftOf : Bool → Feed → Asset → Left
+abbrev pub leftOf : Bool → Feed → Asset → Left
 leftOf pass f a =
     record {
       packets = a .packets;
@@ -89,7 +90,8 @@ pub data Told : Type 0 where
   tables : ℕ → ℕ → List ℕ → Told
   asks : Needs → Told
 
-abbrev told : Ask → Told
+unfoldable pub told : Ask → Told
+unfolding bytesOf be feed feedByte crcOf packetType compressedOf fecType payloadType bitsOf entry extensionAt afterFixed mmtpOf isTlvSi sectionAt sectionsFrom sectionsOf lengthWidth stepAt splitFrom splitOf streamIdentifier descriptorOf descriptorsOf fragmentType indicator payloadHeader unitIn unitAt unitStep unitsFrom unitsOf follows lostFrom longSectionOf entryAt entriesFrom entriesTold nitBody nitOf declaredLength mptAssets mptTable mptOf divisionOf paTables sectionTable contentOf mediaOf classify find put orElse isSome fresh gap lostBy grown continued unitDoes didTo objectOf did unitsDo unitsGive clear readable newMpu jumped mpuAfter rangeAfter malformedPayload noted assetAfter tagged passes mediaGives idle partBefore joinedOn partAfter wholeOf lineAfter lineGives orphan oversize tablesOf tablesOfAll messagesOf cutOf cutOfAll bodyRead sectionOf otherVersion keepIf keep keepAll zeros tabled sectionAdds tableById tableRead tableAdds mptAfter mptAfterAll stored storedAll countedAll opened idleControl assetOf controlOf packetCounted messageCounted lineCounted tablesGiven timeAfter pushed gives book nothing writeAll write tapeOf itemsOf gots follower dropCounted inOrder goesOn deliveredOf needs unitsNeed lineNeeds tableArea tablesNeed pushAll giveAll heldBytes
 told (widthOf t) = width (lengthWidth t)
 told (decodedOf s) = decoded (descriptorsOf s)
 told (bodiesOf s) = bodies (map (λ r. partOf s (r .body)) (splitOf s .found))
@@ -103,94 +105,86 @@ told (sections f) =
     tables (pushAll (opened false) (packetsOf f) .counters .versionChanges) (pushAll (opened false) (packetsOf f) .counters .malformed)
     (map (λ e. e .1 .version) (pushAll (opened false) (packetsOf f) .store .kept))
 
-pub record Case : Type 0 where
-  pub ask : Ask
-  pub says : Told
-
-infix 10 _⇒_
-abbrev _⇒_ : Ask → Told → Case
-a ⇒ t = record { ask = a; says = t }
-
 -- a compressed packet of context 1 with an MMTP packet: first byte, payload type, packet id, number, what follows the twelve
 -- bytes
-abbrev compressed : ℕ → ℕ → ℕ → ℕ → Bytes → ℕ × Bytes
+abbrev pub compressed : ℕ → ℕ → ℕ → ℕ → Bytes → ℕ × Bytes
 compressed flags type i number rest =
     (0x03, 0x00 ∷ 0x10 ∷ 0x61 ∷ flags ∷ type ∷ bytesOf 2 i ++ (0x00 ∷ 0x00 ∷ 0x00 ∷ 0x00 ∷ bytesOf 4 number ++ rest))
 
 -- a media packet of the id: first byte, number, payload
-abbrev mmtp : ℕ → ℕ → Bytes → ℕ × Bytes
+abbrev pub mmtp : ℕ → ℕ → Bytes → ℕ × Bytes
 mmtp flags number rest = compressed flags 0x00 id number rest
 
 -- a message packet of the control id 8001h, with a byte of flags
-abbrev fragment : ℕ → Bytes → ℕ × Bytes
+abbrev pub fragment : ℕ → Bytes → ℕ × Bytes
 fragment flags d = compressed 0x00 0x02 0x8001 5 (flags ∷ 0x00 ∷ d)
 
 -- a payload of MPU 7 that declares `n` bytes, with a byte of flags
-abbrev payload : ℕ → ℕ → Bytes → Bytes
+abbrev pub payload : ℕ → ℕ → Bytes → Bytes
 payload n flags rest = 0x00 ∷ n ∷ flags ∷ 0x00 ∷ 0x00 ∷ 0x00 ∷ 0x00 ∷ 0x07 ∷ rest
 
 -- a packet with one timed unit, whose data is two bytes; the flags say how it is divided
-abbrev unit : ℕ → ℕ → Bytes → ℕ × Bytes
+abbrev pub unit : ℕ → ℕ → Bytes → ℕ × Bytes
 unit number flags d = mmtp 0x00 number (payload 22 flags (replicate 14 0x00 ++ d))
 
-abbrev headOf : ℕ → Bytes → ℕ × Bytes
+abbrev pub headOf : ℕ → Bytes → ℕ × Bytes
 headOf n d = unit n 0x2A d
 
-abbrev lastOf : ℕ → Bytes → ℕ × Bytes
+abbrev pub lastOf : ℕ → Bytes → ℕ × Bytes
 lastOf n d = unit n 0x2E d
 
-abbrev completeOf : ℕ → Bytes → ℕ × Bytes
+abbrev pub completeOf : ℕ → Bytes → ℕ × Bytes
 completeOf n d = unit n 0x28 d
 
 -- a payload whose unit is a byte short
-abbrev unreadable : ℕ → ℕ × Bytes
+abbrev pub unreadable : ℕ → ℕ × Bytes
 unreadable n = mmtp 0x00 n (payload 19 0x2A (replicate 13 0x00))
 
 -- scrambled by an extension of type 0 with one entry of type 1, bits 3
-abbrev scrambledOf : ℕ → Bytes → ℕ × Bytes
+abbrev pub scrambledOf : ℕ → Bytes → ℕ × Bytes
 scrambledOf n p = mmtp 0x02 n (0x00 ∷ 0x00 ∷ 0x00 ∷ 0x05 ∷ 0x80 ∷ 0x01 ∷ 0x00 ∷ 0x01 ∷ 0x18 ∷ p)
 
-abbrev ab : Bytes
+abbrev pub ab : Bytes
 ab = 0xAA ∷ 0xBB ∷ []
 
-abbrev cd : Bytes
+abbrev pub cd : Bytes
 cd = 0xCC ∷ 0xDD ∷ []
 
 -- a NIT of version 1, and one of version 2 whose network descriptors run over its end
-abbrev nit1 : Bytes
+abbrev pub nit1 : Bytes
 nit1 =
     0x40 ∷ 0xB0 ∷ 0x0D ∷ 0x00 ∷ 0x04 ∷ 0xC3 ∷ 0x00 ∷ 0x00 ∷ 0xF0 ∷ 0x00 ∷ 0xF0 ∷ 0x00 ∷ 0x17 ∷ 0x51 ∷ 0xD0 ∷ 0x6F ∷ []
 
-abbrev nit2 : Bytes
+abbrev pub nit2 : Bytes
 nit2 =
     0x40 ∷ 0xB0 ∷ 0x0D ∷ 0x00 ∷ 0x04 ∷ 0xC5 ∷ 0x00 ∷ 0x00 ∷ 0xF0 ∷ 0x05 ∷ 0xF0 ∷ 0x00 ∷ 0xB6 ∷ 0xD9 ∷ 0xA3 ∷ 0x25 ∷ []
 
 -- a PA message without a body
-abbrev emptyPa : Bytes
+abbrev pub emptyPa : Bytes
 emptyPa = replicate 7 0x00
 
 -- an M2 section message with an MPT of nine bytes without assets, and two bytes behind it
-abbrev mptMessage : Bytes
+abbrev pub mptMessage : Bytes
 mptMessage =
     0x80 ∷ 0x00 ∷ 0x00 ∷ 0x00 ∷ 0x0B ∷ 0x20 ∷ 0x01 ∷ 0x00 ∷ 0x05 ∷ 0xFC ∷ 0x00 ∷ 0x00 ∷ 0x00 ∷ 0x00 ∷ 0xFF ∷ 0xFF ∷ []
 
 -- nothing scrambled, one MPU: packets, lost, malformed, objects, dropped, held
-abbrev clearly : ℕ → ℕ → ℕ → List Bytes → ℕ → Option Bytes → Told
+abbrev pub clearly : ℕ → ℕ → ℕ → List Bytes → ℕ → Option Bytes → Told
 clearly p l m os d h =
     leaves
     (record { packets = p; lost = l; scrambled = 0; mpus = 1; malformed = m; objects = os; dropped = d; held = h })
 
 -- of a media packet: new media ids, the longest object, records, data bytes
-abbrev mediaNeeds : ℕ → ℕ → ℕ → ℕ → Needs
+abbrev pub mediaNeeds : ℕ → ℕ → ℕ → ℕ → Needs
 mediaNeeds i o r d =
     record { mediaIds = i; controlIds = 0; sections = 0; object = o; message = 0; table = 0; records = r; dataBytes = d }
 
 -- of a message packet: new control ids, the longest message, the longest table
-abbrev messageNeeds : ℕ → ℕ → ℕ → Needs
+abbrev pub messageNeeds : ℕ → ℕ → ℕ → Needs
 messageNeeds i m t =
     record { mediaIds = 0; controlIds = i; sections = 0; object = 0; message = m; table = t; records = 0; dataBytes = 0 }
 
-abbrev cases : List Case
+abbrev cases : List (Case Ask Told)
 cases =
     (widthOf 0x3FFF ⇒ width 1)
     ∷ (widthOf 0x4000 ⇒ width 2)
@@ -238,6 +232,6 @@ cases =
     ∷ (needed [] (fragment 0x00 mptMessage) ⇒ asks (messageNeeds 1 0 9))
     ∷ []
 
-pub table : map (λ c. told (c .ask)) cases ≡ map (λ c. c .says) cases
-unfolding bytesOf be feed feedByte crcOf packetType compressedOf fecType payloadType bitsOf entry extensionAt afterFixed mmtpOf isTlvSi sectionAt sectionsFrom sectionsOf lengthWidth stepAt splitFrom splitOf streamIdentifier descriptorOf descriptorsOf fragmentType indicator payloadHeader unitIn unitAt unitStep unitsFrom unitsOf follows lostFrom longSectionOf entryAt entriesFrom entriesTold nitBody nitOf declaredLength mptAssets mptTable mptOf divisionOf paTables sectionTable contentOf mediaOf classify find put orElse isSome fresh gap lostBy grown continued unitDoes didTo objectOf did unitsDo unitsGive clear readable newMpu jumped mpuAfter rangeAfter malformedPayload noted assetAfter tagged passes mediaGives idle partBefore joinedOn partAfter wholeOf lineAfter lineGives orphan oversize tablesOf tablesOfAll messagesOf cutOf cutOfAll bodyRead sectionOf otherVersion keepIf keep keepAll zeros tabled sectionAdds tableById tableRead tableAdds mptAfter mptAfterAll stored storedAll countedAll opened idleControl assetOf controlOf packetCounted messageCounted lineCounted tablesGiven timeAfter pushed gives book nothing writeAll write tapeOf itemsOf gots follower dropCounted inOrder goesOn deliveredOf needs unitsNeed lineNeeds tableArea tablesNeed pushAll giveAll heldBytes
+pub table : Holds told cases
+unfolding told
 table = refl

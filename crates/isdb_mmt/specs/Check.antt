@@ -1,14 +1,16 @@
 -- Question 5: do the lent bytes hold a session? Its limits pass questions 1 to 4, its lengths fit their areas, no media id,
 -- control id or key stands twice among its own sort, and no count is above 2^53.
-use Prim.Native.Nat.{ℕ, _≤_}
+use Prim.Native.Nat.{ℕ, zero, suc, _+_, _≤_}
 use mathlib.Core.Path.{_≡_}
 use mathlib.Core.Bool.{Bool, true, false, not, cond}
 use mathlib.Core.List.{List, [], _∷_, map}
 use lib.ListN.{length}
+use Rattle.isdb_tlv.specs.Bytes.{be}
 use Rattle.isdb_tlv.specs.Guards.{if_then_else_, _≤?_, _=?_}
 use Rattle.isdb_mmt.specs.Lent.{placesFrom, namesFrom, distinct, every}
 use Rattle.isdb_mmt.specs.Limits.{asked}
-use Rattle.isdb_mmt.specs.Session.{Session, limitsOf, usedOf, latestOf, countersOf, mediaPlaceOf, controlPlaceOf, sectionPlaceOf, mediaPlaces, mediaSize, controlPlaces, controlSize, sectionPlaces, sectionSize}
+use Rattle.isdb_mmt.specs.Session.{Session, limitsOf, usedOf, latestOf, countersOf, mediaPlaceOf, controlPlaceOf, sectionPlaceOf}
+use Rattle.isdb_mmt.specs.Layout.{mostMediaIds, mostControlIds, mostSections, mostCount, mediaPlaces, mediaSize, controlPlaces, controlSize, sectionPlaces, sectionSize, stateSize}
 use Rattle.isdb_mmt.specs.declared.decoder.limits.Limits.{Limits}
 use Rattle.isdb_mmt.specs.declared.decoder.limits.Lengths.{Lengths}
 use Rattle.isdb_mmt.specs.declared.decoder.counts.AssetStats.{AssetStats}
@@ -21,7 +23,12 @@ use Rattle.isdb_mmt.specs.declared.decoder.section.KeptSection.{KeptSect
 
 -- a count: at most 2^53
 abbrev pub countFits : ℕ → Bool
-countFits x = x ≤? 9007199254740992
+countFits x = x ≤? mostCount
+
+-- `n` counts one behind the other from `at` on
+unfoldable pub countsFrom : ℕ → ℕ → List ℕ → List ℕ
+countsFrom zero at l = []
+countsFrom (suc n) at l = be 8 l at ∷ countsFrom n (at + 8) l
 
 -- the counts are these, and one for each table id
 abbrev pub statsCounts : AssetStats → List ℕ
@@ -123,10 +130,10 @@ namesSound l =
 
 -- places that lie within the state
 pub record PlacesThere (l : List ℕ) : Type 0 where
-  pub long : 13144 ≤ length l
-  pub media : usedOf l .«media_ids» ≤ 64
-  pub controls : usedOf l .«control_ids» ≤ 32
-  pub sections : usedOf l .sections ≤ 512
+  pub long : stateSize ≤ length l
+  pub media : usedOf l .«media_ids» ≤ mostMediaIds
+  pub controls : usedOf l .«control_ids» ≤ mostControlIds
+  pub sections : usedOf l .sections ≤ mostSections
 
 unfoldable pub soundIn : List ℕ → List ℕ → Lengths → Bool
 unfolding headSound placesSound namesSound

@@ -1,13 +1,12 @@
 -- MH-EIT: ARIB STD-B60, Table 7-18.
-use Prim.Native.Nat.{ℕ, _+_, _-_, _*_, _/_, _%_}
+use Prim.Native.Nat.{ℕ, _+_, _/_, _%_}
 use mathlib.Core.List.{List, map}
-use mathlib.Core.Bool.{Bool}
 use lib.ListN.{length, getD}
 use Rattle.isdb_tlv.specs.Guards.{if_then_else_, _<?_, _=?_}
 use Rattle.isdb_tlv.specs.Bytes.{be}
-use Rattle.isdb_mmt.specs.Section.{longSectionOf, bodyOf, entryAt, Loop, entriesFrom}
+use Rattle.isdb_mmt.specs.Part.{partOf}
+use Rattle.isdb_mmt.specs.Section.{longSectionOf, entryAt, Loop, entriesFrom}
 use Rattle.isdb_mmt.specs.declared.table.section.SectionHeader.{SectionHeader}
-use Rattle.isdb_mmt.specs.declared.table.section.SectionError.{SectionError}
 use Rattle.isdb_mmt.specs.declared.table.section.SectionError.the-variants.{Malformed}
 use Rattle.isdb_mmt.specs.declared.table.section.LongSection.{LongSection}
 use Rattle.isdb_mmt.specs.declared.table.section.LongSection.the-variants.{Ok as good, Err as bad}
@@ -45,7 +44,7 @@ eitBody h s = if length s <? 6 then told (Err Malformed) 0 else eitLoop h s (ent
 
 abbrev pub eitIn : List ℕ → LongSection → EitParsed
 eitIn s (bad e) = told (Err e) 0
-eitIn s (good h n) = eitBody h (bodyOf s n)
+eitIn s (good h) = eitBody h (partOf s (h .body))
 
 unfoldable pub eitOf : List ℕ → EitParsed
 eitOf s = eitIn s (longSectionOf s)

@@ -1,5 +1,6 @@
 -- What a message packet does to the message that is being joined for its packet id, and the tables it gives: the Rust's
 -- `Messages::push`, on values.
+-- Translated from message.rs of isdb-rs (Apache-2.0, see NOTICE) and changed.
 use Prim.Native.Nat.{ℕ, _+_}
 use mathlib.Core.Bool.{Bool, true, false, not, cond, _&&_}
 use mathlib.Core.Option.{Option, none, some}

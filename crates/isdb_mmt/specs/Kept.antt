@@ -1,4 +1,5 @@
 -- What is done with a table: kept, passed over, counted. The Rust's `Decoder::table`, `control` and `keep`, on values.
+-- Translated from decoder.rs of isdb-rs (Apache-2.0, see NOTICE) and changed.
 use Prim.Native.Nat.{ℕ, _+_, _*_, _^_}
 use mathlib.Core.Bool.{Bool, true, false, not, cond, _&&_}
 use mathlib.Core.Option.{Option, none, some}
@@ -92,7 +93,7 @@ bodyRead id b =
     else body (eitBodyOk (eitOf b .result)) (eitOf b .breaks)
 
 abbrev pub headIsOk : LongSection → Bool
-headIsOk (goodSection h n) = true
+headIsOk (goodSection h) = true
 headIsOk (badSection e) = false
 
 abbrev pub isCrc : SectionError → Bool
@@ -101,11 +102,11 @@ isCrc Crc = true
 isCrc Malformed = false
 
 abbrev pub crcIsBad : LongSection → Bool
-crcIsBad (goodSection h n) = false
+crcIsBad (goodSection h) = false
 crcIsBad (badSection e) = isCrc e
 
 abbrev pub versionIn : LongSection → ℕ
-versionIn (goodSection h n) = h .version
+versionIn (goodSection h) = h .version
 versionIn (badSection e) = 0
 
 -- a section declares 3 bytes and its length

@@ -1,12 +1,11 @@
--- Parts of lent memory: the bytes that stand at a place, memory with other bytes there, fields stored one behind the other,
--- and places of one size with a name each.
+-- Parts of lent memory: the bytes that stand at a place, memory with other bytes there, and places of one size with a name
+-- each.
 use Prim.Native.Nat.{ℕ, zero, suc, _+_, _*_, _/_, _%_}
 use mathlib.Core.Bool.{Bool, true, false, not, cond}
 use mathlib.Core.List.{List, [], _∷_, _++_}
 use lib.ListN.{length, take, drop}
 use Rattle.isdb_tlv.specs.Guards.{if_then_else_, _=?_, _<?_}
-use Rattle.isdb_tlv.specs.Bytes.{be, putBe}
-use Rattle.isdb_tlv.specs.Fields.{Field}
+use Rattle.isdb_tlv.specs.Bytes.{be}
 use Rattle.isdb_mmt.specs.declared.decoder.place.Found.{Found}
 use Rattle.isdb_mmt.specs.declared.decoder.place.Found.the-variants.{At, Nothing}
 use Rattle.isdb_mmt.specs.declared.decoder.place.Seat.{Seat}
@@ -27,11 +26,6 @@ flag l at = not (be 1 l at =? 0)
 abbrev pub flagByte : Bool → ℕ
 flagByte true = 1
 flagByte false = 0
-
--- `l` with fields stored one behind the other from `at` on
-abbrev pub puts : ℕ → List Field → List ℕ → List ℕ
-puts at [] l = l
-puts at (f ∷ fs) l = puts (at + f .width) fs (putBe (f .width) at (f .value) l)
 
 -- `n` places of `size` bytes each, from `at` on
 unfoldable pub placesFrom : ℕ → ℕ → ℕ → List ℕ → List (List ℕ)
@@ -59,7 +53,7 @@ abbrev pub amongMarked : ℕ → ℕ → List ℕ → Bool
 amongMarked mark x names = if mark =? 0 then false else among x names
 
 unfoldable pub cellOf : ℕ → ℕ
-cellOf x = x * 2654435769 % 4294967296 / 131072
+cellOf x = x * 2654435769 / 16777216 % 32768
 
 -- the index of the first `x`, where the first name has the index `i`
 unfoldable pub foundFrom : ℕ → List ℕ → ℕ → Found

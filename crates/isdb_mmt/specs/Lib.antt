@@ -30,7 +30,9 @@ pub mod Model
 pub mod Book
 pub mod Demand
 pub mod Needs
+pub mod Worked
 pub mod Cases
+pub mod Layout
 pub mod Lent
 pub mod Limits
 pub mod Session

@@ -1,7 +1,9 @@
 -- The limits of a session, the lengths of memory that they ask for, and questions 1 to 4 of an opening.
 use Prim.Native.Nat.{ℕ, _+_, _*_}
+use mathlib.Core.Path.{_≡_}
 use mathlib.Core.Bool.{Bool, true, false, not, cond}
 use Rattle.isdb_tlv.specs.Guards.{if_then_else_, _<?_, _≤?_}
+use Rattle.isdb_mmt.specs.Layout.{mostMediaIds, mostControlIds, mostSections, mostMfuArea, mostMessageArea, mostTableArea, mostPackets, stateSize}
 use Rattle.isdb_mmt.specs.declared.decoder.limits.Limits.{Limits}
 use Rattle.isdb_mmt.specs.declared.decoder.limits.Lengths.{Lengths}
 use Rattle.isdb_mmt.specs.declared.decoder.limits.Need.{Need}
@@ -15,29 +17,29 @@ inRange most x = if x <? 1 then false else x ≤? most
 unfoldable pub placesInRange : Limits → Bool
 unfolding inRange
 placesInRange l =
-    if not (inRange 64 (l .«media_ids»)) then false
-    else if not (inRange 32 (l .«control_ids»)) then false
-    else inRange 512 (l .sections)
+    if not (inRange mostMediaIds (l .«media_ids»)) then false
+    else if not (inRange mostControlIds (l .«control_ids»)) then false
+    else inRange mostSections (l .sections)
 
 -- question 2: areas, in bytes for each place
 unfoldable pub areasInRange : Limits → Bool
 unfolding inRange
 areasInRange l =
-    if not (inRange 16777216 (l .«mfu_area»)) then false
-    else if not (inRange 1048576 (l .«message_area»)) then false
-    else inRange 65539 (l .«table_area»)
+    if not (inRange mostMfuArea (l .«mfu_area»)) then false
+    else if not (inRange mostMessageArea (l .«message_area»)) then false
+    else inRange mostTableArea (l .«table_area»)
 
 -- question 4: packets
 unfoldable pub packetsInRange : Limits → Bool
 unfolding inRange
-packetsInRange l = inRange 4294967295 (l .packets)
+packetsInRange l = inRange mostPackets (l .packets)
 
 -- the lengths that limits need. The state's is the same for all; a table area is for each section place, for the MPT of
 -- each control id, for the PLT and for the TOT
 unfoldable pub lengthsFor : Limits → Lengths
 lengthsFor l =
     record {
-      state = 13144;
+      state = stateSize;
       objects = l .«media_ids» * l .«mfu_area»;
       messages = l .«control_ids» * l .«message_area»;
       tables = (l .sections + l .«control_ids» + 2) * l .«table_area»;
@@ -69,3 +71,17 @@ asked l lent =
     else if not (longEnough (lengthsFor l) lent) then 3
     else if not (packetsInRange l) then 4
     else 0
+
+-- the number that an opening gives, where every buffer is long enough
+abbrev pub needNumber : Need → ℕ
+needNumber (bytes n) = 0
+needNumber (Refused k) = k
+
+-- what is needed and what is asked agree: with buffers as long as limits need every question is answered yes, and where
+-- every buffer is long enough the number asked is the need's
+pub record Agree (l : Limits) (lent : Lengths) : Type 0 where
+  pub enough : (n : Lengths) → neededOf l ≡ bytes n → longEnough n lent ≡ true → asked l lent ≡ 0
+  pub number : longEnough (lengthsFor l) lent ≡ true → asked l lent ≡ needNumber (neededOf l)
+
+abbrev pub Agreement : Type 0
+Agreement = (l : Limits) (lent : Lengths) → Agree l lent

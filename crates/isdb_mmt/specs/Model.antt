@@ -1,4 +1,5 @@
 -- The decoder on values, with unlimited memory: what the Rust's `Decoder::push` does, every counter and kept table included.
+-- Translated from decoder.rs of isdb-rs (Apache-2.0, see NOTICE) and changed.
 use Prim.Native.Nat.{ℕ, _+_}
 use mathlib.Core.Bool.{Bool}
 use mathlib.Core.Option.{Option, none, some}

@@ -1,5 +1,5 @@
 -- MPU payloads: ARIB STD-B60, 6.3.2, Tables 6-1 to 6-3; and the steps of sequence numbers.
-use Prim.Native.Nat.{ℕ, _+_, _-_, _*_, _/_, _%_, _^_, min}
+use Prim.Native.Nat.{ℕ, _+_, _-_, _/_, _%_, _^_, min}
 use mathlib.Core.List.{List, [], _∷_}
 use mathlib.Core.Bool.{Bool, true, false, not}
 use mathlib.Core.Option.{Option, none, some}
@@ -8,7 +8,6 @@ use Rattle.isdb_tlv.specs.Guards.{if_then_else_, _<?_, _≤?_, _=?_}
 use Rattle.isdb_tlv.specs.Bytes.{be}
 use Rattle.isdb_tlv.specs.Walk.{Next, stop, more, walk}
 use Rattle.isdb_mmt.specs.Part.{part}
-use Rattle.isdb_mmt.specs.declared.maybe.MaybeU32.{MaybeU32}
 use Rattle.isdb_mmt.specs.declared.maybe.MaybeU32.the-variants.{None as noU32, Some as someU32}
 use Rattle.isdb_mmt.specs.declared.mpu.FragmentType.{FragmentType}
 use Rattle.isdb_mmt.specs.declared.mpu.FragmentType.the-variants.{MpuMetadata, MovieFragmentMetadata, Mfu, Reserved}
@@ -18,7 +17,6 @@ use Rattle.isdb_mmt.specs.declared.mpu.PayloadHeader.{PayloadHeader}
 use Rattle.isdb_mmt.specs.declared.mpu.MaybeHeader.{MaybeHeader}
 use Rattle.isdb_mmt.specs.declared.mpu.MaybeHeader.the-variants.{None, Some}
 use Rattle.isdb_mmt.specs.declared.mpu.MfuHeader.{MfuHeader}
-use Rattle.isdb_mmt.specs.declared.mpu.MaybeMfu.{MaybeMfu}
 use Rattle.isdb_mmt.specs.declared.mpu.MaybeMfu.the-variants.{None as noMfu, Some as someMfu}
 use Rattle.isdb_mmt.specs.declared.mpu.Unit.{Unit as DataUnit}
 use Rattle.isdb_mmt.specs.declared.mpu.UnitStep.{UnitStep}
@@ -120,11 +118,11 @@ unitAt s timed aggregated at =
     else if length s - (at + 2) <? be 2 s at then Malformed
     else unitIn s timed (at + 2) (at + 2 + be 2 s at)
 
--- what stands at a place of a payload's declared bytes: the first unit stands at 8, and there is to be one
+-- what stands at a place of a payload's declared bytes: the first unit, at 8, is to be there, also for a place before it
 unfoldable pub unitStep : List ℕ → Bool → Bool → ℕ → UnitStep
 unitStep s timed aggregated at =
     if length s <? 8 then Malformed
-    else if at ≤? 8 then unitAt s timed aggregated at
+    else if at ≤? 8 then unitAt s timed aggregated 8
     else if length s ≤? at then End
     else unitAt s timed aggregated at
 

@@ -1,15 +1,13 @@
 -- TLV-NIT and TLV-SI descriptors: ARIB STD-B60, Tables 5-1, 5-4, 5-6, and 5.3.
 use Prim.Native.Nat.{ℕ, zero, suc, _+_, _-_, _*_, _/_, _%_}
 use mathlib.Core.List.{List, [], _∷_, map}
-use mathlib.Core.Bool.{Bool, true, false}
-use lib.ListN.{length, getD, take, drop}
-use Rattle.isdb_tlv.specs.Guards.{if_then_else_, _<?_, _≤?_, _=?_, _≠?_}
+use lib.ListN.{length, getD}
+use Rattle.isdb_tlv.specs.Guards.{if_then_else_, _<?_, _=?_, _≠?_}
 use Rattle.isdb_tlv.specs.Bytes.{be}
 use Rattle.isdb_tlv.specs.Walk.{Next, stop, more, walk}
 use Rattle.isdb_mmt.specs.Part.{part, partOf}
-use Rattle.isdb_mmt.specs.Section.{length12, longSectionOf, bodyOf, entryAt, Loop, entriesFrom}
+use Rattle.isdb_mmt.specs.Section.{length12, longSectionOf, entryAt, Loop, entriesFrom}
 use Rattle.isdb_mmt.specs.declared.table.section.SectionHeader.{SectionHeader}
-use Rattle.isdb_mmt.specs.declared.table.section.SectionError.{SectionError}
 use Rattle.isdb_mmt.specs.declared.table.section.SectionError.the-variants.{Malformed}
 use Rattle.isdb_mmt.specs.declared.table.section.LongSection.{LongSection}
 use Rattle.isdb_mmt.specs.declared.table.section.LongSection.the-variants.{Ok as good, Err as bad}
@@ -19,7 +17,6 @@ use Rattle.isdb_mmt.specs.declared.table.section.EntryStep.the-variants.
 use Rattle.isdb_mmt.specs.declared.maybe.MaybeU64.{MaybeU64}
 use Rattle.isdb_mmt.specs.declared.maybe.MaybeU64.the-variants.{None as noU64, Some as someU64}
 use Rattle.isdb_mmt.specs.declared.part.Part.{Part}
-use Rattle.isdb_mmt.specs.declared.table.nit.Nit.{Nit}
 use Rattle.isdb_mmt.specs.declared.table.nit.NitResult.{NitResult}
 use Rattle.isdb_mmt.specs.declared.table.nit.NitResult.the-variants.{Ok, Err}
 use Rattle.isdb_mmt.specs.declared.table.nit.NitStream.{NitStream}
@@ -51,7 +48,7 @@ nitBody h s =
 
 abbrev pub nitIn : List ℕ → LongSection → NitResult
 nitIn s (bad e) = Err e
-nitIn s (good h n) = nitBody h (bodyOf s n)
+nitIn s (good h) = nitBody h (partOf s (h .body))
 
 unfoldable pub nitOf : List ℕ → NitResult
 nitOf s = nitIn s (longSectionOf s)
@@ -117,7 +114,14 @@ frequencyOf tag s =
     else if length s <? 4 then noU64
     else tenfold (bcdFrom 8 s)
 
-unfoldable pub networkName : ℕ → List ℕ → MaybePart
-networkName tag s =
-    if tag ≠? 0x40 then noPart
-    else somePart (part 0 (length s))
+-- the whole body of a descriptor that has the wanted tag
+unfoldable pub wholeBody : ℕ → ℕ → List ℕ → MaybePart
+wholeBody wanted tag s = if tag ≠? wanted then noPart else somePart (part 0 (length s))
+
+-- the text of a network name descriptor
+abbrev pub networkName : ℕ → List ℕ → MaybePart
+networkName tag s = wholeBody 0x40 tag s
+
+-- Table 5-4: the entries of a service list descriptor, as one of MMT-SI has them
+abbrev pub serviceList : ℕ → List ℕ → MaybePart
+serviceList tag s = wholeBody 0x41 tag s

@@ -1,4 +1,5 @@
 -- What a media packet does to the objects and counts of its packet id: the Rust's `Reassembler::push`, on values.
+-- Translated from mpu.rs of isdb-rs (Apache-2.0, see NOTICE) and changed.
 use Prim.Native.Nat.{ℕ, _+_}
 use mathlib.Core.Bool.{Bool, true, false, not, cond, _&&_}
 use mathlib.Core.Option.{Option, none, some}

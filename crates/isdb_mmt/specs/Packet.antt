@@ -1,5 +1,6 @@
 -- What a push is given, as a value: a packet's kind and bytes, read down to a media payload, a control payload, sections, or
 -- what else the decoder counts. Each reading is that of its own file.
+-- Translated from decoder.rs of isdb-rs (Apache-2.0, see NOTICE) and changed.
 use Prim.Native.Nat.{ℕ, _+_, _*_, _^_}
 use mathlib.Core.Bool.{Bool, true, false, cond}
 use mathlib.Core.Option.{Option, none, some}

@@ -1,7 +1,7 @@
 -- PLT: ARIB STD-B60, Table 7-11.
-use Prim.Native.Nat.{ℕ, zero, suc, _+_, _-_, _*_, _/_, _%_}
+use Prim.Native.Nat.{ℕ, zero, suc, _+_, _-_}
 use mathlib.Core.List.{List, [], _∷_}
-use mathlib.Core.Bool.{Bool, true, false, not}
+use mathlib.Core.Bool.{Bool, not}
 use mathlib.Core.Option.{Option, none, some}
 use lib.ListN.{length, getD, take, drop}
 use Rattle.isdb_tlv.specs.Guards.{if_then_else_, _<?_, _≤?_, _=?_, _≠?_}
@@ -10,7 +10,6 @@ use Rattle.isdb_mmt.specs.Part.{part}
 use Rattle.isdb_mmt.specs.Location.{locationOf}
 use Rattle.isdb_mmt.specs.Timestamp.{isSome}
 use Rattle.isdb_mmt.specs.Mpt.{declaredLength}
-use Rattle.isdb_mmt.specs.declared.location.Location.{Location}
 use Rattle.isdb_mmt.specs.declared.location.Located.{Located}
 use Rattle.isdb_mmt.specs.declared.location.Located.the-variants.{None as notLocated, Some as located}
 use Rattle.isdb_mmt.specs.declared.table.mpt.Place.{Place}
@@ -21,7 +20,6 @@ use Rattle.isdb_mmt.specs.declared.table.plt.PackageStep.the-variants.{M
 use Rattle.isdb_mmt.specs.declared.table.plt.IpDelivery.{IpDelivery}
 use Rattle.isdb_mmt.specs.declared.table.plt.DeliveryStep.{DeliveryStep}
 use Rattle.isdb_mmt.specs.declared.table.plt.DeliveryStep.the-variants.{Malformed as noDelivery, Delivery as delivery}
-use Rattle.isdb_mmt.specs.declared.table.plt.Plt.{Plt}
 use Rattle.isdb_mmt.specs.declared.table.plt.MaybePlt.{MaybePlt}
 use Rattle.isdb_mmt.specs.declared.table.plt.MaybePlt.the-variants.{None, Some}
 

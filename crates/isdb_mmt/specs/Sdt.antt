@@ -1,20 +1,18 @@
 -- MH-SDT: ARIB STD-B60, Table 7-23.
-use Prim.Native.Nat.{ℕ, zero, suc, _+_, _-_, _*_, _/_, _%_}
-use mathlib.Core.List.{List, [], _∷_, map}
-use mathlib.Core.Bool.{Bool, true, false}
-use lib.ListN.{length, getD, take, drop}
-use Rattle.isdb_tlv.specs.Guards.{if_then_else_, _<?_, _≤?_, _=?_, _≠?_}
+use Prim.Native.Nat.{ℕ, _+_, _/_, _%_}
+use mathlib.Core.List.{List, map}
+use lib.ListN.{length, getD}
+use Rattle.isdb_tlv.specs.Guards.{if_then_else_, _<?_, _=?_}
 use Rattle.isdb_tlv.specs.Bytes.{be}
-use Rattle.isdb_mmt.specs.Section.{longSectionOf, bodyOf, entryAt, Loop, entriesFrom}
+use Rattle.isdb_mmt.specs.Part.{partOf}
+use Rattle.isdb_mmt.specs.Section.{longSectionOf, entryAt, Loop, entriesFrom}
 use Rattle.isdb_mmt.specs.declared.table.section.SectionHeader.{SectionHeader}
-use Rattle.isdb_mmt.specs.declared.table.section.SectionError.{SectionError}
 use Rattle.isdb_mmt.specs.declared.table.section.SectionError.the-variants.{Malformed}
 use Rattle.isdb_mmt.specs.declared.table.section.LongSection.{LongSection}
 use Rattle.isdb_mmt.specs.declared.table.section.LongSection.the-variants.{Ok as good, Err as bad}
 use Rattle.isdb_mmt.specs.declared.table.section.Entry.{Entry}
 use Rattle.isdb_mmt.specs.declared.table.section.EntryStep.{EntryStep}
 use Rattle.isdb_mmt.specs.declared.table.section.EntryStep.the-variants.{End as ended, Malformed as malformed, Entry as entry}
-use Rattle.isdb_mmt.specs.declared.table.sdt.Sdt.{Sdt}
 use Rattle.isdb_mmt.specs.declared.table.sdt.SdtResult.{SdtResult}
 use Rattle.isdb_mmt.specs.declared.table.sdt.SdtResult.the-variants.{Ok, Err}
 use Rattle.isdb_mmt.specs.declared.table.sdt.SdtParsed.{SdtParsed}
@@ -36,7 +34,7 @@ sdtBody h s = if length s <? 2 then told (Err Malformed) 0 else sdtLoop h s (ent
 
 abbrev pub sdtIn : List ℕ → LongSection → SdtParsed
 sdtIn s (bad e) = told (Err e) 0
-sdtIn s (good h n) = sdtBody h (bodyOf s n)
+sdtIn s (good h) = sdtBody h (partOf s (h .body))
 
 unfoldable pub sdtOf : List ℕ → SdtParsed
 sdtOf s = sdtIn s (longSectionOf s)

@@ -1,8 +1,8 @@
 -- The long-form section (ARIB STD-B60, 7.2.3.2; ISO/IEC 13818-1, 2.4.4.11) and the loops of entries in it.
-use Prim.Native.Nat.{ℕ, _+_, _-_, _*_, _/_, _%_}
+use Prim.Native.Nat.{ℕ, _+_, _-_, _/_, _%_}
 use mathlib.Core.List.{List, [], _∷_}
 use mathlib.Core.Bool.{Bool, true, false}
-use lib.ListN.{length, getD, take, drop}
+use lib.ListN.{length, getD, take}
 use Rattle.isdb_tlv.specs.Guards.{if_then_else_, _<?_, _≤?_, _=?_, _≠?_}
 use Rattle.isdb_tlv.specs.Bytes.{be}
 use Rattle.isdb_tlv.specs.Crc.{crcOf}
@@ -10,8 +10,7 @@ use Rattle.isdb_tlv.specs.Walk.{Next, stop, more, walk}
 use Rattle.isdb_mmt.specs.Part.{part, partOf}
 use Rattle.isdb_mmt.specs.Desc.{broken}
 use Rattle.isdb_mmt.specs.declared.table.section.SectionHeader.{SectionHeader}
-use Rattle.isdb_mmt.specs.declared.table.section.SectionError.{SectionError}
-use Rattle.isdb_mmt.specs.declared.table.section.SectionError.the-variants.{Truncated, Crc, Malformed}
+use Rattle.isdb_mmt.specs.declared.table.section.SectionError.the-variants.{Truncated, Crc}
 use Rattle.isdb_mmt.specs.declared.table.section.LongSection.{LongSection}
 use Rattle.isdb_mmt.specs.declared.table.section.LongSection.the-variants.{Ok, Err}
 use Rattle.isdb_mmt.specs.declared.table.section.Entry.{Entry}
@@ -24,9 +23,9 @@ abbrev pub length12 : List ℕ → ℕ → ℕ
 length12 s at = be 2 s at % 4096
 
 -- table id 8 bits, syntax indicator 1, reserved 3, section length 12, table id extension 16, reserved 2, version 5, current
--- next indicator 1, section number 8, last section number 8
-abbrev pub headerOf : List ℕ → SectionHeader
-headerOf s =
+-- next indicator 1, section number 8, last section number 8, then a body of `n` bytes
+abbrev pub headerOf : List ℕ → ℕ → SectionHeader
+headerOf s n =
     record {
       «table_id» = getD s 0 0;
       extension = be 2 s 3;
@@ -34,6 +33,7 @@ headerOf s =
       current = getD s 5 0 % 2 =? 1;
       «section_number» = getD s 6 0;
       «last_section_number» = getD s 7 0;
+      body = part 8 n;
     }
 
 -- the section length counts what stands behind it: five bytes of header at least, and a CRC over all. The body is what is
@@ -44,10 +44,7 @@ longSectionOf s =
     else if length12 s 1 <? 9 then Err Truncated
     else if length s <? length12 s 1 + 3 then Err Truncated
     else if crcOf (take (length12 s 1 + 3) s) ≠? 0 then Err Crc
-    else Ok (headerOf s) (length12 s 1 - 9)
-
-abbrev pub bodyOf : List ℕ → ℕ → List ℕ
-bodyOf s n = take n (drop 8 s)
+    else Ok (headerOf s (length12 s 1 - 9))
 
 -- an entry at `at`: `k` bytes of fields, a length of 12 bits, and so many bytes of descriptors
 unfoldable pub entryAt : List ℕ → ℕ → ℕ → EntryStep

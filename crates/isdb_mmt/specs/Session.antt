@@ -6,7 +6,7 @@ use mathlib.Core.List.{List, [], _∷_, _++_}
 use Rattle.isdb_tlv.specs.Bytes.{be}
 use Rattle.isdb_tlv.specs.Fields.{Field, field}
 use Rattle.isdb_mmt.specs.Lent.{part, flag, flagByte}
-use Rattle.isdb_mmt.specs.declared.mpu.MfuHeader.{MfuHeader}
+use Rattle.isdb_mmt.specs.Layout.{usedPlace, latestPlace, timePlace, countersPlace, mediaPlaces, heldPlace, objectPlace, statsPlace, mediaSize, controlPlaces, controlSize, sectionPlaces, sectionSize}
 use Rattle.isdb_mmt.specs.declared.decoder.limits.Limits.{Limits}
 use Rattle.isdb_mmt.specs.declared.decoder.counts.AssetStats.{AssetStats}
 use Rattle.isdb_mmt.specs.declared.decoder.counts.Counters.{Counters}
@@ -26,29 +26,7 @@ pub record Session : Type 0 where
   pub messages : List ℕ
   pub tables : List ℕ
 
--- the state: a head of 184 bytes, 64 media places, 32 control places, 512 section places
-abbrev pub mediaPlaces : ℕ
-mediaPlaces = 184
-
-abbrev pub mediaSize : ℕ
-mediaSize = 120
-
-abbrev pub controlPlaces : ℕ
-controlPlaces = 7864
-
-abbrev pub controlSize : ℕ
-controlSize = 21
-
-abbrev pub sectionPlaces : ℕ
-sectionPlaces = 8536
-
-abbrev pub sectionSize : ℕ
-sectionSize = 9
-
-abbrev pub stateSize : ℕ
-stateSize = 13144
-
--- the head: limits from 0, places in use from 57, PLT and TOT from 69, the time from 79, counters from 88
+-- the head
 unfoldable pub limitsOf : List ℕ → Limits
 limitsOf l =
     record {
@@ -75,21 +53,31 @@ limitsFields x =
     ∷ []
 
 unfoldable pub usedOf : List ℕ → Used
-usedOf l = record { «media_ids» = be 4 l 57; «control_ids» = be 4 l 61; sections = be 4 l 65 }
+usedOf l =
+    record {
+      «media_ids» = be 4 l usedPlace;
+      «control_ids» = be 4 l (usedPlace + 4);
+      sections = be 4 l (usedPlace + 8);
+    }
 
 abbrev pub usedFields : Used → List Field
 usedFields x = field 4 (x .«media_ids») ∷ field 4 (x .«control_ids») ∷ field 4 (x .sections) ∷ []
 
 unfoldable pub latestOf : List ℕ → Latest
 latestOf l =
-    record { plt = flag l 69; «plt_length» = be 4 l 70; tot = flag l 74; «tot_length» = be 4 l 75 }
+    record {
+      plt = flag l latestPlace;
+      «plt_length» = be 4 l (latestPlace + 1);
+      tot = flag l (latestPlace + 5);
+      «tot_length» = be 4 l (latestPlace + 6);
+    }
 
 abbrev pub latestFields : Latest → List Field
 latestFields x =
     field 1 (flagByte (x .plt)) ∷ field 4 (x .«plt_length») ∷ field 1 (flagByte (x .tot)) ∷ field 4 (x .«tot_length») ∷ []
 
 unfoldable pub timeOf : List ℕ → Time
-timeOf l = record { seen = flag l 79; timestamp = be 8 l 80 }
+timeOf l = record { seen = flag l timePlace; timestamp = be 8 l (timePlace + 1) }
 
 abbrev pub timeFields : Time → List Field
 timeFields x = field 1 (flagByte (x .seen)) ∷ field 8 (x .timestamp) ∷ []
@@ -97,27 +85,27 @@ timeFields x = field 1 (flagByte (x .seen)) ∷ field 8 (x .timestamp) ∷ []
 unfoldable pub countersOf : List ℕ → Counters
 countersOf l =
     record {
-      «tlv_packets» = be 8 l 88;
-      «ip_errors» = be 8 l 96;
-      «non_mmtp» = be 8 l 104;
-      ntp = be 8 l 112;
-      tables = be 8 l 120;
-      «crc_errors» = be 8 l 128;
-      malformed = be 8 l 136;
-      «version_changes» = be 8 l 144;
-      «orphan_fragments» = be 8 l 152;
-      oversize = be 8 l 160;
-      «message_malformed» = be 8 l 168;
-      «split_errors» = be 8 l 176;
+      «tlv_packets» = be 8 l countersPlace;
+      «ip_errors» = be 8 l (countersPlace + 8);
+      «non_mmtp» = be 8 l (countersPlace + 16);
+      ntp = be 8 l (countersPlace + 24);
+      tables = be 8 l (countersPlace + 32);
+      «crc_errors» = be 8 l (countersPlace + 40);
+      malformed = be 8 l (countersPlace + 48);
+      «version_changes» = be 8 l (countersPlace + 56);
+      «orphan_fragments» = be 8 l (countersPlace + 64);
+      oversize = be 8 l (countersPlace + 72);
+      «message_malformed» = be 8 l (countersPlace + 80);
+      «split_errors» = be 8 l (countersPlace + 88);
     }
 
--- those of packets, then those of tables and messages
-abbrev pub packetFields : Counters → List Field
-packetFields c = field 8 (c .«tlv_packets») ∷ field 8 (c .«ip_errors») ∷ field 8 (c .«non_mmtp») ∷ field 8 (c .ntp) ∷ []
-
-abbrev pub tableFields : Counters → List Field
-tableFields c =
-    field 8 (c .tables)
+abbrev pub countersFields : Counters → List Field
+countersFields c =
+    field 8 (c .«tlv_packets»)
+    ∷ field 8 (c .«ip_errors»)
+    ∷ field 8 (c .«non_mmtp»)
+    ∷ field 8 (c .ntp)
+    ∷ field 8 (c .tables)
     ∷ field 8 (c .«crc_errors»)
     ∷ field 8 (c .malformed)
     ∷ field 8 (c .«version_changes»)
@@ -127,41 +115,38 @@ tableFields c =
     ∷ field 8 (c .«split_errors»)
     ∷ []
 
-abbrev pub countersFields : Counters → List Field
-countersFields c = packetFields c ++ tableFields c
-
 -- a media place
 unfoldable pub heldObjectOf : List ℕ → Object
 heldObjectOf p =
     record {
-      «mpu_sequence_number» = be 4 p 19;
-      rap = flag p 23;
-      timed = flag p 24;
+      «mpu_sequence_number» = be 4 p objectPlace;
+      rap = flag p (objectPlace + 4);
+      timed = flag p (objectPlace + 5);
       header =
           record {
-            «movie_fragment_sequence_number» = be 4 p 25;
-            «sample_number» = be 4 p 29;
-            offset = be 4 p 33;
-            priority = be 1 p 37;
-            «dependency_counter» = be 1 p 38;
+            «movie_fragment_sequence_number» = be 4 p (objectPlace + 6);
+            «sample_number» = be 4 p (objectPlace + 10);
+            offset = be 4 p (objectPlace + 14);
+            priority = be 1 p (objectPlace + 18);
+            «dependency_counter» = be 1 p (objectPlace + 19);
           };
-      item = flag p 39;
-      «item_id» = be 4 p 40;
-      length = be 4 p 44;
+      item = flag p (objectPlace + 20);
+      «item_id» = be 4 p (objectPlace + 21);
+      length = be 4 p (objectPlace + 25);
     }
 
 unfoldable pub statsOf : List ℕ → AssetStats
 statsOf p =
     record {
-      packets = be 8 p 48;
-      «packets_lost» = be 8 p 56;
-      «scrambled_packets» = be 8 p 64;
-      mfus = be 8 p 72;
-      «scrambled_mfus» = be 8 p 80;
-      «mfus_dropped» = be 8 p 88;
-      mpus = be 8 p 96;
-      «mpu_sequence_jumps» = be 8 p 104;
-      malformed = be 8 p 112;
+      packets = be 8 p statsPlace;
+      «packets_lost» = be 8 p (statsPlace + 8);
+      «scrambled_packets» = be 8 p (statsPlace + 16);
+      mfus = be 8 p (statsPlace + 24);
+      «scrambled_mfus» = be 8 p (statsPlace + 32);
+      «mfus_dropped» = be 8 p (statsPlace + 40);
+      mpus = be 8 p (statsPlace + 48);
+      «mpu_sequence_jumps» = be 8 p (statsPlace + 56);
+      malformed = be 8 p (statsPlace + 64);
     }
 
 unfoldable pub mediaPlaceOf : List ℕ → Media
@@ -174,7 +159,7 @@ mediaPlaceOf p =
       «mpu_seen» = flag p 9;
       mpu = be 4 p 10;
       «first_mpu» = be 4 p 14;
-      held = flag p 18;
+      held = flag p heldPlace;
       object = heldObjectOf p;
       stats = statsOf p;
     }
@@ -190,38 +175,33 @@ numberFields m =
     ∷ field 1 (flagByte (m .held))
     ∷ []
 
-abbrev pub headerFields : MfuHeader → List Field
-headerFields h =
-    field 4 (h .«movie_fragment_sequence_number»)
-    ∷ field 4 (h .«sample_number»)
-    ∷ field 4 (h .offset)
-    ∷ field 1 (h .priority)
-    ∷ field 1 (h .«dependency_counter»)
-    ∷ []
-
 abbrev pub objectFields : Object → List Field
 objectFields o =
     field 4 (o .«mpu_sequence_number»)
     ∷ field 1 (flagByte (o .rap))
     ∷ field 1 (flagByte (o .timed))
-    ∷ (headerFields (o .header)
-    ++ (field 1 (flagByte (o .item)) ∷ field 4 (o .«item_id») ∷ field 4 (o .length) ∷ []))
+    ∷ field 4 (o .header .«movie_fragment_sequence_number»)
+    ∷ field 4 (o .header .«sample_number»)
+    ∷ field 4 (o .header .offset)
+    ∷ field 1 (o .header .priority)
+    ∷ field 1 (o .header .«dependency_counter»)
+    ∷ field 1 (flagByte (o .item))
+    ∷ field 4 (o .«item_id»)
+    ∷ field 4 (o .length)
+    ∷ []
 
-abbrev pub packetStatsFields : AssetStats → List Field
-packetStatsFields s = field 8 (s .packets) ∷ field 8 (s .«packets_lost») ∷ field 8 (s .«scrambled_packets») ∷ []
-
-abbrev pub unitStatsFields : AssetStats → List Field
-unitStatsFields s =
-    field 8 (s .mfus)
+abbrev pub statsFields : AssetStats → List Field
+statsFields s =
+    field 8 (s .packets)
+    ∷ field 8 (s .«packets_lost»)
+    ∷ field 8 (s .«scrambled_packets»)
+    ∷ field 8 (s .mfus)
     ∷ field 8 (s .«scrambled_mfus»)
     ∷ field 8 (s .«mfus_dropped»)
     ∷ field 8 (s .mpus)
     ∷ field 8 (s .«mpu_sequence_jumps»)
     ∷ field 8 (s .malformed)
     ∷ []
-
-abbrev pub statsFields : AssetStats → List Field
-statsFields s = packetStatsFields s ++ unitStatsFields s
 
 abbrev pub mediaFields : Media → List Field
 mediaFields m = numberFields m ++ (objectFields (m .object) ++ statsFields (m .stats))
@@ -241,8 +221,8 @@ controlPlaceOf p =
       «mpt_length» = be 4 p 17;
     }
 
-abbrev pub lineFields : Control → List Field
-lineFields c =
+abbrev pub controlFields : Control → List Field
+controlFields c =
     field 4 (c .«packet_id»)
     ∷ field 1 (flagByte (c .seen))
     ∷ field 4 (c .sequence)
@@ -250,10 +230,9 @@ lineFields c =
     ∷ field 1 (flagByte (c .«long_length»))
     ∷ field 1 (flagByte (c .aggregated))
     ∷ field 4 (c .length)
+    ∷ field 1 (flagByte (c .mpt))
+    ∷ field 4 (c .«mpt_length»)
     ∷ []
-
-abbrev pub controlFields : Control → List Field
-controlFields c = lineFields c ++ (field 1 (flagByte (c .mpt)) ∷ field 4 (c .«mpt_length») ∷ [])
 
 -- a section place
 unfoldable pub sectionPlaceOf : List ℕ → KeptSection

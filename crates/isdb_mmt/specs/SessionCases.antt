@@ -1,13 +1,14 @@
 -- Worked cases of limits, places and question 5's names, one table; and the layout's sums.
-use Prim.Native.Nat.{ℕ, _+_, _*_}
+use Prim.Native.Nat.{ℕ, _+_, _-_}
 use mathlib.Core.Path.{_≡_, refl}
 use mathlib.Core.Bool.{Bool, true, false}
-use mathlib.Core.List.{List, [], _∷_, map}
-use lib.ListN.{length}
+use mathlib.Core.List.{List, [], _∷_}
+use Rattle.isdb_mmt.specs.Worked.{Case, _⇒_, Holds}
 use Rattle.isdb_tlv.specs.Fields.{Field}
 use Rattle.isdb_mmt.specs.Lent.{among, distinct, foundFrom, seatOf}
+use Rattle.isdb_mmt.specs.Layout.{mostMediaIds, mostControlIds, mostSections, mostMfuArea, mostMessageArea, mostTableArea, mostPackets, usedPlace, latestPlace, timePlace, countersPlace, mediaPlaces, objectPlace, statsPlace, mediaSize, controlSize, sectionSize, stateSize}
 use Rattle.isdb_mmt.specs.Limits.{inRange, placesInRange, areasInRange, packetsInRange, lengthsFor, longEnough, neededOf, asked}
-use Rattle.isdb_mmt.specs.Session.{mediaPlaces, mediaSize, controlPlaces, controlSize, sectionPlaces, sectionSize, stateSize, limitsFields, usedFields, latestFields, timeFields, countersFields, mediaFields, controlFields, sectionFields}
+use Rattle.isdb_mmt.specs.Session.{limitsFields, usedFields, latestFields, timeFields, countersFields, numberFields, objectFields, mediaFields, controlFields, sectionFields}
 use Rattle.isdb_mmt.specs.declared.decoder.limits.Limits.{Limits}
 use Rattle.isdb_mmt.specs.declared.decoder.limits.Lengths.{Lengths}
 use Rattle.isdb_mmt.specs.declared.decoder.limits.Need.{Need}
@@ -18,6 +19,7 @@ use Rattle.isdb_mmt.specs.declared.decoder.counts.Counters.{Counters}
 use Rattle.isdb_mmt.specs.declared.decoder.head.Used.{Used}
 use Rattle.isdb_mmt.specs.declared.decoder.head.Latest.{Latest}
 use Rattle.isdb_mmt.specs.declared.decoder.head.Time.{Time}
+use Rattle.isdb_mmt.specs.declared.decoder.media.Object.{Object}
 use Rattle.isdb_mmt.specs.declared.decoder.media.Media.{Media}
 use Rattle.isdb_mmt.specs.declared.decoder.control.Control.{Control}
 use Rattle.isdb_mmt.specs.declared.decoder.section.KeptSection.{KeptSection}
@@ -62,20 +64,12 @@ told (number l n) = is (asked l n)
 told (seat names limit x) = sits (seatOf names limit x)
 told (apart names) = all (distinct names)
 
-pub record Case : Type 0 where
-  pub ask : Ask
-  pub says : Told
-
-infix 10 _⇒_
-abbrev _⇒_ : Ask → Told → Case
-a ⇒ t = record { ask = a; says = t }
-
-abbrev cases : List Case
+abbrev cases : List (Case Ask Told)
 cases =
-    (needOf few ⇒ need (bytes (lengths 13144 16384 16384 20480)))
+    (needOf few ⇒ need (bytes (lengths stateSize 16384 16384 20480)))
     -- the least and the most that can be asked for
-    ∷ (needOf (limits 1 1 1 1 1 1 1) ⇒ need (bytes (lengths 13144 1 1 4)))
-    ∷ (needOf (limits 64 32 512 16777216 1048576 65539 4294967295) ⇒ need (bytes (lengths 13144 1073741824 33554432 35784294)))
+    ∷ (needOf (limits 1 1 1 1 1 1 1) ⇒ need (bytes (lengths stateSize 1 1 4)))
+    ∷ (needOf (limits mostMediaIds mostControlIds mostSections mostMfuArea mostMessageArea mostTableArea mostPackets) ⇒ need (bytes (lengths stateSize 1073741824 33554432 35784294)))
     -- one below and one above each range
     ∷ (needOf (limits 0 1 1 1 1 1 1) ⇒ need (Refused 1))
     ∷ (needOf (limits 65 1 1 1 1 1 1) ⇒ need (Refused 1))
@@ -92,17 +86,17 @@ cases =
     ∷ (needOf (limits 1 1 1 1 1 1 0) ⇒ need (Refused 4))
     ∷ (needOf (limits 1 1 1 1 1 1 4294967296) ⇒ need (Refused 4))
     -- buffers just long enough, longer, and each a byte short
-    ∷ (number few (lengths 13144 16384 16384 20480) ⇒ is 0)
+    ∷ (number few (lengths stateSize 16384 16384 20480) ⇒ is 0)
     ∷ (number few (lengths 20000 20000 20000 40000) ⇒ is 0)
-    ∷ (number few (lengths 13143 16384 16384 20480) ⇒ is 3)
-    ∷ (number few (lengths 13144 16383 16384 20480) ⇒ is 3)
-    ∷ (number few (lengths 13144 16384 16383 20480) ⇒ is 3)
-    ∷ (number few (lengths 13144 16384 16384 20479) ⇒ is 3)
+    ∷ (number few (lengths (stateSize - 1) 16384 16384 20480) ⇒ is 3)
+    ∷ (number few (lengths stateSize 16383 16384 20480) ⇒ is 3)
+    ∷ (number few (lengths stateSize 16384 16383 20480) ⇒ is 3)
+    ∷ (number few (lengths stateSize 16384 16384 20479) ⇒ is 3)
     -- the first no decides
     ∷ (number (limits 0 1 1 0 1 1 0) (lengths 0 0 0 0) ⇒ is 1)
     ∷ (number (limits 1 1 1 0 1 1 0) (lengths 0 0 0 0) ⇒ is 2)
     ∷ (number (limits 1 1 1 1 1 1 0) (lengths 0 0 0 0) ⇒ is 3)
-    ∷ (number (limits 1 1 1 1 1 1 0) (lengths 13144 1 1 4) ⇒ is 4)
+    ∷ (number (limits 1 1 1 1 1 1 0) (lengths stateSize 1 1 4) ⇒ is 4)
     -- a name has its place, or takes the next one, or there is none
     ∷ (seat (0xF100 ∷ 0xF101 ∷ []) 2 0xF101 ⇒ sits (Old 1))
     ∷ (seat (0xF100 ∷ 0xF101 ∷ []) 3 0xF102 ⇒ sits (New 2))
@@ -111,7 +105,7 @@ cases =
     ∷ (apart (0xF100 ∷ 0xF101 ∷ 0xF100 ∷ []) ⇒ all false)
     ∷ []
 
-pub table : map (λ c. told (c .ask)) cases ≡ map (λ c. c .says) cases
+pub table : Holds told cases
 unfolding inRange placesInRange areasInRange packetsInRange lengthsFor longEnough neededOf asked among distinct foundFrom seatOf
 table = refl
 
@@ -122,14 +116,13 @@ size (f ∷ fs) = f .width + size fs
 
 -- the parts of the state lie one behind the other, and each place has its fields' size
 pub record Laid : Type 0 where
-  pub used : (x : Limits) → size (limitsFields x) ≡ 57
-  pub latest : (x : Used) → 57 + size (usedFields x) ≡ 69
-  pub time : (x : Latest) → 69 + size (latestFields x) ≡ 79
-  pub counters : (x : Time) → 79 + size (timeFields x) ≡ 88
-  pub media : (x : Counters) → 88 + size (countersFields x) ≡ mediaPlaces
-  pub controls : mediaPlaces + 64 * mediaSize ≡ controlPlaces
-  pub sections : controlPlaces + 32 * controlSize ≡ sectionPlaces
-  pub end : sectionPlaces + 512 * sectionSize ≡ stateSize
+  pub used : (x : Limits) → size (limitsFields x) ≡ usedPlace
+  pub latest : (x : Used) → usedPlace + size (usedFields x) ≡ latestPlace
+  pub time : (x : Latest) → latestPlace + size (latestFields x) ≡ timePlace
+  pub counters : (x : Time) → timePlace + size (timeFields x) ≡ countersPlace
+  pub media : (x : Counters) → countersPlace + size (countersFields x) ≡ mediaPlaces
+  pub object : (x : Media) → size (numberFields x) ≡ objectPlace
+  pub stats : (x : Object) → objectPlace + size (objectFields x) ≡ statsPlace
   pub mediaPlace : (x : Media) → size (mediaFields x) ≡ mediaSize
   pub controlPlace : (x : Control) → size (controlFields x) ≡ controlSize
   pub sectionPlace : (x : KeptSection) → size (sectionFields x) ≡ sectionSize
@@ -142,9 +135,8 @@ laid =
       time = λ x. refl;
       counters = λ x. refl;
       media = λ x. refl;
-      controls = refl;
-      sections = refl;
-      end = refl;
+      object = λ x. refl;
+      stats = λ x. refl;
       mediaPlace = λ x. refl;
       controlPlace = λ x. refl;
       sectionPlace = λ x. refl;

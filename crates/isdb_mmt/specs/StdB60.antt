@@ -8,10 +8,10 @@ use lib.ListN.{length, drop}
 use Rattle.isdb_tlv.specs.Guards.{_=?_}
 use Rattle.isdb_tlv.specs.Crc.{crcOf}
 use Rattle.isdb_tlv.specs.Fields.{bytesOf, Field, field, bits, packed, written}
-use Rattle.isdb_mmt.specs.Part.{partOf}
+use Rattle.isdb_mmt.specs.Part.{part, partOf}
 use Rattle.isdb_mmt.specs.Desc.{lengthWidth, RawDescriptor, splitOf}
 use Rattle.isdb_mmt.specs.Location.{locationOf}
-use Rattle.isdb_mmt.specs.Section.{longSectionOf, bodyOf}
+use Rattle.isdb_mmt.specs.Section.{longSectionOf}
 use Rattle.isdb_mmt.specs.declared.location.Location.{Location}
 use Rattle.isdb_mmt.specs.declared.location.Location.the-variants.{SameFlow, Ipv4, Ipv6, Mpeg2Ts, Mpeg2TsIpv6, Url}
 use Rattle.isdb_mmt.specs.declared.location.Located.the-variants.{Some as located}
@@ -101,7 +101,7 @@ locationSeen (ipv4 src dst port id) = Ipv4 src dst port id
 locationSeen (ipv6 sh sl dh dl port id) = Ipv6 sh sl dh dl port id
 locationSeen (mpeg2Ts network ts pid) = Mpeg2Ts network ts pid
 locationSeen (mpeg2TsIpv6 sh sl dh dl port pid) = Mpeg2TsIpv6 port pid
-locationSeen (url b) = Url 2 (length b)
+locationSeen (url b) = Url (part 2 (length b))
 
 -- whatever follows it
 pub record PlaceRead (p : Place) (r : List ℕ) : Type 0 where
@@ -148,8 +148,9 @@ pub record HeaderConforming (h : Header) : Type 0 where
   pub number : h .number < 2 ^ 8
   pub last : h .last < 2 ^ 8
 
-abbrev pub headerSeen : Header → SectionHeader
-headerSeen h =
+-- with a body of `n` bytes behind it
+abbrev pub headerSeen : Header → ℕ → SectionHeader
+headerSeen h n =
     record {
       «table_id» = h .tableId;
       extension = h .extension;
@@ -157,11 +158,12 @@ headerSeen h =
       current = h .current =? 1;
       «section_number» = h .number;
       «last_section_number» = h .last;
+      body = part 8 n;
     }
 
 pub record SectionRead (h : Header) (body : List ℕ) : Type 0 where
-  pub header : longSectionOf (sectionSent h body) ≡ good (headerSeen h) (length body)
-  pub content : bodyOf (sectionSent h body) (length body) ≡ body
+  pub header : longSectionOf (sectionSent h body) ≡ good (headerSeen h (length body))
+  pub content : partOf (sectionSent h body) (headerSeen h (length body) .body) ≡ body
 
 -- proved in proofs/StdB60.antt
 abbrev pub LoopTheorem : Type 0

@@ -123,7 +123,7 @@ eventValue e =
 
 pub record EitRead (t : SentEit) : Type 0 where
   pub section : eitOf (sectionSent (t .header) (eitBodySent t)) ≡ record {
-    result = eitOk (headerSeen (t .header)) (record {
+    result = eitOk (headerSeen (t .header) (length (eitBodySent t))) (record {
       «tlv_stream_id» = t .tlvStreamId;
       «original_network_id» = t .originalNetworkId;
       «segment_last_section_number» = t .segmentLast;
@@ -220,7 +220,7 @@ serviceValue e =
 
 pub record SdtRead (t : SentSdt) : Type 0 where
   pub section : sdtOf (sectionSent (t .header) (sdtBodySent t)) ≡ record {
-    result = sdtOk (headerSeen (t .header)) (record { «original_network_id» = t .originalNetworkId; services = length (t .services) });
+    result = sdtOk (headerSeen (t .header) (length (sdtBodySent t))) (record { «original_network_id» = t .originalNetworkId; services = length (t .services) });
     breaks = 0;
   }
   pub services : map (serviceSeen (sdtBodySent t)) (servicesOf (sdtBodySent t)) ≡ map serviceValue (t .services)
@@ -275,7 +275,7 @@ broadcasterValue e = record { broadcasterId = e .broadcasterId; loop = loopSent 
 
 pub record BitRead (t : SentBit) : Type 0 where
   pub section : bitOf (sectionSent (t .header) (bitBodySent t)) ≡ record {
-    result = bitOk (headerSeen (t .header)) (record {
+    result = bitOk (headerSeen (t .header) (length (bitBodySent t))) (record {
       «broadcast_view_propriety» = t .viewPropriety =? 1;
       descriptors = part 2 (length (loopSent (t .descriptors)));
       broadcasters = length (t .broadcasters);
@@ -331,7 +331,7 @@ abbrev pub streamValue : SentStream → ℕ × (ℕ × List ℕ)
 streamValue e = (e .tlvStreamId, (e .originalNetworkId, e .loop))
 
 pub record NitRead (t : SentNit) : Type 0 where
-  pub section : nitOf (sectionSent (t .header) (nitBodySent t)) ≡ nitOk (headerSeen (t .header)) (record {
+  pub section : nitOf (sectionSent (t .header) (nitBodySent t)) ≡ nitOk (headerSeen (t .header) (length (nitBodySent t))) (record {
     descriptors = part 2 (length (t .descriptors));
     «loop_part» = part (length (t .descriptors) + 4) (length (nitStreams t));
     streams = length (t .streams);

@@ -1,14 +1,13 @@
 -- ARIB STD-B60: AMT (Table 5-2), MH-TOT (7-25), MPT (7-6) and PLT (7-11) as a conforming sender writes them, and what it
 -- means to read them right.
-use Prim.Native.Nat.{ℕ, _+_, _-_, _*_, _/_, _%_, _^_, _<_}
+use Prim.Native.Nat.{ℕ, _+_, _^_, _<_}
 use mathlib.Core.Path.{_≡_}
-use mathlib.Core.Bool.{Bool, true, false}
+use mathlib.Core.Bool.{Bool}
 use mathlib.Core.List.{List, [], _∷_, _++_, map}
 use mathlib.Core.Option.{some}
 use lib.ListN.{length}
-use Rattle.isdb_tlv.specs.Guards.{if_then_else_, _=?_}
+use Rattle.isdb_tlv.specs.Guards.{_=?_}
 use Rattle.isdb_tlv.specs.Fields.{Field, field, bits, packed, written, Fit}
-use Rattle.isdb_tlv.specs.declared.ip.Address.{Address}
 use Rattle.isdb_tlv.specs.declared.ip.Address.the-variants.{V4, V6}
 use Rattle.isdb_mmt.specs.Part.{part, partOf}
 use Rattle.isdb_mmt.specs.StdB60.{Descriptor, loopSent, LoopConforming, Place, placeSent, PlaceConforming, locationSeen, Header, HeaderConforming, headerSeen, sectionSent, withCrc}
@@ -21,10 +20,8 @@ use Rattle.isdb_mmt.specs.declared.location.Location.{Location}
 use Rattle.isdb_mmt.specs.declared.table.amt.AmtService.{AmtService}
 use Rattle.isdb_mmt.specs.declared.table.amt.AmtResult.the-variants.{Ok as amtOk}
 use Rattle.isdb_mmt.specs.declared.table.tot.TotResult.the-variants.{Ok as totOk}
-use Rattle.isdb_mmt.specs.declared.table.tot.TotParsed.{TotParsed}
 use Rattle.isdb_mmt.specs.declared.table.mpt.Asset.{Asset}
 use Rattle.isdb_mmt.specs.declared.table.mpt.MaybeMpt.the-variants.{Some as someMpt}
-use Rattle.isdb_mmt.specs.declared.table.mpt.MptParsed.{MptParsed}
 use Rattle.isdb_mmt.specs.declared.table.plt.Package.{Package}
 use Rattle.isdb_mmt.specs.declared.table.plt.IpDelivery.{IpDelivery}
 use Rattle.isdb_mmt.specs.declared.table.plt.MaybePlt.the-variants.{Some as somePlt}
@@ -94,7 +91,7 @@ pub record AmtConforming (t : SentAmt) : Type 0 where
   pub short : length (amtBodySent t) + 9 < 2 ^ 12
 
 pub record AmtRead (t : SentAmt) : Type 0 where
-  pub section : amtOf (sectionSent (t .header) (amtBodySent t)) ≡ amtOk (headerSeen (t .header)) (record { services = length (t .services) })
+  pub section : amtOf (sectionSent (t .header) (amtBodySent t)) ≡ amtOk (headerSeen (t .header) (length (amtBodySent t))) (record { services = length (t .services) })
   pub services : servicesFrom (length (t .services)) (amtBodySent t) 2 ≡ some (map (λ x. flowSeen x (x .flow)) (t .services))
 
 -- MH-TOT: a section of the short form with a CRC

@@ -1,12 +1,13 @@
 -- The MPU timestamp descriptor (ARIB STD-B60, 7.4.3.5) and the MPU extended timestamp descriptor (7.4.3.35).
-use Prim.Native.Nat.{ℕ, zero, suc, _+_, _-_, _*_, _/_, _%_}
+use Prim.Native.Nat.{ℕ, _+_, _-_, _*_, _/_, _%_}
 use mathlib.Core.List.{List, [], _∷_}
 use mathlib.Core.Bool.{Bool, true, false, not}
 use mathlib.Core.Option.{Option, none, some}
-use lib.ListN.{length, getD, drop}
+use lib.ListN.{length, getD}
 use Rattle.isdb_tlv.specs.Guards.{if_then_else_, _<?_, _≤?_, _=?_}
 use Rattle.isdb_tlv.specs.Bytes.{be}
 use Rattle.isdb_tlv.specs.Walk.{Next, stop, more, walk}
+use Rattle.isdb_mmt.specs.Part.{part}
 use Rattle.isdb_mmt.specs.declared.maybe.MaybeU16.{MaybeU16}
 use Rattle.isdb_mmt.specs.declared.maybe.MaybeU16.the-variants.{None as noU16, Some as someU16}
 use Rattle.isdb_mmt.specs.declared.maybe.MaybeU32.{MaybeU32}
@@ -19,6 +20,8 @@ use Rattle.isdb_mmt.specs.declared.timestamp.MaybeExtended.the-variants.
 use Rattle.isdb_mmt.specs.declared.timestamp.MpuStep.{MpuStep}
 use Rattle.isdb_mmt.specs.declared.timestamp.MpuStep.the-variants.{End, Broken, Mpu}
 use Rattle.isdb_mmt.specs.declared.timestamp.AccessUnit.{AccessUnit}
+use Rattle.isdb_mmt.specs.declared.timestamp.AccessUnitStep.{AccessUnitStep}
+use Rattle.isdb_mmt.specs.declared.timestamp.AccessUnitStep.the-variants.{End as noUnit, Unit as accessUnit}
 
 -- 7.4.3.5: entries of an MPU sequence number, 32 bits, and a presentation time, 64
 unfoldable pub timestampAt : List ℕ → ℕ → TimestampStep
@@ -51,7 +54,7 @@ mpuAt s own at =
     if length s ≤? at then End
     else if length s - at <? 8 then Broken
     else if length s - (at + 8) <? getD s (at + 7) 0 * unitSize own then Broken
-    else Mpu (be 4 s at) (getD s (at + 4) 0 / 64) (be 2 s (at + 5)) (getD s (at + 7) 0) (at + 8)
+    else Mpu (be 4 s at) (getD s (at + 4) 0 / 64) (be 2 s (at + 5)) (getD s (at + 7) 0) (part (at + 8) (getD s (at + 7) 0 * unitSize own))
     (at + 8 + getD s (at + 7) 0 * unitSize own)
 
 -- the MPUs from a place on, or none where they do not end with the body
@@ -62,7 +65,7 @@ alsoMpu m (some l) = some (m ∷ l)
 abbrev pub mpuItem : MpuStep → Next (Option (List MpuStep))
 mpuItem End = stop (some [])
 mpuItem Broken = stop none
-mpuItem (Mpu q l d n start next) = more next (alsoMpu (Mpu q l d n start next))
+mpuItem (Mpu q l d n units next) = more next (alsoMpu (Mpu q l d n units next))
 
 unfoldable pub mpusFrom : List ℕ → Bool → ℕ → Option (List MpuStep)
 mpusFrom s own at = walk (λ p. mpuItem (mpuAt s own p)) none (length s) at
@@ -95,7 +98,16 @@ unitAt s e at =
       «pts_offset» = if e .«own_pts_offset» then someU16 (be 2 s (at + 2)) else e .«default_pts_offset»;
     }
 
--- the access units of an MPU, `n` of them from a place on
-abbrev pub unitsFrom : ℕ → List ℕ → Extended → ℕ → List AccessUnit
-unitsFrom zero s e at = []
-unitsFrom (suc n) s e at = unitAt s e at ∷ unitsFrom n s e (at + unitSize (e .«own_pts_offset»))
+-- what stands at a place of an MPU's access units
+unfoldable pub unitStep : List ℕ → Extended → ℕ → AccessUnitStep
+unitStep s e at =
+    if length s - at <? unitSize (e .«own_pts_offset») then noUnit
+    else accessUnit (unitAt s e at) (at + unitSize (e .«own_pts_offset»))
+
+abbrev pub unitItem : AccessUnitStep → Next (List AccessUnit)
+unitItem noUnit = stop []
+unitItem (accessUnit u next) = more next (λ l. u ∷ l)
+
+-- the access units from a place on
+unfoldable pub unitsFrom : List ℕ → Extended → ℕ → List AccessUnit
+unitsFrom s e at = walk (λ p. unitItem (unitStep s e p)) [] (length s) at

@@ -1,11 +1,10 @@
 -- Tables and descriptors as whole values: each field, with the lists that are walked by steps. The steps are those of the other
--- files: `mapped-at` (proofs/Entries.antt), `split-at` (Descriptors), `rows-at` (Rows), `mpus-at` (Timestamps) and `tlvs-at` (Nits)
+-- files: `mapped-at` (proofs/Entries.antt), `split-at` (Descriptors), `rows-at` (Rows), `mpus-at` and `units-at` (Timestamps) and `tlvs-at` (Nits)
 -- say that they give these lists.
-use Prim.Native.Nat.{ℕ, _+_}
-use mathlib.Core.List.{List, [], _∷_, map}
+use Prim.Native.Nat.{ℕ}
+use mathlib.Core.List.{List, map}
 use mathlib.Core.Option.{Option}
-use lib.ListN.{length, getD}
-use Rattle.isdb_tlv.specs.Bytes.{be}
+use lib.ListN.{length}
 use Rattle.isdb_mmt.specs.Part.{partOf}
 use Rattle.isdb_mmt.specs.Rows.{rowsFrom}
 use Rattle.isdb_mmt.specs.Timestamp.{timestampAt, mpusFrom, unitsFrom}
@@ -56,6 +55,10 @@ genresOf s = rowsFrom 2 (genreAt s) (length s) 0
 -- the MPUs of an extended timestamp descriptor
 abbrev pub mpusOf : List ℕ → Extended → Option (List MpuStep)
 mpusOf s e = mpusFrom s (e .«own_pts_offset») (e .start)
+
+-- the access units of an MPU, whose part of the descriptor is `units`
+abbrev pub accessUnitsOf : List ℕ → Extended → Part → List AccessUnit
+accessUnitsOf s e units = unitsFrom (partOf s units) e 0
 
 -- something with the descriptors that stand in its part of `s`
 pub record Described (A : Type 0) : Type 0 where

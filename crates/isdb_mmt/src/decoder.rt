@@ -4,7 +4,9 @@ ghost use mathlib.Core.Path.{_≡_};
 ghost use Prim.Native.Nat.{_≤_};
 ghost use lib.ListN.{length, replicate};
 ghost use Rattle.isdb_mmt.specs.Lent.{over};
+ghost use Rattle.isdb_mmt.specs.Layout.{tableIds, stateSize};
 ghost use Rattle.isdb_mmt.specs.Opening.{lent, openedState, Opened};
+use crate::decoder::layout::STATE_SIZE;
 use crate::decoder::limits::Lengths;
 use crate::decoder::limits::Limits;
 
@@ -12,6 +14,7 @@ mod check;
 mod control;
 pub mod counts;
 mod head;
+mod layout;
 pub mod limits;
 mod media;
 mod place;
@@ -38,10 +41,10 @@ fn clear_counts(s: &mut [u64])
 }
 
 fn open_state(s: &mut [u8], l: Limits)
-    requires { ⌜ 13144 ≤ length (now s) ⌝ }
+    requires { ⌜ stateSize ≤ length (now s) ⌝ }
     ensures { λ r. ⌜ now (s .exit) ≡ over 0 (openedState l) (now (s .entry)) ⌝ }
 {
-    clear(&mut s[..13144]);
+    clear(&mut s[..STATE_SIZE]);
     head::store_limits(s, l);
 }
 
@@ -53,7 +56,7 @@ fn open_in(
     messages: &[u8],
     tables: &[u8],
 ) -> u8
-    requires { ⌜ length (now others) ≡ 256 ⌝ }
+    requires { ⌜ length (now others) ≡ tableIds ⌝ }
     ensures { λ r. ⌜ Opened l (lent (now (state .entry)) (now (others .entry)) (now (objects .entry)) (now (messages .entry)) (now (tables .entry))) r (lent (now (state .exit)) (now (others .exit)) (now (objects .entry)) (now (messages .entry)) (now (tables .entry))) ⌝ }
 {
     let lengths = Lengths {

@@ -1,12 +1,12 @@
 // MMT-SI descriptors (ARIB STD-B60, 7.4, Table 4-10): a tag of 16 bits, a length whose width goes by the tag, and a body.
 // Those that a receiver needs to list services, events and assets are decoded; any other is kept as it stands.
+// Translated from desc.rs of isdb-rs (Apache-2.0, see NOTICE) and changed.
 ghost use mathlib.Core.Path.{_≡_};
-ghost use Prim.Native.Nat.{_≤_, _<_};
-ghost use lib.ListN.{length};
 ghost use Rattle.isdb_mmt.specs.Desc.{lengthWidth, stepAt, counted, splitOf, other, locationIn, accessControl, scrambler, streamIdentifier, serviceText, shortEvent, hevc, extendedTimestamp, descriptorOf, isOther, firstOf, serviceAt, genreAt};
 use crate::location::Located;
 use crate::location::Location;
 use crate::location::MaybeLocation;
+use crate::part;
 use crate::part::Part;
 use crate::timestamp;
 use crate::timestamp::Extended;
@@ -50,7 +50,7 @@ pub fn next(b: &[u8], at: usize) -> Step
         return Step::Broken(at);
     }
     let start = l + w;
-    let length = bytes::number(b, l, w) as usize;
+    let length = bytes::number(b, l, w as u8) as usize;
     if b.len() - start < length {
         return Step::Broken(at);
     }
@@ -197,8 +197,8 @@ fn scrambler_of(b: &[u8]) -> Descriptor
         return kept(0x8005, b);
     }
     Descriptor::Scrambler {
-        layer_type: b[0] / 64,
-        system_id: b[1],
+        layer_type: bytes::get_u8(b, 0) / 64,
+        system_id: bytes::get_u8(b, 1),
     }
 }
 
@@ -219,24 +219,22 @@ fn service_of(b: &[u8]) -> Descriptor
     if b.len() < 2 {
         return kept(0x8019, b);
     }
-    let p = b[1] as usize;
-    if b.len() < p + 3 {
+    let p = bytes::get_u8(b, 1) as usize;
+    let start = p + 3;
+    if b.len() < start {
         return kept(0x8019, b);
     }
-    let n = b[p + 2] as usize;
-    if b.len() < p + 3 + n {
+    let n = bytes::get_u8(b, p + 2) as usize;
+    if b.len() < start + n {
         return kept(0x8019, b);
     }
     Descriptor::Service {
-        service_type: b[0],
+        service_type: bytes::get_u8(b, 0),
         provider: Part {
             start: 2,
             length: p,
         },
-        name: Part {
-            start: p + 3,
-            length: n,
-        },
+        name: Part { start, length: n },
     }
 }
 
@@ -246,28 +244,26 @@ fn short_event(b: &[u8]) -> Descriptor
     if b.len() < 4 {
         return kept(0xF001, b);
     }
-    let n = b[3] as usize;
-    if b.len() < n + 6 {
+    let n = bytes::get_u8(b, 3) as usize;
+    let start = n + 6;
+    if b.len() < start {
         return kept(0xF001, b);
     }
     let t = bytes::get_u16(b, n + 4) as usize;
-    if b.len() < n + 6 + t {
+    if b.len() < start + t {
         return kept(0xF001, b);
     }
     Descriptor::ShortEvent {
         language: Language {
-            first: b[0],
-            second: b[1],
-            third: b[2],
+            first: bytes::get_u8(b, 0),
+            second: bytes::get_u8(b, 1),
+            third: bytes::get_u8(b, 2),
         },
         name: Part {
             start: 4,
             length: n,
         },
-        text: Part {
-            start: n + 6,
-            length: t,
-        },
+        text: Part { start, length: t },
     }
 }
 
@@ -277,10 +273,11 @@ fn hevc_of(b: &[u8]) -> Descriptor
     if b.len() < 12 {
         return kept(0x800A, b);
     }
+    let profile = bytes::get_u8(b, 0);
     Descriptor::Hevc {
-        profile_idc: b[0] % 32,
-        tier: b[0] / 32 % 2 == 1,
-        level_idc: b[11],
+        profile_idc: profile % 32,
+        tier: profile / 32 % 2 == 1,
+        level_idc: bytes::get_u8(b, 11),
     }
 }
 
@@ -369,15 +366,12 @@ pub enum ServiceStep {
 pub fn next_service(b: &[u8], at: usize) -> ServiceStep
     ensures { λ r. ⌜ r ≡ serviceAt (now (b .entry)) at ⌝ }
 {
-    if b.len() < at {
-        return ServiceStep::End;
-    }
-    if b.len() - at < 3 {
+    if part::left(b, at) < 3 {
         return ServiceStep::End;
     }
     ServiceStep::Service {
         service_id: bytes::get_u16(b, at),
-        service_type: b[at + 2],
+        service_type: bytes::get_u8(b, at + 2),
         next: at + 3,
     }
 }
@@ -397,16 +391,14 @@ pub enum GenreStep {
 pub fn next_genre(b: &[u8], at: usize) -> GenreStep
     ensures { λ r. ⌜ r ≡ genreAt (now (b .entry)) at ⌝ }
 {
-    if b.len() < at {
+    if part::left(b, at) < 2 {
         return GenreStep::End;
     }
-    if b.len() - at < 2 {
-        return GenreStep::End;
-    }
+    let levels = bytes::get_u8(b, at);
     GenreStep::Genre {
-        level_1: b[at] / 16,
-        level_2: b[at] % 16,
-        user: b[at + 1],
+        level_1: levels / 16,
+        level_2: levels % 16,
+        user: bytes::get_u8(b, at + 1),
         next: at + 2,
     }
 }

@@ -1,9 +1,9 @@
 // MMT_general_location_info (ARIB STD-B60, Table 7-9): where an asset, a package or a message travels.
+// Translated from table.rs of isdb-rs (Apache-2.0, see NOTICE) and changed.
 ghost use mathlib.Core.Path.{_≡_};
-ghost use Prim.Native.Nat.{_≤_};
-ghost use lib.ListN.{length};
 ghost use Rattle.isdb_mmt.specs.Location.{sized, urlOf, ipv4At, ipv6At, locationOf, packetId};
 use crate::maybe::MaybeU16;
+use crate::part::Part;
 use isdb_tlv::bytes;
 
 pub enum Location {
@@ -37,10 +37,7 @@ pub enum Location {
         pid: u16,
     },
     // 05h: a URL, by its place in the bytes that were read.
-    Url {
-        start: usize,
-        length: usize,
-    },
+    Url(Part),
 }
 
 // A location that may be absent.
@@ -95,8 +92,8 @@ fn url(b: &[u8]) -> Located
     if b.len() < 2 {
         return Located::None;
     }
-    let length = b[1] as usize;
-    if_present(b, length + 2, Location::Url { start: 2, length })
+    let length = bytes::get_u8(b, 1) as usize;
+    if_present(b, length + 2, Location::Url(Part { start: 2, length }))
 }
 
 impl Location {
@@ -107,7 +104,7 @@ impl Location {
         if b.len() < 1 {
             return Located::None;
         }
-        match b[0] {
+        match bytes::get_u8(b, 0) {
             0x00 => if_present(b, 3, Location::SameFlow(bytes::get_u16(b, 1))),
             0x01 => if_present(b, 13, ipv4_at(b)),
             0x02 => if_present(b, 37, ipv6_at(b)),
@@ -159,10 +156,7 @@ impl Location {
                 pid: _,
             } => MaybeU16::None,
             Location::Mpeg2TsIpv6 { port: _, pid: _ } => MaybeU16::None,
-            Location::Url {
-                start: _,
-                length: _,
-            } => MaybeU16::None,
+            Location::Url(_) => MaybeU16::None,
         }
     }
 }

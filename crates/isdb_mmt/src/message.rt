@@ -1,9 +1,11 @@
 // MMT-SI messages (ARIB STD-B60, 7.2, Tables 7-1 to 7-4) of control payloads: an aggregated payload is cut into messages, a
 // message into the tables it carries.
+// Translated from message.rs of isdb-rs (Apache-2.0, see NOTICE) and changed.
 ghost use mathlib.Core.Path.{_≡_};
-ghost use Prim.Native.Nat.{_+_, _≤_, _<_};
+ghost use Prim.Native.Nat.{_≤_};
 ghost use lib.ListN.{length};
 ghost use Rattle.isdb_mmt.specs.Message.{fragmentOf, prefixWidth, pieceAt, bodyPart, sectionTable, paTables, contentOf, tableAt};
+use crate::part;
 use crate::part::Part;
 use isdb_tlv::bytes;
 
@@ -54,7 +56,7 @@ pub enum PieceStep {
     Piece(Part, usize),
 }
 
-fn prefix_width(long: bool) -> usize
+fn prefix_width(long: bool) -> u8
     ensures { λ r. ⌜ r ≡ prefixWidth long ⌝ }
 {
     if long { 4 } else { 2 }
@@ -64,14 +66,12 @@ fn prefix_width(long: bool) -> usize
 pub fn next_piece(b: &[u8], long: bool, at: usize) -> PieceStep
     ensures { λ r. ⌜ r ≡ pieceAt (now (b .entry)) long at ⌝ }
 {
-    if b.len() < at {
-        return PieceStep::End;
-    }
     let w = prefix_width(long);
-    if b.len() - at < w {
+    let k = w as usize;
+    if part::left(b, at) < k {
         return PieceStep::End;
     }
-    let start = at + w;
+    let start = at + k;
     let n = bytes::number(b, at, w) as usize;
     if b.len() - start < n {
         return PieceStep::Malformed;
@@ -172,14 +172,12 @@ pub enum TableStep {
 pub fn next_table(body: &[u8], at: usize) -> TableStep
     ensures { λ r. ⌜ r ≡ tableAt (now (body .entry)) at ⌝ }
 {
-    if body.len() < at {
-        return TableStep::End;
-    }
-    if body.len() - at < 4 {
+    let left = part::left(body, at);
+    if left < 4 {
         return TableStep::End;
     }
     let n = bytes::get_u16(body, at + 2) as usize + 4;
-    if body.len() - at < n {
+    if left < n {
         return TableStep::Malformed;
     }
     TableStep::Table(

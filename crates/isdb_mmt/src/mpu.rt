@@ -1,9 +1,10 @@
 // MPU payloads (ARIB STD-B60, 6.3.2, Table 6-1): the payload header and the units, and what follows from a packet's and an
 // MPU's sequence number.
+// Translated from mpu.rs of isdb-rs (Apache-2.0, see NOTICE) and changed.
 ghost use mathlib.Core.Path.{_≡_};
-ghost use Prim.Native.Nat.{_+_, _≤_, _<_};
+ghost use Prim.Native.Nat.{_≤_};
 ghost use lib.ListN.{length};
-ghost use Rattle.isdb_mmt.specs.Mpu.{fragmentCode, fragmentType, indicatorCode, indicator, completesOf, headerFields, payloadHeader, mfuAt, timedUnit, untimedUnit, unitIn, unitAt, unitStep, unitsOf, counted, declaredOf, follows, lostFrom};
+ghost use Rattle.isdb_mmt.specs.Mpu.{fragmentCode, fragmentType, indicatorCode, indicator, completesOf, headerFields, payloadHeader, mfuAt, unitIn, unitAt, unitStep, unitsOf, counted, declaredOf, follows, lostFrom};
 use crate::maybe::MaybeU32;
 use crate::part::Part;
 use isdb_tlv::bytes;
@@ -190,9 +191,10 @@ fn unit_in(q: &[u8], timed: bool, at: usize, end: usize) -> UnitStep
     requires { ⌜ (at ≤ end) × (end ≤ length (now q)) ⌝ }
     ensures { λ r. ⌜ r ≡ unitIn (now (q .entry)) timed at end ⌝ }
 {
-    let b = &q[at..end];
+    let n = end - at;
+    let b = bytes::part(q, at, n);
     if timed {
-        if end - at < 14 {
+        if n < 14 {
             return UnitStep::Malformed;
         }
         return UnitStep::Unit(
@@ -201,13 +203,13 @@ fn unit_in(q: &[u8], timed: bool, at: usize, end: usize) -> UnitStep
                 item_id: MaybeU32::None,
                 data: Part {
                     start: at + 14,
-                    length: end - at - 14,
+                    length: n - 14,
                 },
             },
             end,
         );
     }
-    if end - at < 4 {
+    if n < 4 {
         return UnitStep::Malformed;
     }
     UnitStep::Unit(
@@ -216,7 +218,7 @@ fn unit_in(q: &[u8], timed: bool, at: usize, end: usize) -> UnitStep
             item_id: MaybeU32::Some(bytes::get_u32(b, 0)),
             data: Part {
                 start: at + 4,
-                length: end - at - 4,
+                length: n - 4,
             },
         },
         end,
@@ -242,7 +244,8 @@ fn unit_at(q: &[u8], timed: bool, aggregated: bool, at: usize) -> UnitStep
     unit_in(q, timed, start, start + n)
 }
 
-// The units of a payload's declared bytes q, by a cursor that starts at 8, where there is to be one.
+// The units of a payload's declared bytes q, by a cursor: the first one stands at 8, where there is to be one, and a place before
+// it means it too.
 pub fn next_unit(q: &[u8], timed: bool, aggregated: bool, at: usize) -> UnitStep
     ensures { λ r. ⌜ r ≡ unitStep (now (q .entry)) timed aggregated at ⌝ }
 {
@@ -250,7 +253,7 @@ pub fn next_unit(q: &[u8], timed: bool, aggregated: bool, at: usize) -> UnitStep
         return UnitStep::Malformed;
     }
     if at <= 8 {
-        return unit_at(q, timed, aggregated, at);
+        return unit_at(q, timed, aggregated, 8);
     }
     if q.len() <= at {
         return UnitStep::End;

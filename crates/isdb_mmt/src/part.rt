@@ -1,5 +1,7 @@
 // A part of some bytes: a text, an id or a descriptor loop, by its place.
 ghost use mathlib.Core.Path.{_≡_};
+ghost use Prim.Native.Nat.{_-_};
+ghost use lib.ListN.{length};
 ghost use Rattle.isdb_mmt.specs.Part.{partOf};
 use isdb_tlv::bytes;
 
@@ -17,4 +19,14 @@ impl Part {
         let length = self.length;
         bytes::part(b, start, length)
     }
+}
+
+// How many bytes stand from a place on.
+pub(crate) fn left(b: &[u8], at: usize) -> usize
+    ensures { λ r. ⌜ r ≡ length (now (b .entry)) - at ⌝ }
+{
+    if b.len() <= at {
+        return 0;
+    }
+    b.len() - at
 }

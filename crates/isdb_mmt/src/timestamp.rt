@@ -1,10 +1,11 @@
 // The MPU timestamp and the MPU extended timestamp descriptor (ARIB STD-B60, 7.4.3.5 and 7.4.3.35).
+// Translated from desc.rs of isdb-rs (Apache-2.0, see NOTICE) and changed.
 ghost use mathlib.Core.Path.{_≡_};
-ghost use Prim.Native.Nat.{_≤_, _<_};
-ghost use lib.ListN.{length};
-ghost use Rattle.isdb_mmt.specs.Timestamp.{timestampAt, scaleEnd, headEnd, timescaleOf, defaultOffset, unitSize, mpuAt, mpusWhole, extendedOf, unitAt};
+ghost use Rattle.isdb_mmt.specs.Timestamp.{timestampAt, scaleEnd, headEnd, timescaleOf, defaultOffset, unitSize, mpuAt, mpusWhole, extendedOf, unitAt, unitStep};
 use crate::maybe::MaybeU16;
 use crate::maybe::MaybeU32;
+use crate::part;
+use crate::part::Part;
 use isdb_tlv::bytes;
 
 // An entry of an MPU timestamp descriptor: the presentation time of an MPU's first access unit, an NTP timestamp.
@@ -21,10 +22,7 @@ pub enum TimestampStep {
 pub fn next_timestamp(b: &[u8], at: usize) -> TimestampStep
     ensures { λ r. ⌜ r ≡ timestampAt (now (b .entry)) at ⌝ }
 {
-    if b.len() < at {
-        return TimestampStep::End;
-    }
-    if b.len() - at < 12 {
+    if part::left(b, at) < 12 {
         return TimestampStep::End;
     }
     TimestampStep::Timestamp {
@@ -50,7 +48,7 @@ pub enum MaybeExtended {
     Some(Extended),
 }
 
-// One MPU: its access units stand from start to next.
+// One MPU; units are the bytes of its access units.
 pub enum MpuStep {
     End,
     Broken,
@@ -59,7 +57,7 @@ pub enum MpuStep {
         leap_indicator: u8,
         decoding_time_offset: u16,
         access_units: u8,
-        start: usize,
+        units: Part,
         next: usize,
     },
 }
@@ -80,18 +78,19 @@ pub fn next_mpu(b: &[u8], own: bool, at: usize) -> MpuStep
     if b.len() - at < 8 {
         return MpuStep::Broken;
     }
+    let m = bytes::rest(b, at);
+    let access_units = bytes::get_u8(m, 7);
     let start = at + 8;
-    let access_units = b[at + 7];
     let n = access_units as usize * unit_size(own);
     if b.len() - start < n {
         return MpuStep::Broken;
     }
     MpuStep::Mpu {
-        mpu_sequence_number: bytes::get_u32(b, at),
-        leap_indicator: b[at + 4] / 64,
-        decoding_time_offset: bytes::get_u16(b, at + 5),
+        mpu_sequence_number: bytes::get_u32(m, 0),
+        leap_indicator: bytes::get_u8(m, 4) / 64,
+        decoding_time_offset: bytes::get_u16(m, 5),
         access_units,
-        start,
+        units: Part { start, length: n },
         next: start + n,
     }
 }
@@ -110,7 +109,7 @@ fn mpus_whole(b: &[u8], own: bool, from: usize) -> bool
                 leap_indicator: _,
                 decoding_time_offset: _,
                 access_units: _,
-                start: _,
+                units: _,
                 next,
             } => at = next,
         }
@@ -161,7 +160,7 @@ pub fn parse_extended(b: &[u8]) -> MaybeExtended
     if b.len() < 1 {
         return MaybeExtended::None;
     }
-    let flags = b[0];
+    let flags = bytes::get_u8(b, 0);
     let start = head_end(flags);
     if b.len() < start {
         return MaybeExtended::None;
@@ -185,19 +184,34 @@ pub struct AccessUnit {
     pub pts_offset: MaybeU16,
 }
 
-// The access unit at a place; the next one of the MPU stands 4 bytes behind where each has a PTS offset of its own, else 2.
-pub fn access_unit(b: &[u8], e: Extended, at: usize) -> AccessUnit
-    ensures { λ r. ⌜ r ≡ unitAt (now (b .entry)) e at ⌝ }
+pub enum AccessUnitStep {
+    End,
+    Unit(AccessUnit, usize),
+}
+
+fn access_unit(units: &[u8], e: Extended, at: usize) -> AccessUnit
+    ensures { λ r. ⌜ r ≡ unitAt (now (units .entry)) e at ⌝ }
 {
     let default_pts_offset = e.default_pts_offset;
     if e.own_pts_offset {
         return AccessUnit {
-            dts_pts_offset: bytes::get_u16(b, at),
-            pts_offset: MaybeU16::Some(bytes::get_u16(bytes::rest(b, at), 2)),
+            dts_pts_offset: bytes::get_u16(units, at),
+            pts_offset: MaybeU16::Some(bytes::get_u16(bytes::rest(units, at), 2)),
         };
     }
     AccessUnit {
-        dts_pts_offset: bytes::get_u16(b, at),
+        dts_pts_offset: bytes::get_u16(units, at),
         pts_offset: default_pts_offset,
     }
+}
+
+// The access units of an MPU whose units these are, by a cursor that starts at 0; e is the descriptor's head.
+pub fn next_access_unit(units: &[u8], e: Extended, at: usize) -> AccessUnitStep
+    ensures { λ r. ⌜ r ≡ unitStep (now (units .entry)) e at ⌝ }
+{
+    let size = unit_size(e.own_pts_offset);
+    if part::left(units, at) < size {
+        return AccessUnitStep::End;
+    }
+    AccessUnitStep::Unit(access_unit(units, e, at), at + size)
 }

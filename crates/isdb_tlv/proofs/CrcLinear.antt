@@ -1,20 +1,19 @@
 -- The register's step is linear over xor, so a byte's work splits into what it does to an empty register and a shift.
 -- Assumes nothing.
 use mathlib.Core.Path.{_≡_, refl, sym, ap, ap₂, _∙_}
-use Prim.Native.Nat.{ℕ, zero, suc, _+_, _-_, _*_, _/_, _%_, _^_, _<_, _≤_}
-use native.Mathlib.Nat.{add-zero, mod-lt, mod-eq-of-lt, div-eq-of-lt, zero-div, zero-mod, pow-suc, mul-assoc, mul-comm, mul-one}
+use mathlib.Core.Bool.{Bool}
+use mathlib.Core.List.{List, [], _∷_, _++_}
+use Prim.Native.Nat.{ℕ, zero, suc, _+_, _-_, _*_, _/_, _%_, _^_, _<_}
+use native.Mathlib.Nat.{add-zero}
+use native.Mathlib.Numerals.{add-one}
 use native.Mathlib.Omega.{arith}
 use lib.Arith.{bin-ind}
-use lib.ListN.{getD}
+use lib.Dec.{eqb, eqb→eq}
+use lib.ListN.{getD, length, drop, replicate}
 use lib.Bits.{bitXor, differ, xor-step, xor-comm, xor-self, xor-zero-r, xor-lt, xor-block, xor-mod, xor-shr, xor-shifted}
 use Rattle.isdb_tlv.specs.Crc.{gate, feed, feedBits, feedByte, crcFrom, crcOf}
 use Rattle.isdb_tlv.specs.Fields.{bytesOf}
-use Rattle.isdb_tlv.proofs.CrcTable.{right, entry, itself}
-use Rattle.isdb_tlv.proofs.Table.{every}
-use mathlib.Core.List.{List, [], _∷_, _++_}
-use native.Mathlib.Numerals.{add-one}
-use lib.Dec.{T}
-use lib.ListN.{length, drop}
+use Rattle.isdb_tlv.proofs.Table.{at}
 use lib.Seq.{drop-cons}
 
 differ-lt : (x y : ℕ) → x < 2 → y < 2 → differ x y < 2
@@ -99,7 +98,7 @@ low : (x : ℕ) → x < 2 ^ 31 → feed x 0 ≡ x * 2
 unfolding feed
 low x h = let d : x / 2 ^ 31 ≡ 0 = omega arith in rw (d, xor-zero-r) (omega arith)
 
-zeros : (l : ℕ) → l < 2 ^ 24 → feedBits 8 0 l ≡ l * 256
+pub zeros : (l : ℕ) → l < 2 ^ 24 → feedBits 8 0 l ≡ l * 256
 zeros l h =
     rw (
       low l (omega arith),
@@ -112,40 +111,35 @@ zeros l h =
       low (l * 2 * 2 * 2 * 2 * 2 * 2 * 2) (omega arith),
     ) (omega arith)
 
--- what the table does
+-- a byte leaves nothing of itself: a test that antt computes at each of the 256
+gone : ℕ → ℕ → Bool
+gone k x = eqb (feedBits 8 k (k * 2 ^ 24)) 0
+
+pub itself : (k : ℕ) → k < 256 → feedBits 8 k (k * 2 ^ 24) ≡ 0
+unfolding gone feed
+itself k h = eqb→eq (feedBits 8 k (k * 2 ^ 24)) 0 (at gone (replicate 256 0) tt k h)
+
+-- a byte meets the register's high byte, and shifts the others
 module _ (h l b : ℕ) (hh : h < 256) (hl : l < 2 ^ 24) where
   split : feedBits 8 b (h * 2 ^ 24 + l) ≡ bitXor (feedBits 8 h (h * 2 ^ 24)) (feedBits 8 (bitXor h b) l)
   split =
       ap₂ (λ (x y : ℕ). feedBits 8 x y) (sym (sym (xor-assoc h h b) ∙ ap (λ (x : ℕ). bitXor x b) (xor-self h))) (sym (xor-shifted h 24 l hl))
       ∙ bits-linear 8 (h * 2 ^ 24) l h (bitXor h b) (omega arith) (omega arith)
 
-  pub by-table : feedBits 8 b (h * 2 ^ 24 + l) ≡ bitXor (l * 256) (feedBits 8 (bitXor h b) 0)
-  by-table =
+  pub by-high-byte : feedBits 8 b (h * 2 ^ 24 + l) ≡ bitXor (l * 256) (feedBits 8 (bitXor h b) 0)
+  by-high-byte =
       split ∙ ap (λ (x : ℕ). bitXor x (feedBits 8 (bitXor h b) l)) (itself h hh)
       ∙ ap (λ (x : ℕ). feedBits 8 x l) (sym (xor-zero-r (bitXor h b)))
       ∙ bits-linear 8 0 l (bitXor h b) 0 (omega arith) (omega arith)
       ∙ ap (bitXor (feedBits 8 (bitXor h b) 0)) (zeros l hl)
       ∙ xor-comm (feedBits 8 (bitXor h b) 0) (l * 256)
 
-module _ (z b : ℕ) (hz : z < 2 ^ 32) (hb : b < 256) where
-  pub index-lt : bitXor (z / 2 ^ 24) b < 256
-  index-lt = xor-lt 8 (z / 2 ^ 24) b (omega arith) hb
-
-  pub table-step : (xs : List ℕ) → T (every right 0 xs) → 256 ≤ length xs → bitXor (z * 256 % 2 ^ 32) (getD xs (bitXor (z / 2 ^ 24) b) 0) ≡ feedByte z b
-  unfolding feedByte
-  table-step xs ok long =
-      let l = z % 2 ^ 24 in
-      let h = z / 2 ^ 24 in
-      let shifted : z * 256 % 2 ^ 32 ≡ l * 256 = omega arith in
-      let whole : h * 2 ^ 24 + l ≡ z = omega arith in
-      ap₂ bitXor shifted (entry xs ok (bitXor h b) (let i = index-lt in omega arith)) ∙ sym (by-table h l b (omega arith) (omega arith)) ∙ ap (feedBits 8 b) whole
-
 -- a byte of the section goes in
 pub crc-step : (z i : ℕ) (s : List ℕ) → i < length s → crcFrom z (drop i s) ≡ crcFrom (feedByte z (getD s i 0)) (drop (i + 1) s)
 crc-step z i s h = rw (add-one, drop-cons s i 0)
 
 -- the register holds 32 bits
-byte-lt : (z b : ℕ) → feedByte z b < 2 ^ 32
+pub byte-lt : (z b : ℕ) → feedByte z b < 2 ^ 32
 unfolding feedByte
 byte-lt z b = feed-lt _ _
 
@@ -165,7 +159,7 @@ own-byte z b hz e =
     let l = z % 2 ^ 24 in
     let whole : z ≡ b * 2 ^ 24 + l = omega arith in
     let shifted : z * 256 % 2 ^ 32 ≡ l * 256 = omega arith in
-    ap (feedBits 8 b) whole ∙ by-table b l b (omega arith) (omega arith)
+    ap (feedBits 8 b) whole ∙ by-high-byte b l b (omega arith) (omega arith)
     ∙ ap (λ (x : ℕ). bitXor (l * 256) (feedBits 8 x 0)) (xor-self b) ∙ xor-zero-r (l * 256) ∙ sym shifted
 
 -- so its four bytes leave nothing

@@ -1,14 +1,14 @@
 -- The laws of written fields: what a sender writes is read back. Assumes nothing.
 use Prim.Native.Nat.{ℕ, zero, suc, _+_, _/_, _%_, _^_, _≤_, _<_}
-use mathlib.Core.Path.{_≡_, refl, _∙_}
+use mathlib.Core.Path.{_≡_, refl, sym, _∙_}
 use mathlib.Core.List.{List, [], _∷_, _++_, append-assoc}
 use native.Mathlib.Nat.{pow-suc, pow-succ', div-div-eq-div-mul, div-lt-iff-lt-mul, div-add-mod', add-zero, zero-add, add-suc, add-assoc}
 use native.Mathlib.Omega.{arith}
 use lib.ListN.{length, getD, length-append, List·getD-append}
-use lib.Seq.{getD-append-add, getD-at, append-snoc}
-use Rattle.isdb_tlv.specs.Bytes.{be}
-use Rattle.isdb_tlv.specs.Fields.{bytesOf, Field, field, written, Fit}
-use Rattle.isdb_tlv.proofs.Numbers.{be-ext}
+use lib.Seq.{getD-append-add, getD-at, append-snoc, set-out}
+use Rattle.isdb_tlv.specs.Bytes.{be, putBe}
+use Rattle.isdb_tlv.specs.Fields.{bytesOf, Field, field, written, Fit, puts}
+use Rattle.isdb_tlv.proofs.Numbers.{be-ext, putBe-mod}
 
 -- a byte is a number of one byte
 pub be-one : (s : List ℕ) (at : ℕ) → getD s at 0 ≡ be 1 s at
@@ -80,3 +80,32 @@ read (f ∷ fs) h (suc k) r =
     let a = bytesOf (f .width) (f .value) in
     let e = length-bytesOf (f .width) (f .value) in
     rw append-assoc (be-behind (fieldAt k fs .width) a (written fs ++ r) e (offsetOf k fs) ∙ read fs (h .1) k r)
+
+-- ---- fields that are stored
+
+-- a number that was cut to its field
+pub put-cut : (k w at v : ℕ) (l m : List ℕ) → w ≡ k → m ≡ putBe k at (v % 256 ^ k) l → m ≡ putBe w at v l
+put-cut k w at v l m e d =
+    d ∙ sym (rw e (putBe-mod k at v (v % 256 ^ k) l (v / 256 ^ k) (sym (div-add-mod' v (256 ^ k)))))
+
+pub put-whole : (k w at v : ℕ) (l m : List ℕ) → w ≡ k → m ≡ putBe k at v l → m ≡ putBe w at v l
+put-whole k w at v l m e d = rw e d
+
+-- beyond the end nothing is stored
+pub put-beyond : (w at v : ℕ) (l : List ℕ) → length l ≤ at → l ≡ putBe w at v l
+unfolding putBe
+put-beyond zero at v l h = refl
+put-beyond (suc w) at v l h = rw (← put-beyond w at (v / 256) l h) (sym (set-out l (at + w) (v % 256) (omega arith)))
+
+-- four, each so many bytes behind the first
+pub put-four :
+    (at w0 v0 w1 v1 w2 v2 w3 v3 : ℕ) (l a b c d : List ℕ)
+    → a ≡ putBe w0 (at + 0) v0 l
+    → b ≡ putBe w1 (at + w0) v1 a
+    → c ≡ putBe w2 (at + (w0 + w1)) v2 b
+    → d ≡ putBe w3 (at + (w0 + w1 + w2)) v3 c
+    → d ≡ puts at (field w0 v0 ∷ field w1 v1 ∷ field w2 v2 ∷ field w3 v3 ∷ []) l
+put-four at w0 v0 w1 v1 w2 v2 w3 v3 l a b c d ea eb ec ed =
+    let e2 : at + (w0 + w1) ≡ at + w0 + w1 = omega arith in
+    let e3 : at + (w0 + w1 + w2) ≡ at + w0 + w1 + w2 = omega arith in
+    ed ∙ rw (e3, ec, e2, eb, ea, add-zero at)

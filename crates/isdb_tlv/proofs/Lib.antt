@@ -2,8 +2,8 @@
 pub mod Numbers
 pub mod Parts
 pub mod Table
-pub mod CrcTable
 pub mod CrcLinear
+pub mod CrcWords
 pub mod Guards
 pub mod Codes
 pub mod Extension

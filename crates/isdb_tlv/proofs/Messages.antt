@@ -11,7 +11,7 @@ use native.Mathlib.Omega.{arith}
 use lib.ListN.{length, take, drop, getD, length-take, length-drop}
 use lib.Dec.{ltb, leb, eqb, eqb·zero-suc, eqb·suc-zero, eqb·suc-suc}
 use lib.Bits.{bitOr, or-shr, or-mod, or-zero-r}
-use borrow.Author.Tests.{ltb-false, eqb-true, eqb-false, eq-eqb, ne-eqb, le-leb, lt-leb, le-ltb, lt-ltb}
+use borrow.Author.Tests.{ltb-false, leb-true, eqb-true, eqb-false, eq-eqb, ne-eqb, le-leb, lt-leb, le-ltb, lt-ltb}
 use Rattle.isdb_tlv.specs.Bytes.{be, withBit}
 use Rattle.isdb_tlv.specs.Walk.{turn, Ahead, walk-at}
 use Rattle.isdb_tlv.specs.Messages.{none, wordOf, has, withWord, insert, insertAll, setOf, member, listedFrom, tableAt, walkedFrom, messageOf, behind, messageIn, prefixedAt, messageAt, messageStep, also, item, messagesFrom, counted}
@@ -147,26 +147,26 @@ module _ (p : List ℕ) where
       let n : length m ≡ min (end - from) (length p - from) = length-take (end - from) (drop from p) ∙ rw length-drop in
       behind-ahead (ltb (length m) 2) at end _ (λ e. let l = ltb-false (length m) 2 e in omega arith)
 
-  prefixed-ahead : (at w : ℕ) → Ahead (length p) at (item (prefixedAt p at w))
+  prefixed-ahead : (at from w : ℕ) → at ≤ from → Ahead (length p) at (item (prefixedAt p from w))
   unfolding prefixedAt
-  prefixed-ahead at w =
-      cond-elim (λ r. Ahead (length p) at (item r)) (ltb (length p - at) w) (λ e. tt) (λ e.
-      cond-elim (λ r. Ahead (length p) at (item r)) (ltb (length p - (at + w)) (be w p at)) (λ d. tt)
-      (λ d. in-ahead at (at + w) (at + w + be w p at) (omega arith)))
+  prefixed-ahead at from w h =
+      cond-elim (λ r. Ahead (length p) at (item r)) (ltb (length p - from) w) (λ e. tt) (λ e.
+      cond-elim (λ r. Ahead (length p) at (item r)) (ltb (length p - (from + w)) (be w p from)) (λ d. tt)
+      (λ d. in-ahead at (from + w) (from + w + be w p from) (omega arith)))
 
-  at-ahead : (at : ℕ) → Ahead (length p) at (item (messageAt p at))
+  at-ahead : (at from : ℕ) → at ≤ from → Ahead (length p) at (item (messageAt p from))
   unfolding messageAt
-  at-ahead at =
-      cond-elim (λ r. Ahead (length p) at (item r)) (eqb (getD p 0 0 % 2) 0) (λ e. in-ahead at at (length p) (omega arith)) (λ e.
-      cond-elim (λ r. Ahead (length p) at (item r)) (eqb (getD p 0 0 / 2 % 2) 0) (λ d. prefixed-ahead at 2) (λ d. prefixed-ahead at 4))
+  at-ahead at from h =
+      cond-elim (λ r. Ahead (length p) at (item r)) (eqb (getD p 0 0 % 2) 0) (λ e. in-ahead at from (length p) h) (λ e.
+      cond-elim (λ r. Ahead (length p) at (item r)) (eqb (getD p 0 0 / 2 % 2) 0) (λ d. prefixed-ahead at from 2 h) (λ d. prefixed-ahead at from 4 h))
 
   pub step-ahead : (at : ℕ) → Ahead (length p) at (item (messageStep p at))
   unfolding messageStep
   step-ahead at =
       cond-elim (λ r. Ahead (length p) at (item r)) (ltb (length p) 2) (λ e. tt) (λ e.
       cond-elim (λ r. Ahead (length p) at (item r)) (not (eqb (getD p 0 0 / 64) 0)) (λ e2. tt) (λ e2.
-      cond-elim (λ r. Ahead (length p) at (item r)) (leb at 2) (λ e3. at-ahead at) (λ e3.
-      cond-elim (λ r. Ahead (length p) at (item r)) (leb (length p) at) (λ e4. tt) (λ e4. at-ahead at))))
+      cond-elim (λ r. Ahead (length p) at (item r)) (leb at 2) (λ e3. at-ahead at 2 (leb-true at 2 e3)) (λ e3.
+      cond-elim (λ r. Ahead (length p) at (item r)) (leb (length p) at) (λ e4. tt) (λ e4. at-ahead at at (omega arith)))))
 
   -- the messages from a place on: what stands there, and the messages from where it leads
   pub messages-at : (at : ℕ) → messagesFrom p at ≡ turn (messagesFrom p) (item (messageStep p at))

@@ -1,6 +1,6 @@
 -- The laws of `be` and `putBe`, each over every width. Assumes nothing.
 use Prim.Native.Nat.{ℕ, zero, suc, _+_, _-_, _*_, _/_, _%_, _^_, _≤_, _<_}
-use mathlib.Core.Path.{_≡_, refl, sym, ap, _∙_, subst}
+use mathlib.Core.Path.{_≡_, refl, sym, ap, _∙_}
 use mathlib.Core.Logic.{_⊎_, inl, inr, ⊎-elim}
 use mathlib.Core.List.{List}
 use native.Mathlib.Nat.{pow-suc, pow-succ', pow-le-pow-right, div-lt-iff-lt-mul, div-add-mod', add-suc, add-zero, add-assoc, mul-assoc, div-div-eq-div-mul, mod-eq-of-lt}

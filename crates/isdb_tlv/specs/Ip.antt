@@ -5,15 +5,12 @@ use mathlib.Core.List.{List}
 use lib.ListN.{length, getD}
 use Rattle.isdb_tlv.specs.Guards.{if_then_else_, _<?_, _=?_, _≠?_}
 use Rattle.isdb_tlv.specs.Bytes.{be}
-use Rattle.isdb_tlv.specs.declared.ip.Address.{Address}
 use Rattle.isdb_tlv.specs.declared.ip.Address.the-variants.{V4, V6}
 use Rattle.isdb_tlv.specs.declared.ip.Flow.{Flow}
 use Rattle.isdb_tlv.specs.declared.ip.MaybeFlow.{MaybeFlow}
 use Rattle.isdb_tlv.specs.declared.ip.MaybeFlow.the-variants.{None as noFlow, Some as someFlow}
 use Rattle.isdb_tlv.specs.declared.ip.MaybeContext.{MaybeContext}
 use Rattle.isdb_tlv.specs.declared.ip.MaybeContext.the-variants.{None as noContext, Some as someContext}
-use Rattle.isdb_tlv.specs.declared.ip.Datagram.{Datagram}
-use Rattle.isdb_tlv.specs.declared.ip.IpError.{IpError}
 use Rattle.isdb_tlv.specs.declared.ip.IpError.the-variants.{Truncated, NotUdp, HeaderType, Version}
 use Rattle.isdb_tlv.specs.declared.ip.IpResult.{IpResult}
 use Rattle.isdb_tlv.specs.declared.ip.IpResult.the-variants.{Ok, Err}

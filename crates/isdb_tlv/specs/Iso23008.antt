@@ -1,6 +1,6 @@
 -- ISO/IEC 23008-1 with ARIB STD-B60, 6.4.1.1, Tables 6-4 and 6-7 to 6-9: an MMTP packet as a conforming sender writes it,
 -- and what it means to read it right.
-use Prim.Native.Nat.{ℕ, _+_, _-_, _*_, _/_, _%_, _^_, _<_, _≤_}
+use Prim.Native.Nat.{ℕ, _+_, _/_, _%_, _^_, _<_}
 use mathlib.Core.Path.{_≡_}
 use mathlib.Core.List.{List, [], _∷_, _++_}
 use mathlib.Core.Option.{Option, none, some}
@@ -11,7 +11,6 @@ use Rattle.isdb_tlv.specs.Mmtp.{fecType, payloadType, scrambleInfo, scra
 use Rattle.isdb_tlv.specs.declared.mmtp.Scramble.{Scramble}
 use Rattle.isdb_tlv.specs.declared.mmtp.Scramble.the-variants.{Absent, Bits}
 use Rattle.isdb_tlv.specs.declared.mmtp.Header.{Header}
-use Rattle.isdb_tlv.specs.declared.mmtp.Packet.{Packet}
 use Rattle.isdb_tlv.specs.declared.mmtp.Parsed.the-variants.{Some as somePacket}
 
 -- an entry of a multi-type header extension: a type of 15 bits and some bytes

@@ -131,12 +131,12 @@ messageAt p at =
     else if getD p 0 0 / 2 % 2 =? 0 then prefixedAt p at 2
     else prefixedAt p at 4
 
--- what stands at `at`, which is 2 at first: the first message must be there, and another where bytes are left
+-- what stands at `at`: the first message, at 2, must be there, also for a place before it; another where bytes are left
 unfoldable pub messageStep : List ℕ → ℕ → MessageStep
 messageStep p at =
     if length p <? 2 then Refused
     else if getD p 0 0 / 64 ≠? 0 then Refused
-    else if at ≤? 2 then messageAt p at
+    else if at ≤? 2 then messageAt p 2
     else if length p ≤? at then End
     else messageAt p at
 

@@ -1,5 +1,5 @@
 -- What is read of an MMTP packet, whatever its bytes: ISO/IEC 23008-1 and ARIB STD-B60, 6.4.1.1, Tables 6-4 to 6-9.
-use Prim.Native.Nat.{ℕ, zero, suc, _+_, _-_, _*_, _/_, _%_}
+use Prim.Native.Nat.{ℕ, zero, suc, _+_, _-_, _/_, _%_}
 use mathlib.Core.List.{List, [], _∷_}
 use mathlib.Core.Bool.{Bool, true, false}
 use lib.ListN.{length, take, drop, getD}
@@ -14,7 +14,6 @@ use Rattle.isdb_tlv.specs.declared.mmtp.Scramble.the-variants.{Absent, N
 use Rattle.isdb_tlv.specs.declared.mmtp.MaybeControl.{MaybeControl}
 use Rattle.isdb_tlv.specs.declared.mmtp.MaybeControl.the-variants.{None as noControl, Some as someControl}
 use Rattle.isdb_tlv.specs.declared.mmtp.Header.{Header}
-use Rattle.isdb_tlv.specs.declared.mmtp.Packet.{Packet}
 use Rattle.isdb_tlv.specs.declared.mmtp.Parsed.{Parsed}
 use Rattle.isdb_tlv.specs.declared.mmtp.Parsed.the-variants.{None as noPacket, Some as somePacket}
 use Rattle.isdb_tlv.specs.declared.mmtp.Extension.{Extension}

@@ -1,10 +1,10 @@
 -- The scan of a control packet's data for sections of TLV-SI: ARIB STD-B60, 5 and Table 4-2 (TLV-NIT and AMT), in the
 -- extended section format of ISO/IEC 13818-1, 2.4.4.11.
-use Prim.Native.Nat.{ℕ, _+_, _-_, _*_, _/_, _%_}
+use Prim.Native.Nat.{ℕ, _+_, _-_, _/_, _%_}
 use mathlib.Core.List.{List, [], _∷_}
 use mathlib.Core.Bool.{Bool, true, not}
 use lib.ListN.{length, take, drop, getD}
-use Rattle.isdb_tlv.specs.Guards.{if_then_else_, _<?_, _≤?_, _=?_, _≠?_}
+use Rattle.isdb_tlv.specs.Guards.{if_then_else_, _<?_, _=?_, _≠?_}
 use Rattle.isdb_tlv.specs.Bytes.{be}
 use Rattle.isdb_tlv.specs.Crc.{crcOf}
 use Rattle.isdb_tlv.specs.Walk.{Next, stop, more, walk}

@@ -1,9 +1,10 @@
-// Numbers in bytes, the high byte first. A byte beyond the end reads as 0 and is not written, so every function here is
-// total; where the caller has tested the length, the test here falls away once it is inlined.
+// Numbers in bytes, the high byte first. A byte beyond the end reads as 0 and is not written, so every public function
+// here is total; where the caller has tested the length, the test here falls away once it is inlined.
 ghost use mathlib.Core.Path.{_≡_};
 ghost use Prim.Native.Nat.{_+_, _%_, _^_, _≤_, _<_};
 ghost use lib.ListN.{length, getD, set, take, drop};
 ghost use Rattle.isdb_tlv.specs.Bytes.{be, putBe, withBit};
+ghost use Rattle.isdb_tlv.specs.Fields.{puts, fourFields};
 
 // The byte i places behind at. The sum at + i may be too large for a number.
 fn byte(b: &[u8], at: usize, i: usize) -> u8
@@ -36,13 +37,13 @@ fn wide64(x: u8) -> u64
 }
 
 // The number in the w bytes from at; of one above 64 bits, the low 64.
-pub fn number(b: &[u8], at: usize, w: usize) -> u64
+pub fn number(b: &[u8], at: usize, w: u8) -> u64
     ensures { λ r. ⌜ r ≡ be w (now (b .entry)) at % 2 ^ 64 ⌝ }
 {
     let mut a: u64 = 0;
-    let mut i: usize = 0;
+    let mut i: u8 = 0;
     while i < w {
-        a = (a << 8) + wide64(byte(b, at, i));
+        a = (a << 8) + wide64(byte(b, at, i as usize));
         i += 1;
     }
     a
@@ -97,21 +98,15 @@ pub fn get_u32(b: &[u8], at: usize) -> u32
     number(b, at, 4) as u32
 }
 
-// Byte by byte, which the compiler makes one load of; two halves would stay two.
+// A balanced sum, which the compiler makes one load and a byte swap of.
 fn u64_at(b: &[u8], at: usize) -> u64
     requires { ⌜ at + 8 ≤ length (now b) ⌝ }
     ensures { λ r. ⌜ r ≡ be 8 (now (b .entry)) at ⌝ }
 {
-    ((((((wide64(b[at]) * 256 + wide64(b[at + 1])) * 256 + wide64(b[at + 2])) * 256
-        + wide64(b[at + 3]))
-        * 256
-        + wide64(b[at + 4]))
-        * 256
-        + wide64(b[at + 5]))
-        * 256
-        + wide64(b[at + 6]))
-        * 256
-        + wide64(b[at + 7])
+    ((wide64(b[at]) * 72057594037927936 + wide64(b[at + 1]) * 281474976710656)
+        + (wide64(b[at + 2]) * 1099511627776 + wide64(b[at + 3]) * 4294967296))
+        + ((wide64(b[at + 4]) * 16777216 + wide64(b[at + 5]) * 65536)
+            + (wide64(b[at + 6]) * 256 + wide64(b[at + 7])))
 }
 
 pub fn get_u64(b: &[u8], at: usize) -> u64
@@ -136,14 +131,14 @@ fn put_byte(s: &mut [u8], at: usize, i: usize, x: u8)
 }
 
 // The low w bytes of v from at.
-pub fn put_number(s: &mut [u8], at: usize, w: usize, v: u64)
+pub fn put_number(s: &mut [u8], at: usize, w: u8, v: u64)
     ensures { λ r. ⌜ now (s .exit) ≡ putBe w at v (now (s .entry)) ⌝ }
 {
     let mut k = w;
     let mut u = v;
     while 0 < k {
         k -= 1;
-        put_byte(s, at, k, (u % 256) as u8);
+        put_byte(s, at, k as usize, (u % 256) as u8);
         u = u / 256;
     }
 }
@@ -241,4 +236,45 @@ pub fn part(b: &[u8], at: usize, n: usize) -> &[u8]
         return &r[..n];
     }
     r
+}
+
+// The low w bytes of v from at, where the widths that numbers have are one store each.
+fn put_field(s: &mut [u8], at: usize, w: u8, v: u64)
+    ensures { λ r. ⌜ now (s .exit) ≡ putBe w at v (now (s .entry)) ⌝ }
+{
+    match w {
+        1 => put_u8(s, at, (v % 256) as u8),
+        2 => put_u16(s, at, (v % 65536) as u16),
+        4 => put_u32(s, at, (v % 4294967296) as u32),
+        8 => put_u64(s, at, v),
+        _ => put_number(s, at, w, v),
+    }
+}
+
+// So from i places behind at. The sum at + i may be too large for a number.
+fn put_behind(s: &mut [u8], at: usize, i: usize, w: u8, v: u64)
+    ensures { λ r. ⌜ now (s .exit) ≡ putBe w (at + i) v (now (s .entry)) ⌝ }
+{
+    if at < s.len() {
+        if i < s.len() - at {
+            put_field(s, at + i, w, v);
+        }
+    }
+}
+
+// Four fields one behind the other from at on. Their widths are the hexadecimal digits of w; a field of no bytes is none.
+pub fn put4(s: &mut [u8], at: usize, w: u16, v0: u64, v1: u64, v2: u64, v3: u64)
+    ensures { λ r. ⌜ now (s .exit) ≡ puts at (fourFields w v0 v1 v2 v3) (now (s .entry)) ⌝ }
+{
+    let w0 = (w / 4096 % 16) as u8;
+    let w1 = (w / 256 % 16) as u8;
+    let w2 = (w / 16 % 16) as u8;
+    let w3 = (w % 16) as u8;
+    let i = w0 as usize;
+    let j = i + w1 as usize;
+    let k = j + w2 as usize;
+    put_behind(s, at, 0, w0, v0);
+    put_behind(s, at, i, w1, v1);
+    put_behind(s, at, j, w2, v2);
+    put_behind(s, at, k, w3, v3);
 }

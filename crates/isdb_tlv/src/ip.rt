@@ -1,5 +1,6 @@
 // What TLV packets carry: IPv4 and IPv6 packets, header-compressed IP packets (ARIB STD-B32 Part 3, 3.7), and the UDP
 // datagram inside. Beside them the wire check, which judges an IPv4 datagram as RFC 791 and RFC 768 do.
+// Translated from ip.rs of isdb-rs (Apache-2.0, see NOTICE) and changed.
 ghost use mathlib.Core.Path.{_≡_};
 ghost use lib.ListN.{drop};
 ghost use Rattle.isdb_tlv.specs.Ip.{flow4, flow6, ipv4Of, ipv6Of, partialIpv4, partialIpv6, headerId, compressedOf, wireOf, letterOf};
@@ -100,7 +101,8 @@ pub fn ipv4(b: &[u8]) -> IpResult
     if b.len() < 20 {
         return IpResult::Err(IpError::Truncated);
     }
-    let version = b[0] / 16;
+    let first = b[0];
+    let version = first / 16;
     if version != 4 {
         return IpResult::Err(IpError::Version(version));
     }
@@ -108,7 +110,7 @@ pub fn ipv4(b: &[u8]) -> IpResult
     if protocol != 17 {
         return IpResult::Err(IpError::NotUdp(protocol));
     }
-    let udp = b[0] % 16 * 4;
+    let udp = first % 16 * 4;
     let start = udp as usize + 8;
     if b.len() < start {
         return IpResult::Err(IpError::Truncated);
@@ -204,23 +206,17 @@ pub fn compressed(b: &[u8]) -> IpResult
     }
     let context = bytes::get_u16(b, 0) / 16;
     let header_type = b[2];
-    if header_type == 0x20 {
-        return partial_ipv4(b, context);
-    }
-    if header_type == 0x60 {
-        return partial_ipv6(b, context);
-    }
-    if header_type == 0x21 {
-        return header_id(b, context);
-    }
-    if header_type == 0x61 {
-        return IpResult::Ok(Datagram {
+    match header_type {
+        0x20 => partial_ipv4(b, context),
+        0x60 => partial_ipv6(b, context),
+        0x21 => header_id(b, context),
+        0x61 => IpResult::Ok(Datagram {
             context: MaybeContext::Some(context),
             flow: MaybeFlow::None,
             start: 3,
-        });
+        }),
+        _ => IpResult::Err(IpError::HeaderType(header_type)),
     }
-    IpResult::Err(IpError::HeaderType(header_type))
 }
 
 // The wire check's answer: good, or the first failing test by its letter.
@@ -256,10 +252,11 @@ pub fn wire_check(b: &[u8]) -> Wire
     if b.len() < 20 {
         return Wire::A;
     }
-    if b[0] / 16 != 4 {
+    let first = b[0];
+    if first / 16 != 4 {
         return Wire::A;
     }
-    let ihl = (b[0] % 16) as usize;
+    let ihl = (first % 16) as usize;
     if ihl < 5 {
         return Wire::B;
     }

@@ -1,5 +1,6 @@
 // MMTP packets (ISO/IEC 23008-1; ARIB STD-B60, 6.4.1.1, Table 6-4) and the control messages of an undivided payload
 // (STD-B60, 4.2 and 7.2.3, Tables 4-6 and 4-8).
+// Translated from mmtp.rs of isdb-rs (Apache-2.0, see NOTICE) and changed.
 ghost use mathlib.Core.Path.{_≡_};
 ghost use Prim.Native.Nat.{_+_, _≤_, _<_};
 ghost use lib.ListN.{length, drop};
@@ -204,7 +205,7 @@ fn extension_at(b: &[u8], at: usize) -> Extension
     }
     let e = p + n;
     if bytes::get_u16(b, at) == 0 {
-        return Extension::Good(scramble_of(&b[p..e]), e);
+        return Extension::Good(scramble_of(bytes::part(b, p, n)), e);
     }
     Extension::Good(Scramble::Absent, e)
 }
@@ -465,7 +466,7 @@ fn prefixed(p: &[u8], at: usize, w: usize) -> MessageStep
         return MessageStep::Refused;
     }
     let from = at + w;
-    let n = bytes::number(p, at, w) as usize;
+    let n = bytes::number(p, at, w as u8) as usize;
     if p.len() - from < n {
         return MessageStep::Refused;
     }
@@ -487,7 +488,7 @@ fn message_at(p: &[u8], at: usize) -> MessageStep
     prefixed(p, at, 4)
 }
 
-// The messages of an undivided control payload, by a cursor that starts at 2.
+// The messages of an undivided control payload, by a cursor: the first one stands at 2, and a place before it means it too.
 pub fn next_message(p: &[u8], at: usize) -> MessageStep
     ensures { λ r. ⌜ r ≡ messageStep (now (p .entry)) at ⌝ }
 {
@@ -498,7 +499,7 @@ pub fn next_message(p: &[u8], at: usize) -> MessageStep
         return MessageStep::Refused;
     }
     if at <= 2 {
-        return message_at(p, at);
+        return message_at(p, 2);
     }
     if p.len() <= at {
         return MessageStep::End;

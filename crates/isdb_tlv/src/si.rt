@@ -1,5 +1,6 @@
 // TLV-SI in transmission control packets: TLV-NIT (table id 40h, 41h) and AMT (FEh), sections of the extended format with
 // a CRC (ARIB STD-B60, 5). The layout around them is not public, so they are found by their header and CRC.
+// Translated from si.rs of isdb-rs (Apache-2.0, see NOTICE) and changed.
 ghost use mathlib.Core.Path.{_≡_};
 ghost use Prim.Native.Nat.{_+_, _≤_, _<_};
 ghost use lib.ListN.{length, take, drop};
@@ -65,8 +66,7 @@ fn section_at(data: &[u8], i: usize) -> MaybeSection
     if data.len() - i < length {
         return MaybeSection::None;
     }
-    let end = i + length;
-    if crc::crc32(&data[i..end]) != 0 {
+    if crc::crc32(bytes::part(data, i, length)) != 0 {
         return MaybeSection::None;
     }
     MaybeSection::Some(Section {

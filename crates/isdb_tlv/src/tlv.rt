@@ -1,4 +1,5 @@
 // TLV packets (ARIB STD-B32 Part 3, 3.5): the kind of data that a packet carries.
+// Translated from tlv.rs of isdb-rs (Apache-2.0, see NOTICE) and changed.
 ghost use mathlib.Core.Path.{_≡_};
 ghost use Rattle.isdb_tlv.specs.Tlv.{packetType};
 

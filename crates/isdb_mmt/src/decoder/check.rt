@@ -2,19 +2,19 @@
 ghost use mathlib.Core.Path.{_≡_};
 ghost use mathlib.Core.Bool.{true};
 ghost use mathlib.Core.List.{map};
-ghost use Prim.Native.Nat.{_≤_};
+ghost use Prim.Native.Nat.{_+_, _*_, _≤_, _<_};
 ghost use lib.ListN.{length};
+ghost use Rattle.isdb_tlv.specs.Guards.{if_then_else_, _<?_};
+ghost use Rattle.isdb_mmt.specs.Layout.{mostMediaIds, mostControlIds, mostSections, mostCount, mediaPlaces, mediaSize, controlPlaces, controlSize, sectionPlaces, sectionSize, stateSize};
 ghost use Rattle.isdb_mmt.specs.Lent.{placesFrom, every};
 ghost use Rattle.isdb_mmt.specs.Session.{limitsOf, usedOf, mediaPlaceOf, controlPlaceOf, sectionPlaceOf};
-ghost use Rattle.isdb_mmt.specs.Check.{countFits, statsCounts, packetCounts, tableCounts, lengthFits, mediaSound, controlSound, sectionSound, usedSound, latestSound, countersSound, headSound, placesSound, namesSound, soundIn, PlacesThere};
+ghost use Rattle.isdb_mmt.specs.Check.{countFits, countsFrom, lengthFits, mediaSound, controlSound, sectionSound, usedSound, latestSound, headSound, placesSound, namesSound, soundIn, PlacesThere};
 use crate::decoder::control;
 use crate::decoder::control::Control;
-use crate::decoder::counts;
-use crate::decoder::counts::AssetStats;
-use crate::decoder::counts::Counters;
 use crate::decoder::head;
 use crate::decoder::head::Latest;
 use crate::decoder::head::Used;
+use crate::decoder::layout;
 use crate::decoder::limits;
 use crate::decoder::limits::Lengths;
 use crate::decoder::limits::Limits;
@@ -24,7 +24,7 @@ use isdb_tlv::bytes;
 fn count_fits(x: u64) -> bool
     ensures { λ r. ⌜ r ≡ countFits x ⌝ }
 {
-    x <= 9007199254740992
+    x <= layout::MOST_COUNT
 }
 
 fn length_fits(there: bool, n: u32, area: u64) -> bool
@@ -36,95 +36,57 @@ fn length_fits(there: bool, n: u32, area: u64) -> bool
     true
 }
 
-fn stats_fit(s: AssetStats) -> bool
-    ensures { λ r. ⌜ r ≡ every countFits (statsCounts s) ⌝ }
+// The high halves or'ed of n counts that lie one behind the other from at on.
+fn high_halves(p: &[u8], at: usize, n: usize) -> u32
+    requires { ⌜ at + n * 8 ≤ length (now p) ⌝ }
+    ensures { λ r. ⌜ (r * 4294967296 < mostCount → every countFits (countsFrom n at (now (p .entry))) ≡ true) ⌝ }
 {
-    if !count_fits(s.packets) {
-        return false;
+    let mut bits = 0u32;
+    let mut i = 0;
+    let mut q = at;
+    while i < n {
+        bits = bits | place::word(p, q);
+        q += 8;
+        i += 1;
     }
-    if !count_fits(s.packets_lost) {
-        return false;
-    }
-    if !count_fits(s.scrambled_packets) {
-        return false;
-    }
-    if !count_fits(s.mfus) {
-        return false;
-    }
-    if !count_fits(s.scrambled_mfus) {
-        return false;
-    }
-    if !count_fits(s.mfus_dropped) {
-        return false;
-    }
-    if !count_fits(s.mpus) {
-        return false;
-    }
-    if !count_fits(s.mpu_sequence_jumps) {
-        return false;
-    }
-    count_fits(s.malformed)
+    bits
 }
 
-fn packet_counts_fit(c: Counters) -> bool
-    ensures { λ r. ⌜ r ≡ every countFits (packetCounts c) ⌝ }
+fn each_count_fits(p: &[u8], at: usize, n: usize) -> bool
+    requires { ⌜ at + n * 8 ≤ length (now p) ⌝ }
+    ensures { λ r. ⌜ r ≡ every countFits (countsFrom n at (now (p .entry))) ⌝ }
 {
-    if !count_fits(c.tlv_packets) {
-        return false;
+    let mut i = 0;
+    let mut q = at;
+    while i < n {
+        if !count_fits(bytes::get_u64(p, q)) {
+            return false;
+        }
+        q += 8;
+        i += 1;
     }
-    if !count_fits(c.ip_errors) {
-        return false;
-    }
-    if !count_fits(c.non_mmtp) {
-        return false;
-    }
-    count_fits(c.ntp)
+    true
 }
 
-fn table_counts_fit(c: Counters) -> bool
-    ensures { λ r. ⌜ r ≡ every countFits (tableCounts c) ⌝ }
+// No count is above all of them or'ed, so one test is enough for counts below 2^53.
+fn counts_fit(p: &[u8], at: usize, n: usize) -> bool
+    requires { ⌜ at + n * 8 ≤ length (now p) ⌝ }
+    ensures { λ r. ⌜ r ≡ every countFits (countsFrom n at (now (p .entry))) ⌝ }
 {
-    if !count_fits(c.tables) {
-        return false;
+    if high_halves(p, at, n) as u64 * 4294967296 < layout::MOST_COUNT {
+        return true;
     }
-    if !count_fits(c.crc_errors) {
-        return false;
-    }
-    if !count_fits(c.malformed) {
-        return false;
-    }
-    if !count_fits(c.version_changes) {
-        return false;
-    }
-    if !count_fits(c.orphan_fragments) {
-        return false;
-    }
-    if !count_fits(c.oversize) {
-        return false;
-    }
-    if !count_fits(c.message_malformed) {
-        return false;
-    }
-    count_fits(c.split_errors)
+    each_count_fits(p, at, n)
 }
 
-fn counters_fit(c: Counters) -> bool
-    ensures { λ r. ⌜ r ≡ countersSound c ⌝ }
-{
-    if packet_counts_fit(c) {
-        return table_counts_fit(c);
-    }
-    false
-}
-
-// The bits from 53 on of all counts together. No branch in the loop, so that it runs on several counts at once.
-fn high_bits(others: &[u64]) -> u64
-    ensures { λ r. ⌜ (r ≡ 0 → every countFits (now (others .entry)) ≡ true) ⌝ }
+// No branch in the loop, so that it runs on several counts at once.
+fn all_bits(others: &[u64]) -> u64
+    ensures { λ r. ⌜ (r ≤ mostCount → every countFits (now (others .entry)) ≡ true) ⌝ }
 {
     let mut bits = 0u64;
     let mut i = 0;
     while i < others.len() {
-        bits = bits | (others[i] >> 53);
+        bits = bits | others[i];
         i += 1;
     }
     bits
@@ -143,11 +105,10 @@ fn each_fits(others: &[u64]) -> bool
     true
 }
 
-// 2^53 has a bit there and fits, so a bit decides nothing yet.
 fn others_fit(others: &[u64]) -> bool
     ensures { λ r. ⌜ r ≡ every countFits (now (others .entry)) ⌝ }
 {
-    if high_bits(others) == 0 {
+    if all_bits(others) <= layout::MOST_COUNT {
         return true;
     }
     each_fits(others)
@@ -175,10 +136,12 @@ fn latest_fits(l: Limits, x: Latest) -> bool
 }
 
 fn media_fits(l: Limits, p: &[u8]) -> bool
+    requires { ⌜ length (now p) ≡ mediaSize ⌝ }
     ensures { λ r. ⌜ r ≡ mediaSound l (mediaPlaceOf (now (p .entry))) ⌝ }
 {
-    if length_fits(place::flag(p, 18), bytes::get_u32(p, 44), l.mfu_area) {
-        return stats_fit(counts::stats_of(p));
+    let held = place::flag(p, layout::HELD);
+    if length_fits(held, bytes::get_u32(p, layout::OBJECT_LENGTH), l.mfu_area) {
+        return counts_fit(p, layout::STATS, 9);
     }
     false
 }
@@ -192,85 +155,90 @@ fn control_fits(l: Limits, c: Control) -> bool
     false
 }
 
-fn section_fits(l: Limits, p: &[u8]) -> bool
-    ensures { λ r. ⌜ r ≡ sectionSound l (sectionPlaceOf (now (p .entry))) ⌝ }
-{
-    bytes::get_u32(p, 5) as u64 <= l.table_area
-}
-
+// A place is lent with its bounds, so that its length is known to the readings.
 fn all_media_fit(s: &[u8], l: Limits, n: usize) -> bool
-    requires { ⌜ n ≤ 64 ⌝ }
-    ensures { λ r. ⌜ r ≡ every (mediaSound l) (map mediaPlaceOf (placesFrom n 120 184 (now (s .entry)))) ⌝ }
+    requires { ⌜ (n ≤ mostMediaIds) × (stateSize ≤ length (now s)) ⌝ }
+    ensures { λ r. ⌜ r ≡ every (mediaSound l) (map mediaPlaceOf (placesFrom n mediaSize mediaPlaces (now (s .entry)))) ⌝ }
 {
     let mut i = 0;
-    let mut at = 184;
+    let mut at = layout::MEDIA_PLACES;
     while i < n {
-        if !media_fits(l, bytes::part(s, at, 120)) {
+        let end = at + layout::MEDIA_SIZE;
+        if !media_fits(l, &s[at..end]) {
             return false;
         }
-        at += 120;
+        at = end;
         i += 1;
     }
     true
 }
 
 fn all_controls_fit(s: &[u8], l: Limits, n: usize) -> bool
-    requires { ⌜ n ≤ 32 ⌝ }
-    ensures { λ r. ⌜ r ≡ every (controlSound l) (map controlPlaceOf (placesFrom n 21 7864 (now (s .entry)))) ⌝ }
+    requires { ⌜ (n ≤ mostControlIds) × (stateSize ≤ length (now s)) ⌝ }
+    ensures { λ r. ⌜ r ≡ every (controlSound l) (map controlPlaceOf (placesFrom n controlSize controlPlaces (now (s .entry)))) ⌝ }
 {
     let mut i = 0;
-    let mut at = 7864;
+    let mut at = layout::CONTROL_PLACES;
     while i < n {
-        if !control_fits(l, control::control_of(bytes::part(s, at, 21))) {
+        let end = at + layout::CONTROL_SIZE;
+        if !control_fits(l, control::control_of(&s[at..end])) {
             return false;
         }
-        at += 21;
+        at = end;
         i += 1;
     }
     true
 }
 
+fn larger(a: u64, b: u64) -> u64
+    ensures { λ r. ⌜ r ≡ (if a <? b then b else a) ⌝ }
+{
+    if a < b {
+        return b;
+    }
+    a
+}
+
+// The longest decides, so that no turn of the loop has a branch.
 fn all_sections_fit(s: &[u8], l: Limits, n: usize) -> bool
-    requires { ⌜ n ≤ 512 ⌝ }
-    ensures { λ r. ⌜ r ≡ every (sectionSound l) (map sectionPlaceOf (placesFrom n 9 8536 (now (s .entry)))) ⌝ }
+    requires { ⌜ (n ≤ mostSections) × (stateSize ≤ length (now s)) ⌝ }
+    ensures { λ r. ⌜ r ≡ every (sectionSound l) (map sectionPlaceOf (placesFrom n sectionSize sectionPlaces (now (s .entry)))) ⌝ }
 {
+    let mut longest = 0u64;
     let mut i = 0;
-    let mut at = 8536;
+    let mut at = layout::SECTION_PLACES;
     while i < n {
-        if !section_fits(l, bytes::part(s, at, 9)) {
-            return false;
-        }
-        at += 9;
+        let end = at + layout::SECTION_SIZE;
+        longest = larger(longest, bytes::get_u32(&s[at..end], 5) as u64);
+        at = end;
         i += 1;
     }
-    true
+    longest <= l.table_area
 }
 
-fn head_fits(s: &[u8], others: &[u64], lent: Lengths) -> bool
-    ensures { λ r. ⌜ r ≡ headSound (now (s .entry)) (now (others .entry)) lent ⌝ }
+fn head_fits(h: &[u8], l: Limits, u: Used, others: &[u64], lent: Lengths) -> bool
+    requires { ⌜ (length (now h) ≡ mediaPlaces) × ((l ≡ limitsOf (now h)) × (u ≡ usedOf (now h))) ⌝ }
+    ensures { λ r. ⌜ r ≡ headSound (now (h .entry)) (now (others .entry)) lent ⌝ }
 {
-    let l = head::load_limits(s);
     if limits::ask(l, lent) != 0 {
         return false;
     }
-    if !used_fit(l, head::load_used(s)) {
+    if !used_fit(l, u) {
         return false;
     }
-    if !latest_fits(l, head::load_latest(s)) {
+    if !latest_fits(l, head::load_latest(h)) {
         return false;
     }
-    if !counters_fit(counts::counters_of(s)) {
+    if !counts_fit(h, layout::COUNTERS, 12) {
         return false;
     }
     others_fit(others)
 }
 
-fn places_fit(s: &[u8]) -> bool
-    requires { ⌜ PlacesThere (now s) ⌝ }
+fn places_fit(s: &[u8], l: Limits, u: Used) -> bool
+    requires { ⌜ PlacesThere (now s) × ((l ≡ limitsOf (now s)) × (u ≡ usedOf (now s))) ⌝ }
     ensures { λ r. ⌜ r ≡ placesSound (now (s .entry)) ⌝ }
 {
-    let l = head::load_limits(s);
-    let u = head::load_used(s);
     if !all_media_fit(s, l, u.media_ids as usize) {
         return false;
     }
@@ -280,31 +248,50 @@ fn places_fit(s: &[u8]) -> bool
     all_sections_fit(s, l, u.sections as usize)
 }
 
-fn names_fit(s: &[u8]) -> bool
-    requires { ⌜ PlacesThere (now s) ⌝ }
+fn names_fit(s: &[u8], u: Used) -> bool
+    requires { ⌜ PlacesThere (now s) × (u ≡ usedOf (now s)) ⌝ }
     ensures { λ r. ⌜ r ≡ namesSound (now (s .entry)) ⌝ }
 {
-    let u = head::load_used(s);
-    let mut marks = [0u64; 512];
-    if !place::no_name_twice(s, 184, 120, u.media_ids as usize, &mut marks) {
+    if !place::names_apart(
+        s,
+        layout::MEDIA_PLACES,
+        layout::MEDIA_SIZE,
+        u.media_ids as usize,
+    ) {
         return false;
     }
-    if !place::no_name_twice(s, 7864, 21, u.control_ids as usize, &mut marks) {
+    if !place::names_apart(
+        s,
+        layout::CONTROL_PLACES,
+        layout::CONTROL_SIZE,
+        u.control_ids as usize,
+    ) {
         return false;
     }
-    place::no_name_twice(s, 8536, 9, u.sections as usize, &mut marks)
+    place::names_apart(
+        s,
+        layout::SECTION_PLACES,
+        layout::SECTION_SIZE,
+        u.sections as usize,
+    )
 }
 
-// Whether state and counts hold a session, with areas of so many bytes lent.
-pub fn ready(s: &[u8], others: &[u64], lent: Lengths) -> bool
+// Whether state and counts hold a session, with areas of so many bytes lent. The head is read from a part of known length.
+pub(crate) fn ready(s: &[u8], others: &[u64], lent: Lengths) -> bool
     requires { ⌜ lent .state ≡ length (now s) ⌝ }
     ensures { λ r. ⌜ r ≡ soundIn (now (s .entry)) (now (others .entry)) lent ⌝ }
 {
-    if !head_fits(s, others, lent) {
+    if s.len() < layout::STATE_SIZE {
         return false;
     }
-    if !places_fit(s) {
+    let h = &s[..layout::MEDIA_PLACES];
+    let l = head::load_limits(h);
+    let u = head::load_used(h);
+    if !head_fits(h, l, u, others, lent) {
         return false;
     }
-    names_fit(s)
+    if !places_fit(s, l, u) {
+        return false;
+    }
+    names_fit(s, u)
 }

@@ -4,13 +4,15 @@ ghost use mathlib.Core.Path.{_≡_};
 ghost use Prim.Native.Nat.{_+_, _*_, _≤_, _<_};
 ghost use lib.ListN.{length};
 ghost use Rattle.isdb_tlv.specs.Fields.{written};
-ghost use Rattle.isdb_mmt.specs.Lent.{over, puts};
-ghost use Rattle.isdb_mmt.specs.Session.{controlPlaceOf, lineFields, controlFields, controlAt};
+ghost use Rattle.isdb_mmt.specs.Lent.{over};
+ghost use Rattle.isdb_mmt.specs.Layout.{mostControlIds, controlPlaces, controlSize, stateSize};
+ghost use Rattle.isdb_mmt.specs.Session.{controlPlaceOf, controlFields, controlAt};
+use crate::decoder::layout::CONTROL_PLACES;
+use crate::decoder::layout::CONTROL_SIZE;
 use crate::decoder::place::flag;
-use crate::decoder::place::put_flag;
 use isdb_tlv::bytes;
 
-pub struct Control {
+pub(crate) struct Control {
     pub packet_id: u32,
     // The last packet's number, where there was one.
     pub seen: bool,
@@ -24,7 +26,7 @@ pub struct Control {
     pub mpt_length: u32,
 }
 
-pub fn control_of(p: &[u8]) -> Control
+pub(crate) fn control_of(p: &[u8]) -> Control
     ensures { λ r. ⌜ r ≡ controlPlaceOf (now (p .entry)) ⌝ }
 {
     Control {
@@ -41,39 +43,43 @@ pub fn control_of(p: &[u8]) -> Control
 }
 
 // The control place with the index i.
-pub fn load_control(s: &[u8], i: usize) -> Control
-    requires { ⌜ i < 32 ⌝ }
+pub(crate) fn load_control(s: &[u8], i: usize) -> Control
+    requires { ⌜ i < mostControlIds ⌝ }
     ensures { λ r. ⌜ r ≡ controlAt (now (s .entry)) i ⌝ }
 {
-    control_of(bytes::part(s, 7864 + 21 * i, 21))
-}
-
-fn put_line(p: &mut [u8], c: Control)
-    ensures { λ r. ⌜ now (p .exit) ≡ puts 0 (lineFields c) (now (p .entry)) ⌝ }
-{
-    bytes::put_u32(p, 0, c.packet_id);
-    put_flag(p, 4, c.seen);
-    bytes::put_u32(p, 5, c.sequence);
-    put_flag(p, 9, c.joining);
-    put_flag(p, 10, c.long_length);
-    put_flag(p, 11, c.aggregated);
-    bytes::put_u32(p, 12, c.length);
+    control_of(bytes::part(s, CONTROL_PLACES + CONTROL_SIZE * i, CONTROL_SIZE))
 }
 
 fn put_control(p: &mut [u8], c: Control)
-    requires { ⌜ length (now p) ≡ 21 ⌝ }
+    requires { ⌜ length (now p) ≡ controlSize ⌝ }
     ensures { λ r. ⌜ now (p .exit) ≡ written (controlFields c) ⌝ }
 {
-    put_line(p, c);
-    put_flag(p, 16, c.mpt);
+    bytes::put4(
+        p,
+        0,
+        0x4141,
+        c.packet_id as u64,
+        c.seen as u64,
+        c.sequence as u64,
+        c.joining as u64,
+    );
+    bytes::put4(
+        p,
+        10,
+        0x1141,
+        c.long_length as u64,
+        c.aggregated as u64,
+        c.length as u64,
+        c.mpt as u64,
+    );
     bytes::put_u32(p, 17, c.mpt_length);
 }
 
-pub fn store_control(s: &mut [u8], i: usize, c: Control)
-    requires { ⌜ (i < 32) × (13144 ≤ length (now s)) ⌝ }
-    ensures { λ r. ⌜ now (s .exit) ≡ over (7864 + 21 * i) (written (controlFields c)) (now (s .entry)) ⌝ }
+pub(crate) fn store_control(s: &mut [u8], i: usize, c: Control)
+    requires { ⌜ (i < mostControlIds) × (stateSize ≤ length (now s)) ⌝ }
+    ensures { λ r. ⌜ now (s .exit) ≡ over (controlPlaces + controlSize * i) (written (controlFields c)) (now (s .entry)) ⌝ }
 {
-    let at = 7864 + 21 * i;
-    let end = at + 21;
+    let at = CONTROL_PLACES + CONTROL_SIZE * i;
+    let end = at + CONTROL_SIZE;
     put_control(&mut s[at..end], c);
 }

@@ -2,6 +2,7 @@
 ghost use mathlib.Core.Path.{_≡_};
 ghost use mathlib.Core.Bool.{true};
 ghost use Rattle.isdb_mmt.specs.Limits.{inRange, placesInRange, areasInRange, packetsInRange, lengthsFor, longEnough, neededOf, asked};
+use crate::decoder::layout;
 
 pub struct Limits {
     // How many packet ids of media, packet ids of control messages and kept sections have a place.
@@ -44,31 +45,31 @@ fn in_range(most: u64, x: u64) -> bool
 fn places_in_range(l: Limits) -> bool
     ensures { λ r. ⌜ r ≡ placesInRange l ⌝ }
 {
-    if !in_range(64, l.media_ids) {
+    if !in_range(layout::MOST_MEDIA_IDS, l.media_ids) {
         return false;
     }
-    if !in_range(32, l.control_ids) {
+    if !in_range(layout::MOST_CONTROL_IDS, l.control_ids) {
         return false;
     }
-    in_range(512, l.sections)
+    in_range(layout::MOST_SECTIONS, l.sections)
 }
 
 fn areas_in_range(l: Limits) -> bool
     ensures { λ r. ⌜ r ≡ areasInRange l ⌝ }
 {
-    if !in_range(16777216, l.mfu_area) {
+    if !in_range(layout::MOST_MFU_AREA, l.mfu_area) {
         return false;
     }
-    if !in_range(1048576, l.message_area) {
+    if !in_range(layout::MOST_MESSAGE_AREA, l.message_area) {
         return false;
     }
-    in_range(65539, l.table_area)
+    in_range(layout::MOST_TABLE_AREA, l.table_area)
 }
 
 fn packets_in_range(l: Limits) -> bool
     ensures { λ r. ⌜ r ≡ packetsInRange l ⌝ }
 {
-    in_range(4294967295, l.packets)
+    in_range(layout::MOST_PACKETS, l.packets)
 }
 
 fn lengths_for(l: Limits) -> Lengths
@@ -76,7 +77,7 @@ fn lengths_for(l: Limits) -> Lengths
     ensures { λ r. ⌜ r ≡ lengthsFor l ⌝ }
 {
     Lengths {
-        state: 13144,
+        state: layout::STATE_SIZE as u64,
         objects: l.media_ids * l.mfu_area,
         messages: l.control_ids * l.message_area,
         tables: (l.sections + l.control_ids + 2) * l.table_area,
@@ -98,7 +99,8 @@ fn long_enough(need: Lengths, lent: Lengths) -> bool
     need.tables <= lent.tables
 }
 
-// How long each lent buffer has to be. Limits out of range get the number that an opening would give them.
+// How long each lent buffer has to be. Limits out of range get the number that an opening would give them where the
+// buffers are long enough; of shorter ones an opening says 3 before it asks for packets.
 pub fn needed(l: Limits) -> Need
     ensures { λ r. ⌜ r ≡ neededOf l ⌝ }
 {

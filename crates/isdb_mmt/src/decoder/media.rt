@@ -3,18 +3,23 @@
 ghost use mathlib.Core.Path.{_≡_};
 ghost use Prim.Native.Nat.{_+_, _*_, _≤_, _<_};
 ghost use lib.ListN.{length};
-ghost use Rattle.isdb_tlv.specs.Fields.{written};
-ghost use Rattle.isdb_mmt.specs.Lent.{over, puts};
-ghost use Rattle.isdb_mmt.specs.Session.{numberFields, headerFields, heldObjectOf, objectFields, mediaPlaceOf, mediaFields, mediaAt};
+ghost use Rattle.isdb_tlv.specs.Fields.{written, puts};
+ghost use Rattle.isdb_mmt.specs.Lent.{over};
+ghost use Rattle.isdb_mmt.specs.Layout.{mostMediaIds, mediaPlaces, mediaSize, objectPlace, stateSize};
+ghost use Rattle.isdb_mmt.specs.Session.{numberFields, heldObjectOf, objectFields, mediaPlaceOf, mediaFields, mediaAt};
 use crate::decoder::counts;
 use crate::decoder::counts::AssetStats;
+use crate::decoder::layout::HELD;
+use crate::decoder::layout::MEDIA_PLACES;
+use crate::decoder::layout::MEDIA_SIZE;
+use crate::decoder::layout::OBJECT;
+use crate::decoder::layout::OBJECT_LENGTH;
 use crate::decoder::place::flag;
-use crate::decoder::place::put_flag;
 use crate::mpu::MfuHeader;
 use isdb_tlv::bytes;
 
 // What is known of a held object beside its bytes: fields of its first unit, 0 where absent, and its length so far.
-pub struct Object {
+pub(crate) struct Object {
     pub mpu_sequence_number: u32,
     pub rap: bool,
     // Whether it has an MFU header, and whether an item id.
@@ -25,7 +30,7 @@ pub struct Object {
     pub length: u32,
 }
 
-pub struct Media {
+pub(crate) struct Media {
     pub packet_id: u32,
     // The last packet's number, where there was one.
     pub seen: bool,
@@ -43,20 +48,20 @@ fn object_of(p: &[u8]) -> Object
     ensures { λ r. ⌜ r ≡ heldObjectOf (now (p .entry)) ⌝ }
 {
     let header = MfuHeader {
-        movie_fragment_sequence_number: bytes::get_u32(p, 25),
-        sample_number: bytes::get_u32(p, 29),
-        offset: bytes::get_u32(p, 33),
-        priority: bytes::get_u8(p, 37),
-        dependency_counter: bytes::get_u8(p, 38),
+        movie_fragment_sequence_number: bytes::get_u32(p, OBJECT + 6),
+        sample_number: bytes::get_u32(p, OBJECT + 10),
+        offset: bytes::get_u32(p, OBJECT + 14),
+        priority: bytes::get_u8(p, OBJECT + 18),
+        dependency_counter: bytes::get_u8(p, OBJECT + 19),
     };
     Object {
-        mpu_sequence_number: bytes::get_u32(p, 19),
-        rap: flag(p, 23),
-        timed: flag(p, 24),
+        mpu_sequence_number: bytes::get_u32(p, OBJECT),
+        rap: flag(p, OBJECT + 4),
+        timed: flag(p, OBJECT + 5),
         header,
-        item: flag(p, 39),
-        item_id: bytes::get_u32(p, 40),
-        length: bytes::get_u32(p, 44),
+        item: flag(p, OBJECT + 20),
+        item_id: bytes::get_u32(p, OBJECT + 21),
+        length: bytes::get_u32(p, OBJECT_LENGTH),
     }
 }
 
@@ -72,57 +77,79 @@ fn media_of(p: &[u8]) -> Media
         mpu_seen: flag(p, 9),
         mpu: bytes::get_u32(p, 10),
         first_mpu: bytes::get_u32(p, 14),
-        held: flag(p, 18),
+        held: flag(p, HELD),
         object,
         stats,
     }
 }
 
 // The media place with the index i.
-pub fn load_media(s: &[u8], i: usize) -> Media
-    requires { ⌜ i < 64 ⌝ }
+pub(crate) fn load_media(s: &[u8], i: usize) -> Media
+    requires { ⌜ i < mostMediaIds ⌝ }
     ensures { λ r. ⌜ r ≡ mediaAt (now (s .entry)) i ⌝ }
 {
-    media_of(bytes::part(s, 184 + 120 * i, 120))
+    media_of(bytes::part(s, MEDIA_PLACES + MEDIA_SIZE * i, MEDIA_SIZE))
 }
 
 fn put_numbers(p: &mut [u8], m: Media)
     ensures { λ r. ⌜ now (p .exit) ≡ puts 0 (numberFields m) (now (p .entry)) ⌝ }
 {
-    bytes::put_u32(p, 0, m.packet_id);
-    put_flag(p, 4, m.seen);
-    bytes::put_u32(p, 5, m.sequence);
-    put_flag(p, 9, m.mpu_seen);
-    bytes::put_u32(p, 10, m.mpu);
-    bytes::put_u32(p, 14, m.first_mpu);
-    put_flag(p, 18, m.held);
-}
-
-fn put_header(p: &mut [u8], h: MfuHeader)
-    ensures { λ r. ⌜ now (p .exit) ≡ puts 25 (headerFields h) (now (p .entry)) ⌝ }
-{
-    bytes::put_u32(p, 25, h.movie_fragment_sequence_number);
-    bytes::put_u32(p, 29, h.sample_number);
-    bytes::put_u32(p, 33, h.offset);
-    bytes::put_u8(p, 37, h.priority);
-    bytes::put_u8(p, 38, h.dependency_counter);
+    bytes::put4(
+        p,
+        0,
+        0x4141,
+        m.packet_id as u64,
+        m.seen as u64,
+        m.sequence as u64,
+        m.mpu_seen as u64,
+    );
+    bytes::put4(
+        p,
+        10,
+        0x4410,
+        m.mpu as u64,
+        m.first_mpu as u64,
+        m.held as u64,
+        0,
+    );
 }
 
 fn put_object(p: &mut [u8], o: Object)
-    ensures { λ r. ⌜ now (p .exit) ≡ puts 19 (objectFields o) (now (p .entry)) ⌝ }
+    ensures { λ r. ⌜ now (p .exit) ≡ puts objectPlace (objectFields o) (now (p .entry)) ⌝ }
 {
-    let header = o.header;
-    bytes::put_u32(p, 19, o.mpu_sequence_number);
-    put_flag(p, 23, o.rap);
-    put_flag(p, 24, o.timed);
-    put_header(p, header);
-    put_flag(p, 39, o.item);
-    bytes::put_u32(p, 40, o.item_id);
-    bytes::put_u32(p, 44, o.length);
+    let h = o.header;
+    let sequence = h.movie_fragment_sequence_number as u64;
+    bytes::put4(
+        p,
+        OBJECT,
+        0x4114,
+        o.mpu_sequence_number as u64,
+        o.rap as u64,
+        o.timed as u64,
+        sequence,
+    );
+    bytes::put4(
+        p,
+        OBJECT + 10,
+        0x4411,
+        h.sample_number as u64,
+        h.offset as u64,
+        h.priority as u64,
+        h.dependency_counter as u64,
+    );
+    bytes::put4(
+        p,
+        OBJECT + 20,
+        0x1440,
+        o.item as u64,
+        o.item_id as u64,
+        o.length as u64,
+        0,
+    );
 }
 
 fn put_media(p: &mut [u8], m: Media)
-    requires { ⌜ length (now p) ≡ 120 ⌝ }
+    requires { ⌜ length (now p) ≡ mediaSize ⌝ }
     ensures { λ r. ⌜ now (p .exit) ≡ written (mediaFields m) ⌝ }
 {
     let object = m.object;
@@ -132,11 +159,11 @@ fn put_media(p: &mut [u8], m: Media)
     counts::put_stats(p, stats);
 }
 
-pub fn store_media(s: &mut [u8], i: usize, m: Media)
-    requires { ⌜ (i < 64) × (13144 ≤ length (now s)) ⌝ }
-    ensures { λ r. ⌜ now (s .exit) ≡ over (184 + 120 * i) (written (mediaFields m)) (now (s .entry)) ⌝ }
+pub(crate) fn store_media(s: &mut [u8], i: usize, m: Media)
+    requires { ⌜ (i < mostMediaIds) × (stateSize ≤ length (now s)) ⌝ }
+    ensures { λ r. ⌜ now (s .exit) ≡ over (mediaPlaces + mediaSize * i) (written (mediaFields m)) (now (s .entry)) ⌝ }
 {
-    let at = 184 + 120 * i;
-    let end = at + 120;
+    let at = MEDIA_PLACES + MEDIA_SIZE * i;
+    let end = at + MEDIA_SIZE;
     put_media(&mut s[at..end], m);
 }

@@ -3,40 +3,30 @@
 ghost use mathlib.Core.Path.{_≡_};
 ghost use Prim.Native.Nat.{_+_, _*_, _≤_, _<_};
 ghost use lib.ListN.{length};
-ghost use Rattle.isdb_tlv.specs.Bytes.{putBe};
-ghost use Rattle.isdb_mmt.specs.Lent.{part, over, flag as flagAt, flagByte, namesFrom, distinct, cellOf, amongMarked, foundFrom, seatOf};
+ghost use Rattle.isdb_tlv.specs.Bytes.{be};
+ghost use Rattle.isdb_mmt.specs.Lent.{part, over, flag as flagAt, namesFrom, among, distinct, cellOf, amongMarked, foundFrom, seatOf};
 use isdb_tlv::bytes;
 
-pub fn flag(p: &[u8], at: usize) -> bool
+pub(crate) fn flag(p: &[u8], at: usize) -> bool
     ensures { λ r. ⌜ r ≡ flagAt (now (p .entry)) at ⌝ }
 {
     bytes::get_u8(p, at) != 0
 }
 
-pub fn put_flag(p: &mut [u8], at: usize, x: bool)
-    ensures { λ r. ⌜ now (p .exit) ≡ putBe 1 at (flagByte x) (now (p .entry)) ⌝ }
-{
-    if x {
-        bytes::put_u8(p, at, 1);
-        return;
-    }
-    bytes::put_u8(p, at, 0);
-}
-
-pub enum Found {
+pub(crate) enum Found {
     At(usize),
     Nothing,
 }
 
 // Where a name has its place, or takes the next free one, or that none is free.
-pub enum Seat {
+pub(crate) enum Seat {
     Old(usize),
     New(usize),
     Full,
 }
 
 // The first of n places from at on that has the name x.
-pub fn find(s: &[u8], at: usize, size: usize, n: usize, x: u32) -> Found
+pub(crate) fn find(s: &[u8], at: usize, size: usize, n: usize, x: u32) -> Found
     requires { ⌜ at + n * size ≤ length (now s) ⌝ }
     ensures { λ r. ⌜ r ≡ foundFrom 0 (namesFrom n size at (now (s .entry))) x ⌝ }
 {
@@ -52,7 +42,7 @@ pub fn find(s: &[u8], at: usize, size: usize, n: usize, x: u32) -> Found
     Found::Nothing
 }
 
-pub fn seat_for(s: &[u8], at: usize, size: usize, n: usize, limit: usize, x: u32) -> Seat
+pub(crate) fn seat_for(s: &[u8], at: usize, size: usize, n: usize, limit: usize, x: u32) -> Seat
     requires { ⌜ at + n * size ≤ length (now s) ⌝ }
     ensures { λ r. ⌜ r ≡ seatOf (namesFrom n size at (now (s .entry))) limit x ⌝ }
 {
@@ -67,37 +57,61 @@ pub fn seat_for(s: &[u8], at: usize, size: usize, n: usize, limit: usize, x: u32
     }
 }
 
-// Where a name is marked. Any number below 32,768 would do; this one spreads names that differ in a few bits.
+// Where a name is marked. Any number below 32,768 would do; this one spreads ids that follow one another and keys that differ
+// in a few bits.
 fn cell(x: u32) -> u32
     ensures { λ r. ⌜ (r ≡ cellOf x) × (r < 32768) ⌝ }
 {
-    (x as u64 * 2654435769 % 4294967296 / 131072) as u32
+    (x as u64 * 2654435769 / 16777216 % 32768) as u32
 }
 
-// Whether x is one of n names. An unmarked name is none of them.
+// The number in the 4 bytes from p on. They are there, so that they are read without a test.
+pub(crate) fn word(s: &[u8], p: usize) -> u32
+    requires { ⌜ p + 4 ≤ length (now s) ⌝ }
+    ensures { λ r. ⌜ r ≡ be 4 (now (s .entry)) p ⌝ }
+{
+    let end = p + 4;
+    bytes::get_u32(&s[p..end], 0)
+}
+
+// Whether x is one of n names.
+fn has_name(s: &[u8], at: usize, size: usize, n: usize, x: u32) -> bool
+    requires { ⌜ (4 ≤ size) × (at + n * size ≤ length (now s)) ⌝ }
+    ensures { λ r. ⌜ r ≡ among x (namesFrom n size at (now (s .entry))) ⌝ }
+{
+    let mut i = 0;
+    let mut p = at;
+    while i < n {
+        if word(s, p) == x {
+            return true;
+        }
+        p += size;
+        i += 1;
+    }
+    false
+}
+
+// An unmarked name is none of them.
 fn is_among(s: &[u8], at: usize, size: usize, n: usize, x: u32, mark: u64) -> bool
-    requires { ⌜ at + n * size ≤ length (now s) ⌝ }
+    requires { ⌜ (4 ≤ size) × (at + n * size ≤ length (now s)) ⌝ }
     ensures { λ r. ⌜ r ≡ amongMarked mark x (namesFrom n size at (now (s .entry))) ⌝ }
 {
     if mark == 0 {
         return false;
     }
-    match find(s, at, size, n, x) {
-        Found::At(i) => true,
-        Found::Nothing => false,
-    }
+    has_name(s, at, size, n, x)
 }
 
 // Whether no name stands twice. A name is compared with the earlier ones only where its cell is marked; marks that are there
 // before do not matter.
-pub fn no_name_twice(s: &[u8], at: usize, size: usize, n: usize, marks: &mut [u64]) -> bool
-    requires { ⌜ (at + n * size ≤ length (now s)) × (length (now marks) ≡ 512) ⌝ }
+fn no_name_twice(s: &[u8], at: usize, size: usize, n: usize, marks: &mut [u64]) -> bool
+    requires { ⌜ (4 ≤ size) × ((at + n * size ≤ length (now s)) × (length (now marks) ≡ 512)) ⌝ }
     ensures { λ r. ⌜ r ≡ distinct (namesFrom n size at (now (s .entry))) ⌝ }
 {
     let mut i = 0;
     let mut p = at;
     while i < n {
-        let x = bytes::get_u32(s, p);
+        let x = word(s, p);
         let c = cell(x);
         let k = (c / 64) as usize;
         let b = (c % 64) as u8;
@@ -112,8 +126,44 @@ pub fn no_name_twice(s: &[u8], at: usize, size: usize, n: usize, marks: &mut [u6
     true
 }
 
+fn marked_apart(s: &[u8], at: usize, size: usize, n: usize) -> bool
+    requires { ⌜ (4 ≤ size) × (at + n * size ≤ length (now s)) ⌝ }
+    ensures { λ r. ⌜ r ≡ distinct (namesFrom n size at (now (s .entry))) ⌝ }
+{
+    let mut marks = [0u64; 512];
+    no_name_twice(s, at, size, n, &mut marks)
+}
+
+// Each name compared with all earlier ones.
+fn pairs_apart(s: &[u8], at: usize, size: usize, n: usize) -> bool
+    requires { ⌜ (4 ≤ size) × (at + n * size ≤ length (now s)) ⌝ }
+    ensures { λ r. ⌜ r ≡ distinct (namesFrom n size at (now (s .entry))) ⌝ }
+{
+    let mut i = 0;
+    let mut p = at;
+    while i < n {
+        if has_name(s, at, size, i, word(s, p)) {
+            return false;
+        }
+        p += size;
+        i += 1;
+    }
+    true
+}
+
+// Whether no name stands twice. A few names are compared before marks would be cleared.
+pub(crate) fn names_apart(s: &[u8], at: usize, size: usize, n: usize) -> bool
+    requires { ⌜ (4 ≤ size) × (at + n * size ≤ length (now s)) ⌝ }
+    ensures { λ r. ⌜ r ≡ distinct (namesFrom n size at (now (s .entry))) ⌝ }
+{
+    if n <= 12 {
+        return pairs_apart(s, at, size, n);
+    }
+    marked_apart(s, at, size, n)
+}
+
 // The n bytes from the start of area i.
-pub fn in_area(s: &[u8], i: usize, area: usize, n: usize) -> &[u8]
+pub(crate) fn in_area(s: &[u8], i: usize, area: usize, n: usize) -> &[u8]
     requires { ⌜ (i + 1) * area ≤ length (now s) ⌝ }
     ensures { λ r. ⌜ now r ≡ part (i * area) n (now (s .entry)) ⌝ }
 {
@@ -121,7 +171,7 @@ pub fn in_area(s: &[u8], i: usize, area: usize, n: usize) -> &[u8]
 }
 
 // Some bytes, from a place of area i on.
-pub fn put_in_area(s: &mut [u8], i: usize, area: usize, from: usize, b: &[u8])
+pub(crate) fn put_in_area(s: &mut [u8], i: usize, area: usize, from: usize, b: &[u8])
     requires { ⌜ i * area + from + length (now b) ≤ length (now s) ⌝ }
     ensures { λ r. ⌜ now (s .exit) ≡ over (i * area + from) (now (b .entry)) (now (s .entry)) ⌝ }
 {

@@ -4,10 +4,13 @@ ghost use Prim.Native.Nat.{_+_, _*_, _≤_, _<_};
 ghost use lib.ListN.{length};
 ghost use Rattle.isdb_tlv.specs.Fields.{written};
 ghost use Rattle.isdb_mmt.specs.Lent.{over};
+ghost use Rattle.isdb_mmt.specs.Layout.{mostSections, sectionPlaces, sectionSize, stateSize};
 ghost use Rattle.isdb_mmt.specs.Session.{sectionPlaceOf, sectionFields, sectionAt};
+use crate::decoder::layout::SECTION_PLACES;
+use crate::decoder::layout::SECTION_SIZE;
 use isdb_tlv::bytes;
 
-pub struct KeptSection {
+pub(crate) struct KeptSection {
     // Table id, table id extension and section number.
     pub key: u32,
     pub version: u8,
@@ -25,27 +28,33 @@ fn section_of(p: &[u8]) -> KeptSection
 }
 
 // The section place with the index i.
-pub fn load_section(s: &[u8], i: usize) -> KeptSection
-    requires { ⌜ i < 512 ⌝ }
+pub(crate) fn load_section(s: &[u8], i: usize) -> KeptSection
+    requires { ⌜ i < mostSections ⌝ }
     ensures { λ r. ⌜ r ≡ sectionAt (now (s .entry)) i ⌝ }
 {
-    section_of(bytes::part(s, 8536 + 9 * i, 9))
+    section_of(bytes::part(s, SECTION_PLACES + SECTION_SIZE * i, SECTION_SIZE))
 }
 
 fn put_section(p: &mut [u8], x: KeptSection)
-    requires { ⌜ length (now p) ≡ 9 ⌝ }
+    requires { ⌜ length (now p) ≡ sectionSize ⌝ }
     ensures { λ r. ⌜ now (p .exit) ≡ written (sectionFields x) ⌝ }
 {
-    bytes::put_u32(p, 0, x.key);
-    bytes::put_u8(p, 4, x.version);
-    bytes::put_u32(p, 5, x.length);
+    bytes::put4(
+        p,
+        0,
+        0x4140,
+        x.key as u64,
+        x.version as u64,
+        x.length as u64,
+        0,
+    );
 }
 
-pub fn store_section(s: &mut [u8], i: usize, x: KeptSection)
-    requires { ⌜ (i < 512) × (13144 ≤ length (now s)) ⌝ }
-    ensures { λ r. ⌜ now (s .exit) ≡ over (8536 + 9 * i) (written (sectionFields x)) (now (s .entry)) ⌝ }
+pub(crate) fn store_section(s: &mut [u8], i: usize, x: KeptSection)
+    requires { ⌜ (i < mostSections) × (stateSize ≤ length (now s)) ⌝ }
+    ensures { λ r. ⌜ now (s .exit) ≡ over (sectionPlaces + sectionSize * i) (written (sectionFields x)) (now (s .entry)) ⌝ }
 {
-    let at = 8536 + 9 * i;
-    let end = at + 9;
+    let at = SECTION_PLACES + SECTION_SIZE * i;
+    let end = at + SECTION_SIZE;
     put_section(&mut s[at..end], x);
 }

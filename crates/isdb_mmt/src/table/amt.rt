@@ -1,8 +1,9 @@
 // AMT (ARIB STD-B60, Table 5-2): the IP flow of each service.
+// Translated from table.rs of isdb-rs (Apache-2.0, see NOTICE) and changed.
 ghost use mathlib.Core.Path.{_≡_};
 ghost use Prim.Native.Nat.{_≤_, _<_};
-ghost use lib.ListN.{length};
 ghost use Rattle.isdb_mmt.specs.Amt.{addressAt, addressSize, flowOf, serviceAt, servicesWhole, amtBody, amtOf};
+use crate::part;
 use crate::table::section;
 use crate::table::section::LongSection;
 use crate::table::section::SectionError;
@@ -68,10 +69,7 @@ fn flow_of(b: &[u8], id: u16, size: usize, wide: bool) -> AmtService
 pub fn service_at(body: &[u8], at: usize) -> AmtStep
     ensures { λ r. ⌜ r ≡ serviceAt (now (body .entry)) at ⌝ }
 {
-    if body.len() < at {
-        return AmtStep::Malformed;
-    }
-    if body.len() - at < 4 {
+    if part::left(body, at) < 4 {
         return AmtStep::Malformed;
     }
     let start = at + 4;
@@ -132,6 +130,9 @@ pub fn parse(b: &[u8]) -> AmtResult
 {
     match section::long_section(b) {
         LongSection::Err(e) => AmtResult::Err(e),
-        LongSection::Ok(header, n) => read(header, section::body(b, n)),
+        LongSection::Ok(header) => {
+            let body = header.body;
+            read(header, body.of(b))
+        }
     }
 }

@@ -1,6 +1,7 @@
 // MH-BIT (ARIB STD-B60, Table 7-21): the broadcasters of a network.
+// Translated from table.rs of isdb-rs (Apache-2.0, see NOTICE) and changed.
 ghost use mathlib.Core.Path.{_≡_};
-ghost use Rattle.isdb_mmt.specs.Bit.{bitBody, bitOf, broadcasterOf, broadcasterStep};
+ghost use Rattle.isdb_mmt.specs.Bit.{told, bitBody, bitOf, broadcasterOf, broadcasterStep};
 use crate::part::Part;
 use crate::table::section;
 use crate::table::section::Entry;
@@ -28,35 +29,35 @@ pub struct BitParsed {
     pub breaks: usize,
 }
 
+fn refused(e: SectionError, breaks: usize) -> BitParsed
+    ensures { λ r. ⌜ r ≡ told (BitResult.Err e) breaks ⌝ }
+{
+    BitParsed {
+        result: BitResult::Err(e),
+        breaks,
+    }
+}
+
 // The body of a section whose header has been read.
 pub fn read(header: SectionHeader, body: &[u8]) -> BitParsed
     ensures { λ r. ⌜ r ≡ bitBody header (now (body .entry)) ⌝ }
 {
     if body.len() < 2 {
-        return BitParsed {
-            result: BitResult::Err(SectionError::Malformed),
-            breaks: 0,
-        };
+        return refused(SectionError::Malformed, 0);
     }
     let n = bytes::get_u12(body, 0) as usize;
     let end = n + 2;
     if body.len() < end {
-        return BitParsed {
-            result: BitResult::Err(SectionError::Malformed),
-            breaks: 0,
-        };
+        return refused(SectionError::Malformed, 0);
     }
-    let first = section::broken(&body[2..end]);
+    let first = section::broken(bytes::part(body, 2, n));
     let l = section::read_entries(body, 1, end);
     let breaks = first + l.breaks;
     if !l.whole {
-        return BitParsed {
-            result: BitResult::Err(SectionError::Malformed),
-            breaks,
-        };
+        return refused(SectionError::Malformed, breaks);
     }
     let bit = Bit {
-        broadcast_view_propriety: body[0] / 16 % 2 == 1,
+        broadcast_view_propriety: bytes::get_u8(body, 0) / 16 % 2 == 1,
         descriptors: Part {
             start: 2,
             length: n,
@@ -74,11 +75,11 @@ pub fn parse(b: &[u8]) -> BitParsed
     ensures { λ r. ⌜ r ≡ bitOf (now (b .entry)) ⌝ }
 {
     match section::long_section(b) {
-        LongSection::Err(e) => BitParsed {
-            result: BitResult::Err(e),
-            breaks: 0,
-        },
-        LongSection::Ok(header, n) => read(header, section::body(b, n)),
+        LongSection::Err(e) => refused(e, 0),
+        LongSection::Ok(header) => {
+            let body = header.body;
+            read(header, body.of(b))
+        }
     }
 }
 

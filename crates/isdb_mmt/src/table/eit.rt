@@ -1,7 +1,8 @@
 // MH-EIT (ARIB STD-B60, Table 7-18): the events of a service.
+// Translated from table.rs of isdb-rs (Apache-2.0, see NOTICE) and changed.
 ghost use mathlib.Core.Path.{_≡_};
 ghost use Rattle.isdb_mmt.specs.Desc.{firstOf};
-ghost use Rattle.isdb_mmt.specs.Eit.{eitBody, eitOf, eventOf, eventStep};
+ghost use Rattle.isdb_mmt.specs.Eit.{told, eitBody, eitOf, eventOf, eventStep};
 use crate::desc;
 use crate::desc::Found;
 use crate::part::Part;
@@ -33,28 +34,31 @@ pub struct EitParsed {
     pub breaks: usize,
 }
 
+fn refused(e: SectionError, breaks: usize) -> EitParsed
+    ensures { λ r. ⌜ r ≡ told (EitResult.Err e) breaks ⌝ }
+{
+    EitParsed {
+        result: EitResult::Err(e),
+        breaks,
+    }
+}
+
 // The body of a section whose header has been read.
 pub fn read(header: SectionHeader, body: &[u8]) -> EitParsed
     ensures { λ r. ⌜ r ≡ eitBody header (now (body .entry)) ⌝ }
 {
     if body.len() < 6 {
-        return EitParsed {
-            result: EitResult::Err(SectionError::Malformed),
-            breaks: 0,
-        };
+        return refused(SectionError::Malformed, 0);
     }
     let l = section::read_entries(body, 10, 6);
     if !l.whole {
-        return EitParsed {
-            result: EitResult::Err(SectionError::Malformed),
-            breaks: l.breaks,
-        };
+        return refused(SectionError::Malformed, l.breaks);
     }
     let eit = Eit {
         tlv_stream_id: bytes::get_u16(body, 0),
         original_network_id: bytes::get_u16(body, 2),
-        segment_last_section_number: body[4],
-        last_table_id: body[5],
+        segment_last_section_number: bytes::get_u8(body, 4),
+        last_table_id: bytes::get_u8(body, 5),
         events: l.count,
     };
     EitParsed {
@@ -68,11 +72,11 @@ pub fn parse(b: &[u8]) -> EitParsed
     ensures { λ r. ⌜ r ≡ eitOf (now (b .entry)) ⌝ }
 {
     match section::long_section(b) {
-        LongSection::Err(e) => EitParsed {
-            result: EitResult::Err(e),
-            breaks: 0,
-        },
-        LongSection::Ok(header, n) => read(header, section::body(b, n)),
+        LongSection::Err(e) => refused(e, 0),
+        LongSection::Ok(header) => {
+            let body = header.body;
+            read(header, body.of(b))
+        }
     }
 }
 

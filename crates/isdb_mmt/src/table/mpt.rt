@@ -1,15 +1,17 @@
 // MPT (ARIB STD-B60, Table 7-6): the assets of a package, with their locations.
+// Translated from table.rs of isdb-rs (Apache-2.0, see NOTICE) and changed.
 ghost use mathlib.Core.Path.{_≡_};
-ghost use Prim.Native.Nat.{_+_, _≤_, _<_};
+ghost use Prim.Native.Nat.{_+_, _≤_};
 ghost use lib.ListN.{length, drop};
 ghost use Rattle.isdb_mmt.specs.Location.{locationOf};
-ghost use Rattle.isdb_mmt.specs.Mpt.{declaredLength, locationsEnd, assetFields, assetAt, assetsTold, mptAssets, mptTable, mptOf, serviceId, firstPacketId, locationsOf, componentTag};
+ghost use Rattle.isdb_mmt.specs.Mpt.{declaredLength, locationsEnd, assetFields, assetAt, assetsTold, told, mptAssets, mptTable, mptOf, serviceId, firstPacketId, locationsOf, componentTag};
 use crate::desc;
 use crate::desc::Descriptor;
 use crate::desc::Found;
 use crate::location::Located;
 use crate::location::Location;
 use crate::maybe::MaybeU16;
+use crate::part;
 use crate::part::Part;
 use crate::table::section;
 use isdb_tlv::bytes;
@@ -52,6 +54,13 @@ pub enum AssetStep {
     Asset(Asset, usize),
 }
 
+// The location at a place: the next one stands behind the bytes it took.
+pub fn location_at(t: &[u8], at: usize) -> Located
+    ensures { λ r. ⌜ r ≡ locationOf (drop at (now (t .entry))) ⌝ }
+{
+    Location::parse(bytes::rest(t, at))
+}
+
 // Behind n locations, the first of which stands at a place.
 fn locations_end(t: &[u8], n: u8, from: usize) -> Place
     ensures { λ r. ⌜ r ≡ locationsEnd n (now (t .entry)) from ⌝ }
@@ -59,23 +68,13 @@ fn locations_end(t: &[u8], n: u8, from: usize) -> Place
     let mut at = from;
     let mut left = n;
     while 0 < left {
-        if t.len() < at {
-            return Place::None;
-        }
-        match Location::parse(&t[at..]) {
+        match location_at(t, at) {
             Located::None => return Place::None,
             Located::Some(_, taken) => at += taken,
         }
         left -= 1;
     }
     Place::At(at)
-}
-
-// The location at a place: the next one stands behind the bytes it took.
-pub fn location_at(t: &[u8], at: usize) -> Located
-    ensures { λ r. ⌜ r ≡ locationOf (drop at (now (t .entry))) ⌝ }
-{
-    Location::parse(bytes::rest(t, at))
 }
 
 // The asset at p whose type stands at q and whose descriptors' length stands at end.
@@ -91,17 +90,19 @@ fn asset_fields(t: &[u8], p: usize, q: usize, end: usize) -> AssetStep
     if t.len() - start < length {
         return AssetStep::Malformed;
     }
+    let head = bytes::rest(t, p);
+    let tail = bytes::rest(t, q);
     AssetStep::Asset(
         Asset {
-            identifier_type: bytes::get_u8(t, p),
-            asset_id_scheme: bytes::get_u32(t, p + 1),
+            identifier_type: bytes::get_u8(head, 0),
+            asset_id_scheme: bytes::get_u32(head, 1),
             asset_id: Part {
                 start: p + 6,
-                length: bytes::get_u8(t, p + 5) as usize,
+                length: bytes::get_u8(head, 5) as usize,
             },
-            asset_type: bytes::get_u32(t, q),
-            clock_relation: bytes::get_u8(t, q + 4) % 2 == 1,
-            locations: bytes::get_u8(t, q + 5),
+            asset_type: bytes::get_u32(tail, 0),
+            clock_relation: bytes::get_u8(tail, 4) % 2 == 1,
+            locations: bytes::get_u8(tail, 5),
             locations_start: q + 6,
             descriptors: Part { start, length },
         },
@@ -113,20 +114,17 @@ fn asset_fields(t: &[u8], p: usize, q: usize, end: usize) -> AssetStep
 pub fn asset_at(t: &[u8], at: usize) -> AssetStep
     ensures { λ r. ⌜ r ≡ assetAt (now (t .entry)) at ⌝ }
 {
-    if t.len() < at {
+    if part::left(t, at) < 6 {
         return AssetStep::Malformed;
     }
-    if t.len() - at < 6 {
-        return AssetStep::Malformed;
-    }
-    let q = at + 6 + t[at + 5] as usize;
+    let q = at + 6 + bytes::get_u8(t, at + 5) as usize;
     if t.len() < q {
         return AssetStep::Malformed;
     }
     if t.len() - q < 6 {
         return AssetStep::Malformed;
     }
-    match locations_end(t, t[q + 5], q + 6) {
+    match locations_end(t, bytes::get_u8(t, q + 5), q + 6) {
         Place::None => AssetStep::Malformed,
         Place::At(end) => asset_fields(t, at, q, end),
     }
@@ -189,41 +187,45 @@ pub struct MptParsed {
     pub breaks: usize,
 }
 
+fn no_table(breaks: usize) -> MptParsed
+    ensures { λ r. ⌜ r ≡ told MaybeMpt.None breaks ⌝ }
+{
+    MptParsed {
+        mpt: MaybeMpt::None,
+        breaks,
+    }
+}
+
 // From the descriptors on, which stand at start and are n bytes long.
 fn read_assets(t: &[u8], start: usize, n: usize) -> MptParsed
-    requires { ⌜ (6 ≤ start) × (start + n ≤ length (now t)) ⌝ }
+    requires { ⌜ start + n ≤ length (now t) ⌝ }
     ensures { λ r. ⌜ r ≡ mptAssets (now (t .entry)) start n ⌝ }
 {
     let end = start + n;
-    let own = section::broken(&t[start..end]);
+    let own = section::broken(bytes::part(t, start, n));
     if t.len() - end < 1 {
-        return MptParsed {
-            mpt: MaybeMpt::None,
-            breaks: own,
-        };
+        return no_table(own);
     }
-    let count = t[end];
+    let count = bytes::get_u8(t, end);
     let l = read_loop(t, count, end + 1);
+    let breaks = own + l.breaks;
     if !l.whole {
-        return MptParsed {
-            mpt: MaybeMpt::None,
-            breaks: own + l.breaks,
-        };
+        return no_table(breaks);
     }
     MptParsed {
         mpt: MaybeMpt::Some(Mpt {
-            table_id: t[0],
-            version: t[1],
-            mode: t[4] % 4,
+            table_id: bytes::get_u8(t, 0),
+            version: bytes::get_u8(t, 1),
+            mode: bytes::get_u8(t, 4) % 4,
             package_id: Part {
                 start: 6,
-                length: t[5] as usize,
+                length: bytes::get_u8(t, 5) as usize,
             },
             descriptors: Part { start, length: n },
             assets: count,
             start: end + 1,
         }),
-        breaks: own + l.breaks,
+        breaks,
     }
 }
 
@@ -232,24 +234,15 @@ fn read(t: &[u8]) -> MptParsed
     ensures { λ r. ⌜ r ≡ mptTable (now (t .entry)) ⌝ }
 {
     if t.len() < 6 {
-        return MptParsed {
-            mpt: MaybeMpt::None,
-            breaks: 0,
-        };
+        return no_table(0);
     }
-    let start = t[5] as usize + 8;
+    let start = bytes::get_u8(t, 5) as usize + 8;
     if t.len() < start {
-        return MptParsed {
-            mpt: MaybeMpt::None,
-            breaks: 0,
-        };
+        return no_table(0);
     }
     let length = bytes::get_u16(t, start - 2) as usize;
     if t.len() - start < length {
-        return MptParsed {
-            mpt: MaybeMpt::None,
-            breaks: 0,
-        };
+        return no_table(0);
     }
     read_assets(t, start, length)
 }
@@ -259,10 +252,7 @@ pub fn parse(b: &[u8]) -> MptParsed
     ensures { λ r. ⌜ r ≡ mptOf (now (b .entry)) ⌝ }
 {
     match declared_length(b) {
-        Place::None => MptParsed {
-            mpt: MaybeMpt::None,
-            breaks: 0,
-        },
+        Place::None => no_table(0),
         Place::At(n) => read(bytes::part(b, 0, n)),
     }
 }

@@ -1,10 +1,11 @@
 // TLV-NIT (ARIB STD-B60, Table 5-1): the TLV streams of a network, with TLV-SI descriptors (5.3), which have a tag and a
 // length of 8 bits each.
+// Translated from table.rs of isdb-rs (Apache-2.0, see NOTICE) and changed.
 ghost use mathlib.Core.Path.{_≡_};
-ghost use Prim.Native.Nat.{_≤_, _<_};
-ghost use lib.ListN.{length};
-ghost use Rattle.isdb_mmt.specs.Nit.{nitBody, nitOf, streamOf, streamStep, tlvStepAt, digit, bcdFrom, frequencyOf, networkName};
+ghost use Prim.Native.Nat.{_≤_};
+ghost use Rattle.isdb_mmt.specs.Nit.{nitBody, nitOf, streamOf, streamStep, tlvStepAt, digit, bcdFrom, frequencyOf, wholeBody, networkName, serviceList};
 use crate::maybe::MaybeU64;
+use crate::part;
 use crate::part::Part;
 use crate::table::section;
 use crate::table::section::Entry;
@@ -40,10 +41,10 @@ pub fn read(header: SectionHeader, body: &[u8]) -> NitResult
         return malformed();
     }
     let n = bytes::get_u12(body, 0) as usize;
-    if body.len() < n + 4 {
+    let start = n + 4;
+    if body.len() < start {
         return malformed();
     }
-    let start = n + 4;
     let length = bytes::get_u12(body, n + 2) as usize;
     if body.len() - start < length {
         return malformed();
@@ -71,7 +72,10 @@ pub fn parse(b: &[u8]) -> NitResult
 {
     match section::long_section(b) {
         LongSection::Err(e) => NitResult::Err(e),
-        LongSection::Ok(header, n) => read(header, section::body(b, n)),
+        LongSection::Ok(header) => {
+            let body = header.body;
+            read(header, body.of(b))
+        }
     }
 }
 
@@ -121,19 +125,16 @@ pub enum TlvStep {
 pub fn next_tlv(b: &[u8], at: usize) -> TlvStep
     ensures { λ r. ⌜ r ≡ tlvStepAt (now (b .entry)) at ⌝ }
 {
-    if b.len() < at {
-        return TlvStep::End;
-    }
-    if b.len() - at < 2 {
+    if part::left(b, at) < 2 {
         return TlvStep::End;
     }
     let start = at + 2;
-    let length = b[at + 1] as usize;
+    let length = bytes::get_u8(b, at + 1) as usize;
     if b.len() - start < length {
         return TlvStep::End;
     }
     TlvStep::Descriptor {
-        tag: b[at],
+        tag: bytes::get_u8(b, at),
         body: Part { start, length },
         next: start + length,
     }
@@ -186,15 +187,29 @@ pub enum MaybePart {
     Some(Part),
 }
 
-// The text of a network name descriptor (tag 40h): its whole body.
-pub fn network_name(tag: u8, b: &[u8]) -> MaybePart
-    ensures { λ r. ⌜ r ≡ networkName tag (now (b .entry)) ⌝ }
+// The whole body of a descriptor, where its tag is the wanted one.
+fn whole_body(wanted: u8, tag: u8, b: &[u8]) -> MaybePart
+    ensures { λ r. ⌜ r ≡ wholeBody wanted tag (now (b .entry)) ⌝ }
 {
-    if tag != 0x40 {
+    if tag != wanted {
         return MaybePart::None;
     }
     MaybePart::Some(Part {
         start: 0,
         length: b.len(),
     })
+}
+
+// The text of a network name descriptor (tag 40h).
+pub fn network_name(tag: u8, b: &[u8]) -> MaybePart
+    ensures { λ r. ⌜ r ≡ networkName tag (now (b .entry)) ⌝ }
+{
+    whole_body(0x40, tag, b)
+}
+
+// The entries of a service list descriptor (tag 41h), which desc::next_service walks.
+pub fn service_list(tag: u8, b: &[u8]) -> MaybePart
+    ensures { λ r. ⌜ r ≡ serviceList tag (now (b .entry)) ⌝ }
+{
+    whole_body(0x41, tag, b)
 }

@@ -1,10 +1,10 @@
 // PLT (ARIB STD-B60, Table 7-11): where each package's PA message travels, and the IP services.
+// Translated from table.rs of isdb-rs (Apache-2.0, see NOTICE) and changed.
 ghost use mathlib.Core.Path.{_≡_};
-ghost use Prim.Native.Nat.{_≤_, _<_};
-ghost use lib.ListN.{length};
-ghost use Rattle.isdb_mmt.specs.Plt.{packageAt, packagesEnd, deliverySize, deliveryAt, deliveriesWhole, pltDeliveries, pltTable, pltOf};
+ghost use Rattle.isdb_mmt.specs.Plt.{packageAt, packagesEnd, deliverySize, deliveryAt, deliveriesWhole, pltWith, pltDeliveries, pltTable, pltOf};
 use crate::location::Located;
 use crate::location::Location;
+use crate::part;
 use crate::part::Part;
 use crate::table::mpt;
 use crate::table::mpt::Place;
@@ -29,13 +29,13 @@ pub fn package_at(t: &[u8], at: usize) -> PackageStep
     if t.len() <= at {
         return PackageStep::Malformed;
     }
-    let n = t[at] as usize;
+    let n = bytes::get_u8(t, at) as usize;
     let start = at + 1;
     if t.len() - start < n {
         return PackageStep::Malformed;
     }
     let q = start + n;
-    match Location::parse(&t[q..]) {
+    match mpt::location_at(t, q) {
         Located::None => PackageStep::Malformed,
         Located::Some(location, taken) => PackageStep::Package(
             Package {
@@ -78,34 +78,28 @@ pub enum DeliveryStep {
 fn delivery_size(b: &[u8]) -> Place
     ensures { λ r. ⌜ r ≡ deliverySize (now (b .entry)) ⌝ }
 {
-    let t = bytes::get_u8(b, 0);
-    if t == 1 {
-        return Place::At(10);
+    match bytes::get_u8(b, 0) {
+        1 => Place::At(10),
+        2 => Place::At(34),
+        5 => {
+            if b.len() < 2 {
+                return Place::None;
+            }
+            Place::At(bytes::get_u8(b, 1) as usize + 1)
+        }
+        _ => Place::None,
     }
-    if t == 2 {
-        return Place::At(34);
-    }
-    if t != 5 {
-        return Place::None;
-    }
-    if b.len() < 2 {
-        return Place::None;
-    }
-    Place::At(b[1] as usize + 1)
 }
 
 // The IP delivery at a place of a table. Its descriptors' length is not held against the end of the table.
 pub fn delivery_at(t: &[u8], at: usize) -> DeliveryStep
     ensures { λ r. ⌜ r ≡ deliveryAt (now (t .entry)) at ⌝ }
 {
-    if t.len() < at {
-        return DeliveryStep::Malformed;
-    }
-    if t.len() - at < 5 {
+    if part::left(t, at) < 5 {
         return DeliveryStep::Malformed;
     }
     let p = at + 4;
-    match delivery_size(&t[p..]) {
+    match delivery_size(bytes::rest(t, p)) {
         Place::None => DeliveryStep::Malformed,
         Place::At(n) => {
             let start = at + 7 + n;
@@ -115,7 +109,7 @@ pub fn delivery_at(t: &[u8], at: usize) -> DeliveryStep
             DeliveryStep::Delivery(
                 IpDelivery {
                     transport_file_id: bytes::get_u32(t, at),
-                    location_type: t[p],
+                    location_type: bytes::get_u8(t, p),
                 },
                 start + bytes::get_u16(t, at + 5 + n) as usize,
             )
@@ -153,30 +147,30 @@ pub enum MaybePlt {
     Some(Plt),
 }
 
+// A table with n deliveries, the first of which stands at start.
+fn plt_with(t: &[u8], n: u8, start: usize) -> MaybePlt
+    ensures { λ r. ⌜ r ≡ pltWith (now (t .entry)) n start ⌝ }
+{
+    MaybePlt::Some(Plt {
+        version: bytes::get_u8(t, 1),
+        packages: bytes::get_u8(t, 4),
+        ip_deliveries: n,
+        deliveries_start: start,
+    })
+}
+
 // From the number of deliveries on, which may be absent.
 fn read_deliveries(t: &[u8], at: usize) -> MaybePlt
-    requires { ⌜ 5 ≤ length (now t) ⌝ }
     ensures { λ r. ⌜ r ≡ pltDeliveries (now (t .entry)) at ⌝ }
 {
-    let m = bytes::get_u8(t, at);
-    let rest = bytes::rest(t, at);
-    if rest.len() == 0 {
-        return MaybePlt::Some(Plt {
-            version: t[1],
-            packages: t[4],
-            ip_deliveries: 0,
-            deliveries_start: at,
-        });
+    if part::left(t, at) == 0 {
+        return plt_with(t, 0, at);
     }
-    if !deliveries_whole(t, m, at + 1) {
+    let n = bytes::get_u8(t, at);
+    if !deliveries_whole(t, n, at + 1) {
         return MaybePlt::None;
     }
-    MaybePlt::Some(Plt {
-        version: t[1],
-        packages: t[4],
-        ip_deliveries: m,
-        deliveries_start: at + 1,
-    })
+    plt_with(t, n, at + 1)
 }
 
 // A table cut to its declared bytes.
@@ -186,7 +180,7 @@ fn read(t: &[u8]) -> MaybePlt
     if t.len() < 5 {
         return MaybePlt::None;
     }
-    match packages_end(t, t[4], 5) {
+    match packages_end(t, bytes::get_u8(t, 4), 5) {
         Place::None => MaybePlt::None,
         Place::At(at) => read_deliveries(t, at),
     }

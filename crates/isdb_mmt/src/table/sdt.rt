@@ -1,7 +1,8 @@
 // MH-SDT (ARIB STD-B60, Table 7-23): the services of a TLV stream.
+// Translated from table.rs of isdb-rs (Apache-2.0, see NOTICE) and changed.
 ghost use mathlib.Core.Path.{_≡_};
 ghost use Rattle.isdb_mmt.specs.Desc.{firstOf};
-ghost use Rattle.isdb_mmt.specs.Sdt.{sdtBody, sdtOf, serviceOf, serviceStep};
+ghost use Rattle.isdb_mmt.specs.Sdt.{told, sdtBody, sdtOf, serviceOf, serviceStep};
 use crate::desc;
 use crate::desc::Found;
 use crate::part::Part;
@@ -30,22 +31,25 @@ pub struct SdtParsed {
     pub breaks: usize,
 }
 
+fn refused(e: SectionError, breaks: usize) -> SdtParsed
+    ensures { λ r. ⌜ r ≡ told (SdtResult.Err e) breaks ⌝ }
+{
+    SdtParsed {
+        result: SdtResult::Err(e),
+        breaks,
+    }
+}
+
 // The body of a section whose header has been read.
 pub fn read(header: SectionHeader, body: &[u8]) -> SdtParsed
     ensures { λ r. ⌜ r ≡ sdtBody header (now (body .entry)) ⌝ }
 {
     if body.len() < 2 {
-        return SdtParsed {
-            result: SdtResult::Err(SectionError::Malformed),
-            breaks: 0,
-        };
+        return refused(SectionError::Malformed, 0);
     }
     let l = section::read_entries(body, 3, 3);
     if !l.whole {
-        return SdtParsed {
-            result: SdtResult::Err(SectionError::Malformed),
-            breaks: l.breaks,
-        };
+        return refused(SectionError::Malformed, l.breaks);
     }
     let sdt = Sdt {
         original_network_id: bytes::get_u16(body, 0),
@@ -62,11 +66,11 @@ pub fn parse(b: &[u8]) -> SdtParsed
     ensures { λ r. ⌜ r ≡ sdtOf (now (b .entry)) ⌝ }
 {
     match section::long_section(b) {
-        LongSection::Err(e) => SdtParsed {
-            result: SdtResult::Err(e),
-            breaks: 0,
-        },
-        LongSection::Ok(header, n) => read(header, section::body(b, n)),
+        LongSection::Err(e) => refused(e, 0),
+        LongSection::Ok(header) => {
+            let body = header.body;
+            read(header, body.of(b))
+        }
     }
 }
 

@@ -1,10 +1,9 @@
 // The long-form section that MH-EIT, MH-SDT, MH-BIT, TLV-NIT and AMT share (ARIB STD-B60, 7.2.3.2), and the entries of
 // their loops.
+// Translated from table.rs of isdb-rs (Apache-2.0, see NOTICE) and changed.
 ghost use mathlib.Core.Path.{_≡_};
-ghost use Prim.Native.Nat.{_≤_, _<_};
-ghost use lib.ListN.{length};
 ghost use Rattle.isdb_mmt.specs.Desc.{broken as brokenLoop};
-ghost use Rattle.isdb_mmt.specs.Section.{headerOf, longSectionOf, bodyOf, entryAt, entriesTold, entriesFrom};
+ghost use Rattle.isdb_mmt.specs.Section.{headerOf, longSectionOf, entryAt, entriesTold, entriesFrom};
 use crate::desc;
 use crate::part::Part;
 use isdb_tlv::bytes;
@@ -19,6 +18,8 @@ pub struct SectionHeader {
     pub current: bool,
     pub section_number: u8,
     pub last_section_number: u8,
+    // Between the header and the CRC.
+    pub body: Part,
 }
 
 // Why a section was not read.
@@ -31,27 +32,31 @@ pub enum SectionError {
     Malformed,
 }
 
-// A good section: its header, and the length of its body, which starts at 8.
 pub enum LongSection {
-    Ok(SectionHeader, usize),
+    Ok(SectionHeader),
     Err(SectionError),
 }
 
-fn header_of(b: &[u8]) -> SectionHeader
-    requires { ⌜ 8 ≤ length (now b) ⌝ }
-    ensures { λ r. ⌜ r ≡ headerOf (now (b .entry)) ⌝ }
+// The header of a section whose body has n bytes.
+fn header_of(b: &[u8], n: usize) -> SectionHeader
+    ensures { λ r. ⌜ r ≡ headerOf (now (b .entry)) n ⌝ }
 {
+    let flags = bytes::get_u8(b, 5);
     SectionHeader {
-        table_id: b[0],
+        table_id: bytes::get_u8(b, 0),
         extension: bytes::get_u16(b, 3),
-        version: b[5] / 2 % 32,
-        current: b[5] % 2 == 1,
-        section_number: b[6],
-        last_section_number: b[7],
+        version: flags / 2 % 32,
+        current: flags % 2 == 1,
+        section_number: bytes::get_u8(b, 6),
+        last_section_number: bytes::get_u8(b, 7),
+        body: Part {
+            start: 8,
+            length: n,
+        },
     }
 }
 
-// Header and CRC of a long-form section.
+// A long-form section: its header, where its length and its CRC are good.
 pub fn long_section(b: &[u8]) -> LongSection
     ensures { λ r. ⌜ r ≡ longSectionOf (now (b .entry)) ⌝ }
 {
@@ -66,17 +71,10 @@ pub fn long_section(b: &[u8]) -> LongSection
     if b.len() < end {
         return LongSection::Err(SectionError::Truncated);
     }
-    if crc::crc32(&b[..end]) != 0 {
+    if crc::crc32(bytes::part(b, 0, end)) != 0 {
         return LongSection::Err(SectionError::Crc);
     }
-    LongSection::Ok(header_of(b), n - 9)
-}
-
-// The body of a good section b whose length long_section told.
-pub fn body(b: &[u8], n: usize) -> &[u8]
-    ensures { λ r. ⌜ now r ≡ bodyOf (now (b .entry)) n ⌝ }
-{
-    bytes::part(b, 8, n)
+    LongSection::Ok(header_of(b, n - 9))
 }
 
 // An entry of a table's loop: fields from at on, then a descriptor loop behind its length of 12 bits.

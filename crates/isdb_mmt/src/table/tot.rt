@@ -1,6 +1,7 @@
 // MH-TOT (ARIB STD-B60, Table 7-25): the current time, a short section with a CRC.
+// Translated from table.rs of isdb-rs (Apache-2.0, see NOTICE) and changed.
 ghost use mathlib.Core.Path.{_≡_};
-ghost use Rattle.isdb_mmt.specs.Tot.{totFields, totOf};
+ghost use Rattle.isdb_mmt.specs.Tot.{told, totFields, totOf};
 use crate::part::Part;
 use crate::table::section;
 use crate::table::section::SectionError;
@@ -24,6 +25,15 @@ pub struct TotParsed {
     pub breaks: usize,
 }
 
+fn refused(e: SectionError) -> TotParsed
+    ensures { λ r. ⌜ r ≡ told (TotResult.Err e) 0 ⌝ }
+{
+    TotParsed {
+        result: TotResult::Err(e),
+        breaks: 0,
+    }
+}
+
 // The section of n bytes at the start of b. The descriptor loop may run into the CRC.
 fn read(b: &[u8], n: usize) -> TotParsed
     ensures { λ r. ⌜ r ≡ totFields (now (b .entry)) n ⌝ }
@@ -31,10 +41,7 @@ fn read(b: &[u8], n: usize) -> TotParsed
     let s = bytes::part(b, 0, n);
     let length = bytes::get_u12(s, 8) as usize;
     if s.len() < length + 10 {
-        return TotParsed {
-            result: TotResult::Err(SectionError::Malformed),
-            breaks: 0,
-        };
+        return refused(SectionError::Malformed);
     }
     let descriptors = Part { start: 10, length };
     TotParsed {
@@ -51,29 +58,17 @@ pub fn parse(b: &[u8]) -> TotParsed
     ensures { λ r. ⌜ r ≡ totOf (now (b .entry)) ⌝ }
 {
     if b.len() < 3 {
-        return TotParsed {
-            result: TotResult::Err(SectionError::Truncated),
-            breaks: 0,
-        };
+        return refused(SectionError::Truncated);
     }
     let end = bytes::get_u12(b, 1) as usize + 3;
     if end < 14 {
-        return TotParsed {
-            result: TotResult::Err(SectionError::Truncated),
-            breaks: 0,
-        };
+        return refused(SectionError::Truncated);
     }
     if b.len() < end {
-        return TotParsed {
-            result: TotResult::Err(SectionError::Truncated),
-            breaks: 0,
-        };
+        return refused(SectionError::Truncated);
     }
-    if crc::crc32(&b[..end]) != 0 {
-        return TotParsed {
-            result: TotResult::Err(SectionError::Crc),
-            breaks: 0,
-        };
+    if crc::crc32(bytes::part(b, 0, end)) != 0 {
+        return refused(SectionError::Crc);
     }
     read(b, end)
 }

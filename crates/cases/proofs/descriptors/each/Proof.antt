@@ -3,10 +3,10 @@ use Rattle.cases.proofs.descriptors.each.Statement.{statement}
 use Rattle.cases.proofs.descriptors.each.Tie as tie
 
 abbrev Inv-loop : tie.InvT-loop
-Inv-loop pad b at₀ left₀ t8 t9 at left = Unit {0}
+Inv-loop pad b at₀ left₀ at left = Unit {0}
 
 abbrev μ-loop : tie.MeasureT-loop
-μ-loop pad b at₀ left₀ t8 t9 at left = left
+μ-loop pad b at₀ left₀ at left = left
 
 pub each-spec : {M : Type 1} → statement M
 each-spec =
@@ -15,10 +15,6 @@ each-spec =
     Inv-loop
     μ-loop
     (λ c. search needs)
-    (λ c κs. search needs)
-    (λ c. search needs)
-    (λ c. search needs)
-    (λ c κs. search needs)
     (λ c κs. search needs)
     (λ c. search needs)
     (λ c κs. search needs)

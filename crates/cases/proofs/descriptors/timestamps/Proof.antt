@@ -3,10 +3,10 @@ use Rattle.cases.proofs.descriptors.timestamps.Statement.{statement}
 use Rattle.cases.proofs.descriptors.timestamps.Tie as tie
 
 abbrev Inv-loop : tie.InvT-loop
-Inv-loop b at₀ left₀ t9 at left = Unit {0}
+Inv-loop b at₀ left₀ at left = Unit {0}
 
 abbrev μ-loop : tie.MeasureT-loop
-μ-loop b at₀ left₀ t9 at left = left
+μ-loop b at₀ left₀ at left = left
 
 pub timestamps-spec : {M : Type 1} → statement M
 timestamps-spec =
@@ -23,11 +23,6 @@ timestamps-spec =
     (λ c. search needs)
     (λ c. search needs)
     (λ c. search needs)
-    (λ c κs. search needs)
-    (λ c. search needs)
-    (λ c κs. search needs)
-    (λ c. search needs)
-    (λ c κs. search needs)
     (λ c κs. search needs)
     (λ c. search needs)
     (λ c. search needs)

@@ -3,10 +3,10 @@ use Rattle.cases.proofs.tables.deliveries.Statement.{statement}
 use Rattle.cases.proofs.tables.deliveries.Tie as tie
 
 abbrev Inv-loop : tie.InvT-loop
-Inv-loop b at₀ left₀ t7 t8 at left = Unit {0}
+Inv-loop b at₀ left₀ at left = Unit {0}
 
 abbrev μ-loop : tie.MeasureT-loop
-μ-loop b at₀ left₀ t7 t8 at left = left
+μ-loop b at₀ left₀ at left = left
 
 pub deliveries-spec : {M : Type 1} → statement M
 deliveries-spec =
@@ -17,12 +17,6 @@ deliveries-spec =
     (λ c. search needs)
     (λ c κs. search needs)
     (λ c. search needs)
-    (λ c. search needs)
-    (λ c. search needs)
-    (λ c. search needs)
-    (λ c κs. search needs)
-    (λ c. search needs)
-    (λ c κs. search needs)
     (λ c. search needs)
     (λ c. search needs)
     (λ c κs. search needs)

@@ -3,10 +3,10 @@ use Rattle.cases.proofs.tables.packages.Statement.{statement}
 use Rattle.cases.proofs.tables.packages.Tie as tie
 
 abbrev Inv-loop : tie.InvT-loop
-Inv-loop b at₀ left₀ t10 t11 at left = Unit {0}
+Inv-loop b at₀ left₀ at left = Unit {0}
 
 abbrev μ-loop : tie.MeasureT-loop
-μ-loop b at₀ left₀ t10 t11 at left = left
+μ-loop b at₀ left₀ at left = left
 
 pub packages-spec : {M : Type 1} → statement M
 packages-spec =
@@ -19,13 +19,6 @@ packages-spec =
     (λ c. search needs)
     (λ c. search needs)
     (λ c. search needs)
-    (λ c. search needs)
-    (λ c κs. search needs)
-    (λ c κs. search needs)
-    (λ c κs. search needs)
-    (λ c. search needs)
-    (λ c κs. search needs)
-    (λ c κs. search needs)
     (λ c κs. search needs)
     (λ c. search needs)
     (λ c. search needs)

@@ -3,10 +3,10 @@ use Rattle.cases.proofs.tables.tlv_each.Statement.{statement}
 use Rattle.cases.proofs.tables.tlv_each.Tie as tie
 
 abbrev Inv-loop : tie.InvT-loop
-Inv-loop pad b at₀ left₀ t8 at left = Unit {0}
+Inv-loop pad b at₀ left₀ at left = Unit {0}
 
 abbrev μ-loop : tie.MeasureT-loop
-μ-loop pad b at₀ left₀ t8 at left = left
+μ-loop pad b at₀ left₀ at left = left
 
 pub tlv-each-spec : {M : Type 1} → statement M
 tlv-each-spec =
@@ -19,9 +19,6 @@ tlv-each-spec =
     (λ c. search needs)
     (λ c. search needs)
     (λ c. search needs)
-    (λ c. search needs)
-    (λ c κs. search needs)
-    (λ c κs. search needs)
     (λ c κs. search needs)
     (λ c κs. search needs)
     (λ c. search needs)

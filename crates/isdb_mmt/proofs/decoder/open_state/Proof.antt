@@ -1,12 +1,13 @@
 use Rattle.isdb_mmt.proofs.Opening.{opens-state}
 use mathlib.Core.Path.{sym}
 use lib.Seq.{length-take-le}
+use Rattle.isdb_mmt.specs.Layout.{stateSize}
 use borrow.Author.Needs.{needs}
 use Rattle.isdb_mmt.proofs.decoder.open_state.Statement.{statement}
 use Rattle.isdb_mmt.proofs.decoder.open_state.Tie as tie
 
 slice-aggregate-clear : tie.Need-slice-aggregate-clear
-slice-aggregate-clear c = sym (length-take-le 13144 (c .before .before .args .s .now) (search needs))
+slice-aggregate-clear c = sym (length-take-le stateSize (c .before .before .args .s .now) (search needs))
 
 returns : tie.Need-returns
 returns c = search (needs, opens-state)

@@ -6,11 +6,11 @@ use Rattle.isdb_mmt.proofs.desc.access_control.Tie as tie
 
 returns : tie.Need-returns
 unfolding accessControl
-returns c = simp (lt-ltb _ _ (c .before .if1 .taken), ← c .kept .ensures)
+returns c = rw (lt-ltb _ _ (c .before .if1 .taken), ← c .kept .ensures)
 
 returns-2 : tie.Need-returns-2
 unfolding accessControl
-returns-2 c = simp (le-ltb _ _ (c .before .before .before .before .if1 .left), ← c .before .before .before .get-u16 .ensures, ← c .before .before .rest .ensures, ← c .before .parse .ensures, ← c .maybe-location .ensures)
+returns-2 c = rw (le-ltb _ _ (c .before .before .before .before .if1 .left), ← c .before .before .before .get-u16 .ensures, ← c .before .before .rest .ensures, ← c .before .parse .ensures, ← c .maybe-location .ensures)
 
 pub access-control-spec : {M : Type 1} → statement M
 access-control-spec =

@@ -5,11 +5,11 @@ use Rattle.isdb_mmt.proofs.desc.extended_timestamp.Tie as tie
 
 returns : tie.Need-returns
 unfolding extendedTimestamp
-returns c = simp (← c .before .before .before .parse-extended .ensures, c .before .enum-told .given .1, ← c .kept .ensures)
+returns c = rw (← c .before .before .before .parse-extended .ensures, c .before .enum-told .given .1, ← c .kept .ensures)
 
 returns-2 : tie.Need-returns-2
 unfolding extendedTimestamp
-returns-2 c = simp (← c .before .before .before .parse-extended .ensures, c .before .e .given .1)
+returns-2 c = rw (← c .before .before .before .parse-extended .ensures, c .before .e .given .1)
 
 pub extended-timestamp-spec : {M : Type 1} → statement M
 extended-timestamp-spec =

@@ -1,6 +1,5 @@
-use lib.ListN.{getD}
+use Rattle.isdb_tlv.proofs.Fields.{be-one}
 use Prim.Native.Nat.{_+_}
-use native.Mathlib.Omega.{arith}
 use Rattle.isdb_mmt.specs.Desc.{serviceText}
 use borrow.Author.Tests.{lt-ltb, le-ltb}
 use borrow.Author.Needs.{needs}
@@ -9,31 +8,19 @@ use Rattle.isdb_mmt.proofs.desc.service_of.Tie as tie
 
 returns : tie.Need-returns
 unfolding serviceText
-returns c = simp (lt-ltb _ _ (c .before .if1 .taken), ← c .kept .ensures)
-
-cast-p : tie.Need-cast-p
-cast-p c = record { fits = omega (arith, c .shared-slice-known2 .given 1 .fits) }
-
-add-if2 : tie.Need-add-if2
-add-if2 c = record { fits = omega (arith, c .shared-slice-known2 .given 1 .fits) }
+returns c = rw (c .kept .ensures, lt-ltb _ _ (c .before .if1 .taken))
 
 returns-2 : tie.Need-returns-2
 unfolding serviceText
-returns-2 c = simp (le-ltb _ _ (c .before .before .before .if1 .left), lt-ltb _ _ (c .before .if2 .taken), ← c .kept2 .ensures)
-
-cast-n : tie.Need-cast-n
-cast-n c = let s = c .before .before .before .before .before .args .b .now in record { fits = omega (arith, c .shared-slice-known3 .given (getD s 1 0 + 2) .fits) }
-
-add-if3-2 : tie.Need-add-if3-2
-add-if3-2 c = let s = c .before .before .before .before .before .args .b .now in record { fits = omega (arith, c .shared-slice-known3 .given (getD s 1 0 + 2) .fits) }
+returns-2 c = rw (c .kept2 .ensures, le-ltb _ _ (c .before .before .before .if1 .left), be-one (c .before .before .before .before .before .args .b .now) 1, ← c .before .before .get-u8 .ensures, lt-ltb _ _ (c .before .if2 .taken))
 
 returns-3 : tie.Need-returns-3
 unfolding serviceText
-returns-3 c = simp (le-ltb _ _ (c .before .before .before .before .before .if1 .left), le-ltb _ _ (c .before .before .before .if2 .left), lt-ltb _ _ (c .before .if3 .taken), ← c .kept3 .ensures)
+returns-3 c = rw (c .kept3 .ensures, le-ltb _ _ (c .before .before .before .before .before .if1 .left), be-one (c .before .before .before .before .before .before .before .args .b .now) 1, ← c .before .before .before .before .get-u8 .ensures, le-ltb _ _ (c .before .before .before .if2 .left), be-one (c .before .before .before .before .before .before .before .args .b .now) (c .before .before .before .before .get-u8 .result + 2), ← c .before .before .get-u82 .ensures, lt-ltb _ _ (c .before .if3 .taken))
 
 returns-4 : tie.Need-returns-4
 unfolding serviceText
-returns-4 c = simp (le-ltb _ _ (c .before .before .before .before .before .if1 .left), le-ltb _ _ (c .before .before .before .if2 .left), le-ltb _ _ (c .before .if3 .left))
+returns-4 c = rw (le-ltb _ _ (c .before .before .before .before .before .if1 .left), be-one (c .before .before .before .before .before .before .before .args .b .now) 1, ← c .before .before .before .before .get-u8 .ensures, le-ltb _ _ (c .before .before .before .if2 .left), be-one (c .before .before .before .before .before .before .before .args .b .now) (c .before .before .before .before .get-u8 .result + 2), ← c .before .before .get-u82 .ensures, le-ltb _ _ (c .before .if3 .left), be-one (c .before .before .before .before .before .before .before .args .b .now) 0, ← c .get-u83 .ensures)
 
 pub service-of-spec : {M : Type 1} → statement M
 service-of-spec =
@@ -41,18 +28,16 @@ service-of-spec =
     (tie.spec
     (λ c κs. search needs)
     returns
+    (λ c κs. search needs)
     (λ c. search needs)
-    cast-p
-    add-if2
+    (λ c. search needs)
     (λ c κs. search needs)
     returns-2
     (λ c. search needs)
+    (λ c κs. search needs)
     (λ c. search needs)
-    cast-n
     (λ c. search needs)
-    add-if3-2
     (λ c κs. search needs)
     returns-3
-    (λ c. search needs)
-    (λ c. search needs)
+    (λ c κs. search needs)
     returns-4)

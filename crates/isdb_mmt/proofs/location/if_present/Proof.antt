@@ -5,11 +5,11 @@ use Rattle.isdb_mmt.proofs.location.if_present.Tie as tie
 
 returns : tie.Need-returns
 unfolding sized
-returns c = simp (lt-ltb _ _ (c .if1 .taken))
+returns c = rw (lt-ltb _ _ (c .if1 .taken))
 
 returns-2 : tie.Need-returns-2
 unfolding sized
-returns-2 c = simp (le-ltb _ _ (c .if1 .left))
+returns-2 c = rw (le-ltb _ _ (c .if1 .left))
 
 pub if-present-spec : {M : Type 1} → statement M
 if-present-spec = tie.close (tie.spec returns returns-2)

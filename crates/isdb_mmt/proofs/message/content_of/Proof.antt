@@ -6,23 +6,23 @@ use Rattle.isdb_mmt.proofs.message.content_of.Tie as tie
 
 returns : tie.Need-returns
 unfolding contentOf
-returns c = simp (lt-ltb _ _ (c .if1 .taken))
+returns c = rw (lt-ltb _ _ (c .if1 .taken))
 
 returns-2 : tie.Need-returns-2
 unfolding contentOf
-returns-2 c = simp (le-ltb _ _ (c .before .before .before .if1 .left), ← c .before .before .get-u16 .ensures, eq-eqb _ _ (c .before .if2 .taken), c .pa-tables .ensures)
+returns-2 c = rw (le-ltb _ _ (c .before .before .before .if1 .left), ← c .before .before .get-u16 .ensures, eq-eqb _ _ (c .before .if2 .taken), c .pa-tables .ensures)
 
 returns-3 : tie.Need-returns-3
 unfolding contentOf
-returns-3 c = simp (le-ltb _ _ (c .before .before .before .if1 .left), ← c .before .before .get-u16 .ensures, ne-eqb _ _ (c .before .if2 .left), lt-ltb _ _ (c .if3 .taken))
+returns-3 c = rw (le-ltb _ _ (c .before .before .before .if1 .left), ← c .before .before .get-u16 .ensures, ne-eqb _ _ (c .before .if2 .left), lt-ltb _ _ (c .if3 .taken))
 
 returns-4 : tie.Need-returns-4
 unfolding contentOf
-returns-4 c = simp (le-ltb _ _ (c .before .before .before .before .before .if1 .left), ← c .before .before .before .before .get-u16 .ensures, ne-eqb _ _ (c .before .before .before .if2 .left), le-ltb _ _ (c .before .before .if3 .left), le-leb _ _ (c .before .if4 .taken), c .section-table .ensures)
+returns-4 c = rw (le-ltb _ _ (c .before .before .before .before .before .if1 .left), ← c .before .before .before .before .get-u16 .ensures, ne-eqb _ _ (c .before .before .before .if2 .left), le-ltb _ _ (c .before .before .if3 .left), le-leb _ _ (c .before .if4 .taken), c .section-table .ensures)
 
 returns-5 : tie.Need-returns-5
 unfolding contentOf
-returns-5 c = simp (le-ltb _ _ (c .before .before .before .before .if1 .left), ← c .before .before .before .get-u16 .ensures, ne-eqb _ _ (c .before .before .if2 .left), le-ltb _ _ (c .before .if3 .left), lt-leb _ _ (c .if4 .left))
+returns-5 c = rw (le-ltb _ _ (c .before .before .before .before .if1 .left), ← c .before .before .before .get-u16 .ensures, ne-eqb _ _ (c .before .before .if2 .left), le-ltb _ _ (c .before .if3 .left), lt-leb _ _ (c .if4 .left))
 
 pub content-of-spec : {M : Type 1} → statement M
 content-of-spec =

@@ -3,7 +3,7 @@ use Rattle.isdb_mmt.proofs.mpu.header_fields.Statement.{statement}
 use Rattle.isdb_mmt.proofs.mpu.header_fields.Tie as tie
 
 returns : tie.Need-returns
-returns c = simp (c .before .before .before .from-code .ensures, c .before .before .from-code2 .ensures, c .get-u32 .ensures)
+returns c = rw (c .before .before .before .from-code .ensures, c .before .before .from-code2 .ensures, c .get-u32 .ensures)
 
 pub header-fields-spec : {M : Type 1} → statement M
 header-fields-spec =

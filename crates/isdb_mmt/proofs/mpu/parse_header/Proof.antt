@@ -6,19 +6,19 @@ use Rattle.isdb_mmt.proofs.mpu.parse_header.Tie as tie
 
 returns : tie.Need-returns
 unfolding payloadHeader
-returns c = simp (lt-ltb _ _ (c .if1 .taken))
+returns c = rw (lt-ltb _ _ (c .if1 .taken))
 
 returns-2 : tie.Need-returns-2
 unfolding payloadHeader
-returns-2 c = simp (le-ltb _ _ (c .before .before .if1 .left), ← c .before .get-u16 .ensures, lt-ltb _ _ (c .if2 .taken))
+returns-2 c = rw (le-ltb _ _ (c .before .before .if1 .left), ← c .before .get-u16 .ensures, lt-ltb _ _ (c .if2 .taken))
 
 returns-3 : tie.Need-returns-3
 unfolding payloadHeader
-returns-3 c = simp (le-ltb _ _ (c .before .before .before .if1 .left), ← c .before .before .get-u16 .ensures, le-ltb _ _ (c .before .if2 .left), lt-ltb _ _ (c .if3 .taken))
+returns-3 c = rw (le-ltb _ _ (c .before .before .before .if1 .left), ← c .before .before .get-u16 .ensures, le-ltb _ _ (c .before .if2 .left), lt-ltb _ _ (c .if3 .taken))
 
 returns-4 : tie.Need-returns-4
 unfolding payloadHeader
-returns-4 c = simp (le-ltb _ _ (c .before .before .before .before .if1 .left), ← c .before .before .before .get-u16 .ensures, le-ltb _ _ (c .before .before .if2 .left), le-ltb _ _ (c .before .if3 .left), c .header-fields .ensures)
+returns-4 c = rw (le-ltb _ _ (c .before .before .before .before .if1 .left), ← c .before .before .before .get-u16 .ensures, le-ltb _ _ (c .before .before .if2 .left), le-ltb _ _ (c .before .if3 .left), c .header-fields .ensures)
 
 pub parse-header-spec : {M : Type 1} → statement M
 parse-header-spec =

@@ -9,10 +9,10 @@ add-result : tie.Need-add-result
 add-result c = record { fits = omega (arith, c .scale-end .ensures, scale-end-le (c .before .before .args .flags)) }
 
 returns : tie.Need-returns
-returns c = simp (eq-eqb _ _ (c .before .if1 .taken), ← c .scale-end .ensures)
+returns c = rw (eq-eqb _ _ (c .before .if1 .taken), ← c .scale-end .ensures)
 
 returns-2 : tie.Need-returns-2
-returns-2 c = simp (ne-eqb _ _ (c .before .if1 .left), ← c .scale-end2 .ensures)
+returns-2 c = rw (ne-eqb _ _ (c .before .if1 .left), ← c .scale-end2 .ensures)
 
 pub head-end-spec : {M : Type 1} → statement M
 head-end-spec =

@@ -1,5 +1,5 @@
 use mathlib.Core.Path.{sym}
-use lib.ListN.{length, List·getD-eq-default}
+use lib.ListN.{List·getD-eq-default}
 use native.Mathlib.Omega.{arith}
 use borrow.Author.Needs.{needs}
 use Rattle.isdb_tlv.proofs.bytes.byte.Statement.{statement}

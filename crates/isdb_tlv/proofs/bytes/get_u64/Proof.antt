@@ -1,4 +1,4 @@
-use Rattle.isdb_tlv.proofs.Numbers.{be-lt, be-whole}
+use Rattle.isdb_tlv.proofs.Numbers.{be-whole}
 use mathlib.Core.Path.{_∙_}
 use native.Mathlib.Omega.{arith}
 use borrow.Author.Needs.{needs}

@@ -1,6 +1,5 @@
 use Rattle.isdb_tlv.specs.Bytes.{be}
 use native.Mathlib.Omega.{arith}
-use native.Mathlib.Nat.{add-zero}
 use borrow.Author.Needs.{needs}
 use Rattle.isdb_tlv.proofs.bytes.get_u8.Statement.{statement}
 use Rattle.isdb_tlv.proofs.bytes.get_u8.Tie as tie

@@ -2,8 +2,7 @@ use Rattle.isdb_tlv.specs.Bytes.{putBe}
 use lib.ListN.{set}
 use Prim.Native.Nat.{ℕ, _+_}
 use mathlib.Core.Path.{sym, ap, _∙_}
-use native.Mathlib.Nat.{add-zero, mod-eq-of-lt}
-use native.Mathlib.Omega.{arith}
+use native.Mathlib.Nat.{mod-eq-of-lt}
 use borrow.Author.Needs.{needs}
 use Rattle.isdb_tlv.proofs.bytes.put_u8.Statement.{statement}
 use Rattle.isdb_tlv.proofs.bytes.put_u8.Tie as tie

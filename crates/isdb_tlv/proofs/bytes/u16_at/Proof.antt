@@ -7,7 +7,7 @@ use Rattle.isdb_tlv.proofs.bytes.u16_at.Tie as tie
 
 returns : tie.Need-returns
 unfolding be
-returns c = simp add-zero (omega arith)
+returns c = rw add-zero (omega arith)
 
 pub u16-at-spec : {M : Type 1} → statement M
 u16-at-spec =

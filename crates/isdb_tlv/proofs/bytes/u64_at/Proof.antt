@@ -7,7 +7,7 @@ use Rattle.isdb_tlv.proofs.bytes.u64_at.Tie as tie
 
 returns : tie.Need-returns
 unfolding be
-returns c = simp add-zero (omega arith)
+returns c = rw (add-zero (c .before .before .before .before .before .before .before .before .before .before .before .before .before .before .before .before .before .args .at)) (omega arith)
 
 pub u64-at-spec : {M : Type 1} → statement M
 u64-at-spec =
@@ -27,6 +27,15 @@ u64-at-spec =
     (λ c. search needs)
     (λ c. search needs)
     (λ c. search needs)
+    (λ c κs. search needs)
+    (λ c. search needs)
+    (λ c. search needs)
+    (λ c. search needs)
+    (λ c. search needs)
+    (λ c. search needs)
+    (λ c κs. search needs)
+    (λ c. search needs)
+    (λ c. search needs)
     (λ c. search needs)
     (λ c κs. search needs)
     (λ c. search needs)
@@ -37,17 +46,8 @@ u64-at-spec =
     (λ c. search needs)
     (λ c. search needs)
     (λ c. search needs)
-    (λ c. search needs)
     (λ c κs. search needs)
     (λ c. search needs)
     (λ c. search needs)
-    (λ c. search needs)
-    (λ c. search needs)
-    (λ c κs. search needs)
-    (λ c. search needs)
-    (λ c. search needs)
-    (λ c. search needs)
-    (λ c. search needs)
-    (λ c κs. search needs)
     (λ c. search needs)
     returns)

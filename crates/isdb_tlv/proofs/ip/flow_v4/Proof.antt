@@ -1,9 +1,10 @@
+use mathlib.Core.Path.{refl}
 use borrow.Author.Needs.{needs}
 use Rattle.isdb_tlv.proofs.ip.flow_v4.Statement.{statement}
 use Rattle.isdb_tlv.proofs.ip.flow_v4.Tie as tie
 
 returns : tie.Need-returns
-returns c = cc
+returns c = rw (c .get-u162 .ensures, c .before .get-u16 .ensures, c .before .before .get-u322 .ensures, c .before .before .before .get-u32 .ensures) refl
 
 pub flow-v4-spec : {M : Type 1} → statement M
 flow-v4-spec =

@@ -1,5 +1,5 @@
 use Rattle.isdb_tlv.specs.Ip.{ipv6Of}
-use borrow.Author.Tests.{lt-ltb, le-ltb, le-leb, lt-leb, eq-eqb, ne-eqb}
+use borrow.Author.Tests.{lt-ltb, le-ltb, eq-eqb, ne-eqb}
 use borrow.Author.Needs.{needs}
 use Rattle.isdb_tlv.proofs.ip.ipv6.Statement.{statement}
 use Rattle.isdb_tlv.proofs.ip.ipv6.Tie as tie
@@ -7,12 +7,12 @@ use Rattle.isdb_tlv.proofs.ip.ipv6.Tie as tie
 returns : tie.Need-returns
 unfolding ipv6Of
 returns c =
-    simp (lt-ltb _ _ (c .if1 .taken))
+    rw (lt-ltb _ _ (c .if1 .taken))
 
 returns-2 : tie.Need-returns-2
 unfolding ipv6Of
 returns-2 c =
-    simp (
+    rw (
       le-ltb _ _ (c .before .before .if1 .left),
       ne-eqb _ _ (c .if2 .taken),
     )
@@ -20,7 +20,7 @@ returns-2 c =
 returns-3 : tie.Need-returns-3
 unfolding ipv6Of
 returns-3 c =
-    simp (
+    rw (
       le-ltb _ _ (c .before .before .before .before .if1 .left),
       eq-eqb _ _ (c .before .before .if2 .left),
       ne-eqb _ _ (c .if3 .taken),
@@ -29,7 +29,7 @@ returns-3 c =
 returns-4 : tie.Need-returns-4
 unfolding ipv6Of
 returns-4 c =
-    simp (
+    rw (
       le-ltb _ _ (c .before .before .before .before .before .if1 .left),
       eq-eqb _ _ (c .before .before .before .if2 .left),
       eq-eqb _ _ (c .before .if3 .left),
@@ -39,7 +39,7 @@ returns-4 c =
 returns-5 : tie.Need-returns-5
 unfolding ipv6Of
 returns-5 c =
-    simp (
+    rw (
       le-ltb _ _ (c .before .before .before .before .before .before .if1 .left),
       eq-eqb _ _ (c .before .before .before .before .if2 .left),
       eq-eqb _ _ (c .before .before .if3 .left),

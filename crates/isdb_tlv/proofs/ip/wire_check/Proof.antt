@@ -1,5 +1,5 @@
 use Rattle.isdb_tlv.specs.Ip.{wireOf}
-use borrow.Author.Tests.{lt-ltb, le-ltb, le-leb, lt-leb, eq-eqb, ne-eqb}
+use borrow.Author.Tests.{lt-ltb, le-ltb, eq-eqb, ne-eqb}
 use borrow.Author.Needs.{needs}
 use Rattle.isdb_tlv.proofs.ip.wire_check.Statement.{statement}
 use Rattle.isdb_tlv.proofs.ip.wire_check.Tie as tie
@@ -7,12 +7,12 @@ use Rattle.isdb_tlv.proofs.ip.wire_check.Tie as tie
 returns : tie.Need-returns
 unfolding wireOf
 returns c =
-    simp (lt-ltb _ _ (c .if1 .taken))
+    rw (lt-ltb _ _ (c .if1 .taken))
 
 returns-2 : tie.Need-returns-2
 unfolding wireOf
 returns-2 c =
-    simp (
+    rw (
       le-ltb _ _ (c .before .before .if1 .left),
       ne-eqb _ _ (c .if2 .taken),
     )
@@ -20,18 +20,18 @@ returns-2 c =
 returns-3 : tie.Need-returns-3
 unfolding wireOf
 returns-3 c =
-    simp (
-      le-ltb _ _ (c .before .before .before .before .if1 .left),
-      eq-eqb _ _ (c .before .before .if2 .left),
+    rw (
+      le-ltb _ _ (c .before .before .before .if1 .left),
+      eq-eqb _ _ (c .before .if2 .left),
       lt-ltb _ _ (c .if3 .taken),
     )
 
 returns-4 : tie.Need-returns-4
 unfolding wireOf
 returns-4 c =
-    simp (
-      le-ltb _ _ (c .before .before .before .before .before .before .if1 .left),
-      eq-eqb _ _ (c .before .before .before .before .if2 .left),
+    rw (
+      le-ltb _ _ (c .before .before .before .before .before .if1 .left),
+      eq-eqb _ _ (c .before .before .before .if2 .left),
       le-ltb _ _ (c .before .before .if3 .left),
       ← c .before .get-u16 .ensures,
       lt-ltb _ _ (c .if4 .taken),
@@ -40,9 +40,9 @@ returns-4 c =
 returns-5 : tie.Need-returns-5
 unfolding wireOf
 returns-5 c =
-    simp (
-      le-ltb _ _ (c .before .before .before .before .before .before .before .if1 .left),
-      eq-eqb _ _ (c .before .before .before .before .before .if2 .left),
+    rw (
+      le-ltb _ _ (c .before .before .before .before .before .before .if1 .left),
+      eq-eqb _ _ (c .before .before .before .before .if2 .left),
       le-ltb _ _ (c .before .before .before .if3 .left),
       ← c .before .before .get-u16 .ensures,
       le-ltb _ _ (c .before .if4 .left),
@@ -52,9 +52,9 @@ returns-5 c =
 returns-6 : tie.Need-returns-6
 unfolding wireOf
 returns-6 c =
-    simp (
-      le-ltb _ _ (c .before .before .before .before .before .before .before .before .before .if1 .left),
-      eq-eqb _ _ (c .before .before .before .before .before .before .before .if2 .left),
+    rw (
+      le-ltb _ _ (c .before .before .before .before .before .before .before .before .if1 .left),
+      eq-eqb _ _ (c .before .before .before .before .before .before .if2 .left),
       le-ltb _ _ (c .before .before .before .before .before .if3 .left),
       ← c .before .before .before .before .get-u16 .ensures,
       le-ltb _ _ (c .before .before .before .if4 .left),
@@ -65,9 +65,9 @@ returns-6 c =
 returns-7 : tie.Need-returns-7
 unfolding wireOf
 returns-7 c =
-    simp (
-      le-ltb _ _ (c .before .before .before .before .before .before .before .before .before .before .before .if1 .left),
-      eq-eqb _ _ (c .before .before .before .before .before .before .before .before .before .if2 .left),
+    rw (
+      le-ltb _ _ (c .before .before .before .before .before .before .before .before .before .before .if1 .left),
+      eq-eqb _ _ (c .before .before .before .before .before .before .before .before .if2 .left),
       le-ltb _ _ (c .before .before .before .before .before .before .before .if3 .left),
       ← c .before .before .before .before .before .before .get-u16 .ensures,
       le-ltb _ _ (c .before .before .before .before .before .if4 .left),
@@ -80,9 +80,9 @@ returns-7 c =
 returns-8 : tie.Need-returns-8
 unfolding wireOf
 returns-8 c =
-    simp (
-      le-ltb _ _ (c .before .before .before .before .before .before .before .before .before .before .before .if1 .left),
-      eq-eqb _ _ (c .before .before .before .before .before .before .before .before .before .if2 .left),
+    rw (
+      le-ltb _ _ (c .before .before .before .before .before .before .before .before .before .before .if1 .left),
+      eq-eqb _ _ (c .before .before .before .before .before .before .before .before .if2 .left),
       le-ltb _ _ (c .before .before .before .before .before .before .before .if3 .left),
       ← c .before .before .before .before .before .before .get-u16 .ensures,
       le-ltb _ _ (c .before .before .before .before .before .if4 .left),
@@ -99,7 +99,6 @@ wire-check-spec =
     returns
     (λ c. search needs)
     returns-2
-    (λ c. search needs)
     (λ c. search needs)
     returns-3
     (λ c. search needs)

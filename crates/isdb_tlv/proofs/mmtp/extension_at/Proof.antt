@@ -2,7 +2,6 @@ use Rattle.isdb_tlv.specs.Mmtp.{extensionAt}
 use borrow.Author.Tests.{lt-ltb, le-ltb, eq-eqb, ne-eqb}
 use lib.ListN.{length}
 use native.Mathlib.Omega.{arith}
-use native.Mathlib.Nat.{add-sub-cancel-left}
 use Prim.Native.Nat.{_-_}
 use borrow.Author.Needs.{needs}
 use Rattle.isdb_tlv.proofs.mmtp.extension_at.Statement.{statement}
@@ -14,27 +13,27 @@ returns c = let a = c .before .before .args in rw (lt-ltb (length (a .b .now) - 
 
 returns-2 : tie.Need-returns-2
 unfolding extensionAt
-returns-2 c = simp (lt-ltb _ _ (c .if2 .taken))
+returns-2 c = rw (lt-ltb _ _ (c .if2 .taken))
 
 returns-3 : tie.Need-returns-3
 unfolding extensionAt
-returns-3 c = simp (le-ltb _ _ (c .before .before .if2 .left), ← c .before .get-u16 .ensures, lt-ltb _ _ (c .if3 .taken))
+returns-3 c = rw (le-ltb _ _ (c .before .before .if2 .left), ← c .before .get-u16 .ensures, lt-ltb _ _ (c .if3 .taken))
 
 returns-4 : tie.Need-returns-4
 unfolding extensionAt
-returns-4 c = simp (
+returns-4 c = rw (
   le-ltb _ _ (c .before .before .before .before .before .before .if2 .left),
   ← c .before .before .before .before .before .get-u16 .ensures,
   le-ltb _ _ (c .before .before .before .before .if3 .left),
   ← c .before .before .before .get-u162 .ensures,
   eq-eqb _ _ (c .before .before .if4 .taken),
   c .scramble-of .ensures,
-  add-sub-cancel-left,
+  c .before .part .ensures,
 )
 
 returns-5 : tie.Need-returns-5
 unfolding extensionAt
-returns-5 c = simp (
+returns-5 c = rw (
   le-ltb _ _ (c .before .before .before .before .if2 .left),
   ← c .before .before .before .get-u16 .ensures,
   le-ltb _ _ (c .before .before .if3 .left),
@@ -57,9 +56,7 @@ extension-at-spec =
     returns-3
     (λ c. search needs)
     (λ c κs. search needs)
-    (λ c. search needs)
-    (λ c. search needs)
-    (λ c. search needs)
+    (λ c κs. search needs)
     (λ c κs. search needs)
     returns-4
     returns-5)

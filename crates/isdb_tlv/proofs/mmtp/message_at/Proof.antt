@@ -6,15 +6,15 @@ use Rattle.isdb_tlv.proofs.mmtp.message_at.Tie as tie
 
 returns : tie.Need-returns
 unfolding messageAt
-returns c = simp (eq-eqb _ _ (c .before .if1 .taken), ← c .message-in .ensures)
+returns c = rw (eq-eqb _ _ (c .before .if1 .taken), ← c .message-in .ensures)
 
 returns-2 : tie.Need-returns-2
 unfolding messageAt
-returns-2 c = simp (ne-eqb _ _ (c .before .before .if1 .left), eq-eqb _ _ (c .before .if2 .taken), ← c .prefixed .ensures)
+returns-2 c = rw (ne-eqb _ _ (c .before .before .if1 .left), eq-eqb _ _ (c .before .if2 .taken), ← c .prefixed .ensures)
 
 returns-3 : tie.Need-returns-3
 unfolding messageAt
-returns-3 c = simp (ne-eqb _ _ (c .before .before .if1 .left), ne-eqb _ _ (c .before .if2 .left), ← c .prefixed2 .ensures)
+returns-3 c = rw (ne-eqb _ _ (c .before .before .if1 .left), ne-eqb _ _ (c .before .if2 .left), ← c .prefixed2 .ensures)
 
 pub message-at-spec : {M : Type 1} → statement M
 message-at-spec =

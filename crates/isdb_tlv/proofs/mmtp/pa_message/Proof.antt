@@ -6,15 +6,15 @@ use Rattle.isdb_tlv.proofs.mmtp.pa_message.Tie as tie
 
 returns : tie.Need-returns
 unfolding paMessage
-returns c = simp (lt-ltb _ _ (c .if1 .taken))
+returns c = rw (lt-ltb _ _ (c .if1 .taken))
 
 returns-2 : tie.Need-returns-2
 unfolding paMessage
-returns-2 c = simp (le-ltb _ _ (c .before .before .before .if1 .left), ← c .before .before .get-u32 .ensures, ← c .before .part .ensures, eq-eqb _ _ (c .if2 .taken))
+returns-2 c = rw (le-ltb _ _ (c .before .before .before .if1 .left), ← c .before .before .get-u32 .ensures, ← c .before .part .ensures, eq-eqb _ _ (c .if2 .taken))
 
 returns-3 : tie.Need-returns-3
 unfolding paMessage
-returns-3 c = simp (le-ltb _ _ (c .before .before .before .before .if1 .left), ← c .before .before .before .get-u32 .ensures, ← c .before .before .part .ensures, ne-eqb _ _ (c .before .if2 .left), ← c .pa-tables .ensures)
+returns-3 c = rw (le-ltb _ _ (c .before .before .before .before .if1 .left), ← c .before .before .before .get-u32 .ensures, ← c .before .before .part .ensures, ne-eqb _ _ (c .before .if2 .left), ← c .pa-tables .ensures)
 
 pub pa-message-spec : {M : Type 1} → statement M
 pa-message-spec =

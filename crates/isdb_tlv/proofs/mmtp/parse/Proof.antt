@@ -6,19 +6,19 @@ use Rattle.isdb_tlv.proofs.mmtp.parse.Tie as tie
 
 returns : tie.Need-returns
 unfolding mmtpOf
-returns c = simp (lt-ltb _ _ (c .if1 .taken))
+returns c = rw (lt-ltb _ _ (c .if1 .taken))
 
 returns-2 : tie.Need-returns-2
 unfolding mmtpOf
-returns-2 c = simp (le-ltb _ _ (c .before .before .if1 .left), ne-eqb _ _ (c .if2 .taken))
+returns-2 c = rw (le-ltb _ _ (c .before .before .if1 .left), ne-eqb _ _ (c .if2 .taken))
 
 returns-3 : tie.Need-returns-3
 unfolding mmtpOf
-returns-3 c = simp (le-ltb _ _ (c .before .before .before .before .before .if1 .left), eq-eqb _ _ (c .before .before .before .if2 .left), ← c .before .before .after-fixed .ensures, c .enum-told .given .1)
+returns-3 c = rw (le-ltb _ _ (c .before .before .before .before .before .if1 .left), eq-eqb _ _ (c .before .before .before .if2 .left), ← c .before .before .after-fixed .ensures, c .enum-told .given .1)
 
 returns-4 : tie.Need-returns-4
 unfolding mmtpOf
-returns-4 c = simp (le-ltb _ _ (c .before .before .before .before .before .before .before .if1 .left), eq-eqb _ _ (c .before .before .before .before .before .if2 .left), ← c .before .before .before .before .after-fixed .ensures, c .before .before .scramble .given .1, c .header-of .ensures)
+returns-4 c = rw (le-ltb _ _ (c .before .before .before .before .before .before .before .if1 .left), eq-eqb _ _ (c .before .before .before .before .before .if2 .left), ← c .before .before .before .before .after-fixed .ensures, c .before .before .scramble .given .1, c .header-of .ensures)
 
 pub parse-spec : {M : Type 1} → statement M
 parse-spec =

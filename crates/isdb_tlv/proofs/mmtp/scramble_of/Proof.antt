@@ -16,11 +16,11 @@ abbrev μ-loop : tie.MeasureT-loop
 μ-loop s q₀ q = length s - q
 
 returns : tie.Need-returns Inv-loop μ-loop
-returns c = simp (← c .before .before .loop .inv, entry-at (c .before .before .before .before .args .s .now) (c .before .before .loop .q) (c .before .loop-test .taken), lt-ltb _ _ (c .if1 .taken))
+returns c = rw (← c .before .before .loop .inv, entry-at (c .before .before .before .before .args .s .now) (c .before .before .loop .q) (c .before .loop-test .taken), lt-ltb _ _ (c .if1 .taken))
 
 returns-2 : tie.Need-returns-2 Inv-loop μ-loop
 returns-2 c = let l = c .before .before .before .before .before .before .loop in
-    simp (
+    rw (
       ← l .inv,
       entry-at (c .before .before .before .before .before .before .before .before .args .s .now) (l .q) (c .before .before .before .before .before .loop-test .taken),
       le-ltb _ _ (c .before .before .before .before .if1 .left),
@@ -31,7 +31,7 @@ returns-2 c = let l = c .before .before .before .before .before .before .loop in
 
 returns-3 : tie.Need-returns-3 Inv-loop μ-loop
 returns-3 c = let l = c .before .before .before .before .before .loop in
-    simp (
+    rw (
       ← l .inv,
       entry-at (c .before .before .before .before .before .before .before .args .s .now) (l .q) (c .before .before .before .before .loop-test .taken),
       le-ltb _ _ (c .before .before .before .if1 .left),
@@ -42,7 +42,7 @@ returns-3 c = let l = c .before .before .before .before .before .loop in
 
 returns-4 : tie.Need-returns-4 Inv-loop μ-loop
 returns-4 c = let l = c .before .before .before .before .before .before .loop in
-    simp (
+    rw (
       ← l .inv,
       entry-at (c .before .before .before .before .before .before .before .before .args .s .now) (l .q) (c .before .before .before .before .before .loop-test .taken),
       le-ltb _ _ (c .before .before .before .before .if1 .left),
@@ -53,7 +53,7 @@ returns-4 c = let l = c .before .before .before .before .before .before .loop in
 
 loop-again : tie.Need-loop-again Inv-loop μ-loop
 loop-again c = let l = c .before .before .before .before .before .before .before .loop in
-    simp (
+    rw (
       entry-at (c .before .before .before .before .before .before .before .before .before .args .s .now) (l .q) (c .before .before .before .before .before .before .loop-test .taken),
       le-ltb _ _ (c .before .before .before .before .before .if1 .left),
       ← c .before .before .before .before .get-u16 .ensures,

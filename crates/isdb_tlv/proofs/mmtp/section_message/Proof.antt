@@ -6,11 +6,11 @@ use Rattle.isdb_tlv.proofs.mmtp.section_message.Tie as tie
 
 returns : tie.Need-returns
 unfolding sectionMessage
-returns c = simp (lt-ltb _ _ (c .if1 .taken))
+returns c = rw (lt-ltb _ _ (c .if1 .taken))
 
 returns-2 : tie.Need-returns-2
 unfolding sectionMessage setOf
-returns-2 c = simp (le-ltb _ _ (c .before .before .if1 .left), ← c .insert-id .ensures)
+returns-2 c = rw (le-ltb _ _ (c .before .before .if1 .left), ← c .insert-id .ensures)
 
 pub section-message-spec : {M : Type 1} → statement M
 section-message-spec =

@@ -1,17 +1,18 @@
-use native.Mathlib.Nat.{sub-zero}
 use borrow.Author.Needs.{needs}
-use Prim.Native.Nat.{_+_, _-_, _*_}
-use mathlib.Core.Path.{_≡_}
-use mathlib.Core.List.{map}
-use Rattle.isdb_mmt.specs.Session.{controlPlaceOf}
-use Rattle.isdb_mmt.specs.Check.{controlSound}
-use Rattle.isdb_mmt.specs.Lent.{placesFrom, every}
 use Rattle.isdb_mmt.proofs.Checks.{place-fails, place-fits, places-end}
+use Rattle.isdb_mmt.specs.Lent.{placesFrom, every}
+use Rattle.isdb_mmt.specs.Check.{controlSound}
+use Rattle.isdb_mmt.specs.Session.{controlPlaceOf}
+use Rattle.isdb_mmt.specs.Layout.{controlPlaces, controlSize}
+use mathlib.Core.List.{map}
+use native.Mathlib.Nat.{sub-zero}
+use mathlib.Core.Path.{_≡_}
+use Prim.Native.Nat.{_+_, _-_, _*_}
 use Rattle.isdb_mmt.proofs.decoder.check.all_controls_fit.Statement.{statement}
 use Rattle.isdb_mmt.proofs.decoder.check.all_controls_fit.Tie as tie
 
 abbrev Inv-loop : tie.InvT-loop
-Inv-loop s l n i₀ at₀ i at = (at ≡ 7864 + 21 * i) × (every (controlSound l) (map controlPlaceOf (placesFrom n 21 7864 s)) ≡ every (controlSound l) (map controlPlaceOf (placesFrom (n - i) 21 at s)))
+Inv-loop s l n i₀ at₀ i at = (at ≡ controlPlaces + controlSize * i) × (every (controlSound l) (map controlPlaceOf (placesFrom n controlSize controlPlaces s)) ≡ every (controlSound l) (map controlPlaceOf (placesFrom (n - i) controlSize at s)))
 
 abbrev μ-loop : tie.MeasureT-loop
 μ-loop s l n i₀ at₀ i at = n - i
@@ -35,11 +36,13 @@ all-controls-fit-spec =
     Inv-loop
     μ-loop
     loop-holds
-    (λ c κs. search needs)
+    (λ c. search needs)
+    (λ c. search needs)
+    (λ c. search needs)
+    (λ c. search needs)
     (λ c κs. search needs)
     (λ c κs. search needs)
     returns
-    (λ c. search needs)
     (λ c. search needs)
     (λ c. search needs)
     loop-again

@@ -1,23 +1,27 @@
-use native.Mathlib.Nat.{sub-zero}
 use borrow.Author.Needs.{needs}
-use Prim.Native.Nat.{_+_, _-_, _*_}
-use mathlib.Core.Path.{_≡_}
-use mathlib.Core.List.{map}
-use Rattle.isdb_mmt.specs.Session.{mediaPlaceOf}
-use Rattle.isdb_mmt.specs.Check.{mediaSound}
+use Rattle.isdb_mmt.proofs.Checks.{media-length, place-fails, place-fits, places-end}
 use Rattle.isdb_mmt.specs.Lent.{placesFrom, every}
-use Rattle.isdb_mmt.proofs.Checks.{place-fails, place-fits, places-end}
+use Rattle.isdb_mmt.specs.Check.{mediaSound}
+use Rattle.isdb_mmt.specs.Session.{mediaPlaceOf}
+use Rattle.isdb_mmt.specs.Layout.{mediaPlaces, mediaSize}
+use mathlib.Core.List.{map}
+use native.Mathlib.Nat.{sub-zero}
+use mathlib.Core.Path.{_≡_}
+use Prim.Native.Nat.{_+_, _-_, _*_}
 use Rattle.isdb_mmt.proofs.decoder.check.all_media_fit.Statement.{statement}
 use Rattle.isdb_mmt.proofs.decoder.check.all_media_fit.Tie as tie
 
 abbrev Inv-loop : tie.InvT-loop
-Inv-loop s l n i₀ at₀ i at = (at ≡ 184 + 120 * i) × (every (mediaSound l) (map mediaPlaceOf (placesFrom n 120 184 s)) ≡ every (mediaSound l) (map mediaPlaceOf (placesFrom (n - i) 120 at s)))
+Inv-loop s l n i₀ at₀ i at = (at ≡ mediaPlaces + mediaSize * i) × (every (mediaSound l) (map mediaPlaceOf (placesFrom n mediaSize mediaPlaces s)) ≡ every (mediaSound l) (map mediaPlaceOf (placesFrom (n - i) mediaSize at s)))
 
 abbrev μ-loop : tie.MeasureT-loop
 μ-loop s l n i₀ at₀ i at = n - i
 
 loop-holds : tie.Need-loop-holds Inv-loop μ-loop
 loop-holds c = (search needs, simp sub-zero)
+
+media-fits-requires : tie.Need-media-fits-requires Inv-loop μ-loop
+media-fits-requires c κs = search (needs, media-length)
 
 returns : tie.Need-returns Inv-loop μ-loop
 returns c = search (needs, place-fails)
@@ -35,10 +39,12 @@ all-media-fit-spec =
     Inv-loop
     μ-loop
     loop-holds
-    (λ c κs. search needs)
-    (λ c κs. search needs)
-    returns
     (λ c. search needs)
+    (λ c. search needs)
+    (λ c. search needs)
+    (λ c. search needs)
+    media-fits-requires
+    returns
     (λ c. search needs)
     (λ c. search needs)
     loop-again

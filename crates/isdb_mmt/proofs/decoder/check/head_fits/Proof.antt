@@ -23,15 +23,12 @@ head-fits-spec =
     tie.close
     (tie.spec
     (λ c κs. search needs)
-    (λ c κs. search needs)
     returns
-    (λ c κs. search needs)
     (λ c κs. search needs)
     returns-2
     (λ c κs. search needs)
     (λ c κs. search needs)
     returns-3
-    (λ c κs. search needs)
     (λ c κs. search needs)
     returns-4
     (λ c κs. search needs)

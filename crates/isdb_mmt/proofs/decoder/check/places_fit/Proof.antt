@@ -4,19 +4,19 @@ use Rattle.isdb_mmt.proofs.decoder.check.places_fit.Statement.{statemen
 use Rattle.isdb_mmt.proofs.decoder.check.places_fit.Tie as tie
 
 all-media-fit-requires : tie.Need-all-media-fit-requires
-all-media-fit-requires c κs = search (needs, media-there)
+all-media-fit-requires c κs = (search (needs, media-there), search needs)
 
 returns : tie.Need-returns
 returns c = search (needs, some-media-fails)
 
 all-controls-fit-requires : tie.Need-all-controls-fit-requires
-all-controls-fit-requires c κs = search (needs, controls-there)
+all-controls-fit-requires c κs = (search (needs, controls-there), search needs)
 
 returns-2 : tie.Need-returns-2
 returns-2 c = search (needs, some-control-fails)
 
 all-sections-fit-requires : tie.Need-all-sections-fit-requires
-all-sections-fit-requires c κs = search (needs, sections-there)
+all-sections-fit-requires c κs = (search (needs, sections-there), search needs)
 
 returns-3 : tie.Need-returns-3
 returns-3 c = search (needs, sections-decide)
@@ -25,8 +25,6 @@ pub places-fit-spec : {M : Type 1} → statement M
 places-fit-spec =
     tie.close
     (tie.spec
-    (λ c κs. search needs)
-    (λ c κs. search needs)
     (λ c. search needs)
     all-media-fit-requires
     returns

@@ -1,35 +1,46 @@
-use Rattle.isdb_mmt.specs.Check.{soundIn}
-use Rattle.isdb_mmt.proofs.Guards.{guard-fails, guard-holds}
-use Rattle.isdb_mmt.proofs.Checks.{head-there}
 use borrow.Author.Needs.{needs}
+use Rattle.isdb_mmt.proofs.Checks.{too-short, front-length, head-fails, head-there, limits-front, used-front, places-fail, names-decide}
+use Rattle.isdb_mmt.specs.Layout.{mediaPlaces}
+use lib.Seq.{length-take-le}
+use mathlib.Core.Path.{sym}
 use Rattle.isdb_mmt.proofs.decoder.check.ready.Statement.{statement}
 use Rattle.isdb_mmt.proofs.decoder.check.ready.Tie as tie
 
 returns : tie.Need-returns
-unfolding soundIn
-returns c = search (needs, guard-fails)
+returns c = search (needs, too-short)
 
-places-fit-requires : tie.Need-places-fit-requires
-places-fit-requires c κs = search (needs, head-there)
+slice-aggregate-h : tie.Need-slice-aggregate-h
+slice-aggregate-h c = sym (length-take-le mediaPlaces (c .before .before .before .before .args .s .now) (search needs))
+
+head-fits-requires : tie.Need-head-fits-requires
+head-fits-requires c κs = (search (needs, front-length), (search needs, search needs))
 
 returns-2 : tie.Need-returns-2
-unfolding soundIn
-returns-2 c = search (needs, guard-fails, guard-holds)
+returns-2 c = search (needs, head-fails)
 
-names-fit-requires : tie.Need-names-fit-requires
-names-fit-requires c κs = search (needs, head-there)
+places-fit-requires : tie.Need-places-fit-requires
+places-fit-requires c κs = (search (needs, head-there), (search (needs, limits-front), search (needs, used-front)))
 
 returns-3 : tie.Need-returns-3
-unfolding soundIn
-returns-3 c = search (needs, guard-holds)
+returns-3 c = search (needs, places-fail)
+
+names-fit-requires : tie.Need-names-fit-requires
+names-fit-requires c κs = (search (needs, head-there), search (needs, used-front))
+
+returns-4 : tie.Need-returns-4
+returns-4 c = search (needs, names-decide)
 
 pub ready-spec : {M : Type 1} → statement M
 ready-spec =
     tie.close
     (tie.spec
-    (λ c κs. search needs)
     returns
-    places-fit-requires
+    slice-aggregate-h
+    (λ c κs. search needs)
+    (λ c κs. search needs)
+    head-fits-requires
     returns-2
+    places-fit-requires
+    returns-3
     names-fit-requires
-    returns-3)
+    returns-4)

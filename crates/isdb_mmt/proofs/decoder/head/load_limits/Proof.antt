@@ -1,3 +1,4 @@
+use mathlib.Core.Path.{refl}
 use Rattle.isdb_mmt.specs.Session.{limitsOf}
 use borrow.Author.Needs.{needs}
 use Rattle.isdb_mmt.proofs.decoder.head.load_limits.Statement.{statement}
@@ -5,7 +6,7 @@ use Rattle.isdb_mmt.proofs.decoder.head.load_limits.Tie as tie
 
 returns : tie.Need-returns
 unfolding limitsOf
-returns c = cc
+returns c = rw (c .flag .ensures, c .before .get-u647 .ensures, c .before .before .get-u646 .ensures, c .before .before .before .get-u645 .ensures, c .before .before .before .before .get-u644 .ensures, c .before .before .before .before .before .get-u643 .ensures, c .before .before .before .before .before .before .get-u642 .ensures, c .before .before .before .before .before .before .before .get-u64 .ensures) refl
 
 pub load-limits-spec : {M : Type 1} → statement M
 load-limits-spec =

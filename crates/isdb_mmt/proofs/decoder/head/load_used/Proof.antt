@@ -1,12 +1,20 @@
 use Rattle.isdb_mmt.specs.Session.{usedOf}
+use mathlib.Core.Path.{refl}
 use borrow.Author.Needs.{needs}
 use Rattle.isdb_mmt.proofs.decoder.head.load_used.Statement.{statement}
 use Rattle.isdb_mmt.proofs.decoder.head.load_used.Tie as tie
 
 returns : tie.Need-returns
 unfolding usedOf
-returns c = cc
+returns c = rw (c .get-u323 .ensures, c .before .get-u322 .ensures, c .before .before .get-u32 .ensures) refl
 
 pub load-used-spec : {M : Type 1} → statement M
 load-used-spec =
-    tie.close (tie.spec (λ c κs. search needs) (λ c κs. search needs) (λ c κs. search needs) returns)
+    tie.close
+    (tie.spec
+    (λ c κs. search needs)
+    (λ c. search needs)
+    (λ c κs. search needs)
+    (λ c. search needs)
+    (λ c κs. search needs)
+    returns)

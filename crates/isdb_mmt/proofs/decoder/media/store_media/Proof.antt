@@ -1,7 +1,7 @@
 use Rattle.isdb_mmt.proofs.Stored.{sent}
-use native.Mathlib.Omega.{arith}
 use Prim.Native.Nat.{_+_, _*_}
 use Rattle.isdb_mmt.specs.Session.{mediaFields}
+use Rattle.isdb_mmt.specs.Layout.{mediaPlaces, mediaSize}
 use borrow.Author.Needs.{needs}
 use Rattle.isdb_mmt.proofs.decoder.media.store_media.Statement.{statement}
 use Rattle.isdb_mmt.proofs.decoder.media.store_media.Tie as tie
@@ -9,7 +9,7 @@ use Rattle.isdb_mmt.proofs.decoder.media.store_media.Tie as tie
 returns : tie.Need-returns
 returns c =
     let x = c .before .before .before .before .before .args in
-    sent (mediaFields (x .m)) (184 + 120 * x .i) (x .s .now) (c .before .before .put-media .ensures)
+    sent (mediaFields (x .m)) (mediaPlaces + mediaSize * x .i) (x .s .now) (c .before .before .put-media .ensures)
 
 pub store-media-spec : {M : Type 1} → statement M
 store-media-spec =

@@ -1,9 +1,10 @@
+use mathlib.Core.Path.{refl}
 use borrow.Author.Needs.{needs}
 use Rattle.isdb_mmt.proofs.decoder.section.load_section.Statement.{statement}
 use Rattle.isdb_mmt.proofs.decoder.section.load_section.Tie as tie
 
 returns : tie.Need-returns
-returns c = cc
+returns c = rw (c .section-of .ensures, c .before .part .ensures) refl
 
 pub load-section-spec : {M : Type 1} → statement M
 load-section-spec =

@@ -1,7 +1,7 @@
 use Rattle.isdb_mmt.proofs.Stored.{sent}
-use native.Mathlib.Omega.{arith}
 use Prim.Native.Nat.{_+_, _*_}
 use Rattle.isdb_mmt.specs.Session.{sectionFields}
+use Rattle.isdb_mmt.specs.Layout.{sectionPlaces, sectionSize}
 use borrow.Author.Needs.{needs}
 use Rattle.isdb_mmt.proofs.decoder.section.store_section.Statement.{statement}
 use Rattle.isdb_mmt.proofs.decoder.section.store_section.Tie as tie
@@ -9,7 +9,7 @@ use Rattle.isdb_mmt.proofs.decoder.section.store_section.Tie as tie
 returns : tie.Need-returns
 returns c =
     let x = c .before .before .before .before .before .args in
-    sent (sectionFields (x .x)) (8536 + 9 * x .i) (x .s .now) (c .before .before .put-section .ensures)
+    sent (sectionFields (x .x)) (sectionPlaces + sectionSize * x .i) (x .s .now) (c .before .before .put-section .ensures)
 
 pub store-section-spec : {M : Type 1} → statement M
 store-section-spec =

@@ -50,7 +50,7 @@ returns-11 c = rw (c .match .keys11)
 
 returns-12 : tie.Need-returns-12
 unfolding descriptorOf
-returns-12 c = let r = c .before .match .rest in simp (ne-eqb _ 0x0001 (r .0 .0 .0 .0 .0 .0 .0 .0 .0 .0 .1), ne-eqb _ 0x8026 (r .0 .0 .0 .0 .0 .0 .0 .0 .0 .1), ne-eqb _ 0x8004 (r .0 .0 .0 .0 .0 .0 .0 .0 .1), ne-eqb _ 0x8005 (r .0 .0 .0 .0 .0 .0 .0 .1), ne-eqb _ 0x8011 (r .0 .0 .0 .0 .0 .0 .1), ne-eqb _ 0x8019 (r .0 .0 .0 .0 .0 .1), ne-eqb _ 0x800D (r .0 .0 .0 .0 .1), ne-eqb _ 0xF001 (r .0 .0 .0 .1), ne-eqb _ 0x8012 (r .0 .0 .1), ne-eqb _ 0x800A (r .0 .1), ne-eqb _ 0x8018 (r .1), ← c .kept .ensures)
+returns-12 c = let r = c .before .match .rest in rw (ne-eqb _ 0x0001 (r .0 .0 .0 .0 .0 .0 .0 .0 .0 .0 .1), ne-eqb _ 0x8026 (r .0 .0 .0 .0 .0 .0 .0 .0 .0 .1), ne-eqb _ 0x8004 (r .0 .0 .0 .0 .0 .0 .0 .0 .1), ne-eqb _ 0x8005 (r .0 .0 .0 .0 .0 .0 .0 .1), ne-eqb _ 0x8011 (r .0 .0 .0 .0 .0 .0 .1), ne-eqb _ 0x8019 (r .0 .0 .0 .0 .0 .1), ne-eqb _ 0x800D (r .0 .0 .0 .0 .1), ne-eqb _ 0xF001 (r .0 .0 .0 .1), ne-eqb _ 0x8012 (r .0 .0 .1), ne-eqb _ 0x800A (r .0 .1), ne-eqb _ 0x8018 (r .1), ← c .kept .ensures)
 
 pub decode-spec : {M : Type 1} → statement M
 decode-spec =

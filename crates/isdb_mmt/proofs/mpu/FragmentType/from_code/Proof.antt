@@ -17,7 +17,7 @@ returns-3 c = rw (c .match .keys3)
 
 returns-4 : tie.Need-returns-4
 unfolding fragmentType
-returns-4 c = let r = c .match .rest in simp (ne-eqb _ 0 (r .0 .0 .1), ne-eqb _ 1 (r .0 .1), ne-eqb _ 2 (r .1))
+returns-4 c = let r = c .match .rest in rw (ne-eqb _ 0 (r .0 .0 .1), ne-eqb _ 1 (r .0 .1), ne-eqb _ 2 (r .1))
 
 pub from-code-spec : {M : Type 1} → statement M
 from-code-spec = tie.close (tie.spec returns returns-2 returns-3 returns-4)

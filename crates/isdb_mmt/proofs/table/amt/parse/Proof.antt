@@ -5,11 +5,11 @@ use Rattle.isdb_mmt.proofs.table.amt.parse.Tie as tie
 
 returns : tie.Need-returns
 unfolding amtOf
-returns c = simp (← c .before .before .before .long-section .ensures, c .before .e .given .1)
+returns c = rw (← c .before .before .before .long-section .ensures, c .before .e .given .1)
 
 returns-2 : tie.Need-returns-2
 unfolding amtOf
-returns-2 c = simp (← c .before .before .before .before .before .long-section .ensures, c .before .before .before .header .given .1, ← c .before .body .ensures, ← c .read .ensures)
+returns-2 c = rw (← c .before .before .before .before .before .before .long-section .ensures, c .before .before .before .before .header .given .1, ← c .before .of .ensures, ← c .read .ensures)
 
 pub parse-spec : {M : Type 1} → statement M
 parse-spec =

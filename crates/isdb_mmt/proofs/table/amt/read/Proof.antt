@@ -6,7 +6,7 @@ use Rattle.isdb_mmt.proofs.table.amt.read.Tie as tie
 
 returns : tie.Need-returns
 unfolding amtBody
-returns c = simp (lt-ltb _ _ (c .if1 .taken))
+returns c = rw (lt-ltb _ _ (c .if1 .taken))
 
 returns-2 : tie.Need-returns-2
 unfolding amtBody

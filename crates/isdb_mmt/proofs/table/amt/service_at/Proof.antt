@@ -1,62 +1,56 @@
-use lib.Dec.{eqb}
-use Prim.Native.Nat.{_/_, _-_}
-use Rattle.isdb_mmt.proofs.Services.{size-le}
-use lib.ListN.{length}
-use native.Mathlib.Omega.{arith}
-use Rattle.isdb_mmt.specs.Amt.{serviceAt}
 use borrow.Author.Tests.{lt-ltb, le-ltb}
+use Rattle.isdb_mmt.specs.Amt.{serviceAt}
+use native.Mathlib.Omega.{arith}
+use Rattle.isdb_mmt.proofs.Services.{size-le}
+use Prim.Native.Nat.{_/_}
+use lib.Dec.{eqb}
 use borrow.Author.Needs.{needs}
 use Rattle.isdb_mmt.proofs.table.amt.service_at.Statement.{statement}
 use Rattle.isdb_mmt.proofs.table.amt.service_at.Tie as tie
 
 returns : tie.Need-returns
 unfolding serviceAt
-returns c = rw (lt-ltb (length (c .before .before .args .body .now) - c .before .before .args .at) 4 (omega arith))
+returns c = rw (← c .before .left .ensures, lt-ltb _ _ (c .if1 .taken))
 
 returns-2 : tie.Need-returns-2
 unfolding serviceAt
-returns-2 c = simp (lt-ltb _ _ (c .if2 .taken))
+returns-2 c = rw (← c .before .before .before .left .ensures, le-ltb _ _ (c .before .before .if1 .left), ← c .before .get-u16 .ensures, lt-ltb _ _ (c .if2 .taken))
+
+mul-if3 : tie.Need-mul-if3
+mul-if3 c = let s = size-le (eqb (c .before .before .get-u16 .result / 32768) 1) (c .address-size .ensures) in record { fits = omega arith }
+
+add-if3 : tie.Need-add-if3
+add-if3 c = let s = size-le (eqb (c .before .before .get-u16 .result / 32768) 1) (c .address-size .ensures) in record { fits = omega arith }
 
 returns-3 : tie.Need-returns-3
 unfolding serviceAt
-returns-3 c = simp (le-ltb _ _ (c .before .before .if2 .left), ← c .before .get-u16 .ensures, lt-ltb _ _ (c .if3 .taken))
-
-mul-if4 : tie.Need-mul-if4
-mul-if4 c = let s = size-le (eqb (c .before .before .get-u16 .result / 32768) 1) (c .address-size .ensures) in record { fits = omega arith }
-
-add-if4 : tie.Need-add-if4
-add-if4 c = let s = size-le (eqb (c .before .before .get-u16 .result / 32768) 1) (c .address-size .ensures) in record { fits = omega arith }
-
-returns-4 : tie.Need-returns-4
-unfolding serviceAt
-returns-4 c = simp (le-ltb _ _ (c .before .before .before .before .if2 .left), ← c .before .before .before .get-u16 .ensures, le-ltb _ _ (c .before .before .if3 .left), ← c .before .address-size .ensures, lt-ltb _ _ (c .if4 .taken))
+returns-3 c = rw (← c .before .before .before .before .before .left .ensures, le-ltb _ _ (c .before .before .before .before .if1 .left), ← c .before .before .before .get-u16 .ensures, le-ltb _ _ (c .before .before .if2 .left), ← c .before .address-size .ensures, lt-ltb _ _ (c .if3 .taken))
 
 flow-of-requires : tie.Need-flow-of-requires
 flow-of-requires c κs = size-le (eqb (c .before .before .before .before .before .get-u16 .result / 32768) 1) (c .before .before .before .address-size .ensures)
 
-returns-5 : tie.Need-returns-5
+returns-4 : tie.Need-returns-4
 unfolding serviceAt
-returns-5 c = simp (le-ltb _ _ (c .before .before .before .before .before .before .before .if2 .left), ← c .before .before .before .before .before .before .get-u16 .ensures, le-ltb _ _ (c .before .before .before .before .before .if3 .left), ← c .before .before .before .before .address-size .ensures, le-ltb _ _ (c .before .before .before .if4 .left), ← c .before .before .rest .ensures, ← c .before .get-u162 .ensures, ← c .flow-of .ensures)
+returns-4 c = rw (← c .before .before .before .before .before .before .before .before .left .ensures, le-ltb _ _ (c .before .before .before .before .before .before .before .if1 .left), ← c .before .before .before .before .before .before .get-u16 .ensures, le-ltb _ _ (c .before .before .before .before .before .if2 .left), ← c .before .before .before .before .address-size .ensures, le-ltb _ _ (c .before .before .before .if3 .left), c .flow-of .ensures, c .before .before .rest .ensures, c .before .get-u162 .ensures)
 
 pub service-at-spec : {M : Type 1} → statement M
 service-at-spec =
     tie.close
     (tie.spec
+    (λ c κs. search needs)
     returns
     (λ c. search needs)
+    (λ c. search needs)
+    (λ c κs. search needs)
+    (λ c. search needs)
+    (λ c. search needs)
     returns-2
-    (λ c. search needs)
-    (λ c. search needs)
     (λ c κs. search needs)
-    (λ c. search needs)
-    (λ c. search needs)
+    mul-if3
+    add-if3
     returns-3
-    (λ c κs. search needs)
-    mul-if4
-    add-if4
-    returns-4
     (λ c κs. search needs)
     (λ c κs. search needs)
     flow-of-requires
     (λ c. search needs)
-    returns-5)
+    returns-4)

@@ -4,7 +4,7 @@ use Rattle.isdb_mmt.proofs.table.bit.broadcaster_of.Statement.{statemen
 use Rattle.isdb_mmt.proofs.table.bit.broadcaster_of.Tie as tie
 
 returns : tie.Need-returns
-returns c = simp (c .get-u8 .ensures, ← be-one)
+returns c = rw (c .get-u8 .ensures, ← be-one)
 
 pub broadcaster-of-spec : {M : Type 1} → statement M
 broadcaster-of-spec = tie.close (tie.spec (λ c κs. search needs) returns)

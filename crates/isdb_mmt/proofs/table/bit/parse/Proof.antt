@@ -5,21 +5,11 @@ use Rattle.isdb_mmt.proofs.table.bit.parse.Tie as tie
 
 returns : tie.Need-returns
 unfolding bitOf
-returns c =
-    simp (
-      ← c .before .before .before .long-section .ensures,
-      c .before .e .given .1,
-    )
+returns c = rw (c .refused .ensures, ← c .before .before .before .before .long-section .ensures, c .before .before .e .given .1)
 
 returns-2 : tie.Need-returns-2
 unfolding bitOf
-returns-2 c =
-    simp (
-      ← c .before .before .before .before .before .long-section .ensures,
-      c .before .before .before .header .given .1,
-      ← c .before .body .ensures,
-      ← c .read .ensures,
-    )
+returns-2 c = rw (← c .before .before .before .before .before .before .long-section .ensures, c .before .before .before .before .header .given .1, ← c .before .of .ensures, ← c .read .ensures)
 
 pub parse-spec : {M : Type 1} → statement M
 parse-spec =
@@ -27,6 +17,7 @@ parse-spec =
     (tie.spec
     (λ c κs. search needs)
     (λ c. search needs)
+    (λ c κs. search needs)
     (λ c. search needs)
     (λ c κs. search needs)
     (λ c κs. search needs)

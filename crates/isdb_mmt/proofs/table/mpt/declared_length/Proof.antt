@@ -6,15 +6,15 @@ use Rattle.isdb_mmt.proofs.table.mpt.declared_length.Tie as tie
 
 returns : tie.Need-returns
 unfolding declaredLength
-returns c = simp (lt-ltb _ _ (c .if1 .taken))
+returns c = rw (lt-ltb _ _ (c .if1 .taken))
 
 returns-2 : tie.Need-returns-2
 unfolding declaredLength
-returns-2 c = simp (le-ltb _ _ (c .before .before .if1 .left), ← c .before .get-u16 .ensures, lt-ltb _ _ (c .if2 .taken))
+returns-2 c = rw (le-ltb _ _ (c .before .before .if1 .left), ← c .before .get-u16 .ensures, lt-ltb _ _ (c .if2 .taken))
 
 returns-3 : tie.Need-returns-3
 unfolding declaredLength
-returns-3 c = simp (le-ltb _ _ (c .before .before .if1 .left), ← c .before .get-u16 .ensures, le-ltb _ _ (c .if2 .left))
+returns-3 c = rw (le-ltb _ _ (c .before .before .if1 .left), ← c .before .get-u16 .ensures, le-ltb _ _ (c .if2 .left))
 
 pub declared-length-spec : {M : Type 1} → statement M
 declared-length-spec =

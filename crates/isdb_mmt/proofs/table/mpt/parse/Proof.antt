@@ -1,15 +1,15 @@
-use Rattle.isdb_mmt.specs.Mpt.{mptOf}
 use borrow.Author.Needs.{needs}
+use Rattle.isdb_mmt.specs.Mpt.{mptOf}
 use Rattle.isdb_mmt.proofs.table.mpt.parse.Statement.{statement}
 use Rattle.isdb_mmt.proofs.table.mpt.parse.Tie as tie
 
 returns : tie.Need-returns
 unfolding mptOf
-returns c = simp (← c .before .before .declared-length .ensures, c .enum-told .given .1)
+returns c = rw (c .no-table .ensures, ← c .before .before .before .declared-length .ensures, c .before .enum-told .given .1)
 
 returns-2 : tie.Need-returns-2
 unfolding mptOf
-returns-2 c = simp (← c .before .before .before .before .before .declared-length .ensures, c .before .before .before .n .given .1, ← c .before .part .ensures, ← c .read .ensures)
+returns-2 c = rw (← c .before .before .before .before .before .declared-length .ensures, c .before .before .before .n .given .1, ← c .before .part .ensures, ← c .read .ensures)
 
 pub parse-spec : {M : Type 1} → statement M
 parse-spec =
@@ -17,6 +17,7 @@ parse-spec =
     (tie.spec
     (λ c κs. search needs)
     (λ c. search needs)
+    (λ c κs. search needs)
     (λ c. search needs)
     (λ c κs. search needs)
     (λ c κs. search needs)

@@ -5,15 +5,15 @@ use Rattle.isdb_mmt.proofs.table.nit.next_stream.Tie as tie
 
 returns : tie.Need-returns
 unfolding streamStep
-returns c = simp (← c .before .before .next-entry .ensures, c .enum-told .given .1)
+returns c = rw (← c .before .before .next-entry .ensures, c .enum-told .given .1)
 
 returns-2 : tie.Need-returns-2
 unfolding streamStep
-returns-2 c = simp (← c .before .before .next-entry .ensures, c .enum-told2 .given .1)
+returns-2 c = rw (← c .before .before .next-entry .ensures, c .enum-told2 .given .1)
 
 returns-3 : tie.Need-returns-3
 unfolding streamStep
-returns-3 c = simp (← c .before .before .before .before .next-entry .ensures, c .before .before .e .given .1, ← c .stream-of .ensures)
+returns-3 c = rw (← c .before .before .before .before .next-entry .ensures, c .before .before .e .given .1, ← c .stream-of .ensures)
 
 pub next-stream-spec : {M : Type 1} → statement M
 next-stream-spec =

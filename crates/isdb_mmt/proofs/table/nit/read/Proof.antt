@@ -1,6 +1,6 @@
-use Rattle.isdb_mmt.proofs.Entries.{whole-told, count-told}
-use borrow.Author.Tests.{lt-ltb, le-ltb, not-true, not-false}
 use Rattle.isdb_mmt.specs.Nit.{nitBody}
+use borrow.Author.Tests.{lt-ltb, le-ltb, not-true, not-false}
+use Rattle.isdb_mmt.proofs.Entries.{whole-told, count-told}
 use borrow.Author.Needs.{needs}
 use Rattle.isdb_mmt.proofs.table.nit.read.Statement.{statement}
 use Rattle.isdb_mmt.proofs.table.nit.read.Tie as tie
@@ -36,7 +36,6 @@ read-spec =
     (λ c. search needs)
     (λ c κs. search needs)
     returns-2
-    (λ c. search needs)
     (λ c. search needs)
     (λ c κs. search needs)
     (λ c. search needs)

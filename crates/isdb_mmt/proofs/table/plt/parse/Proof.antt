@@ -5,11 +5,11 @@ use Rattle.isdb_mmt.proofs.table.plt.parse.Tie as tie
 
 returns : tie.Need-returns
 unfolding pltOf
-returns c = simp (← c .before .before .declared-length .ensures, c .enum-told .given .1)
+returns c = rw (← c .before .before .declared-length .ensures, c .enum-told .given .1)
 
 returns-2 : tie.Need-returns-2
 unfolding pltOf
-returns-2 c = simp (← c .before .before .before .before .before .declared-length .ensures, c .before .before .before .n .given .1, ← c .before .part .ensures, ← c .read .ensures)
+returns-2 c = rw (← c .before .before .before .before .before .declared-length .ensures, c .before .before .before .n .given .1, ← c .before .part .ensures, ← c .read .ensures)
 
 pub parse-spec : {M : Type 1} → statement M
 parse-spec =

@@ -6,7 +6,7 @@ use Rattle.isdb_mmt.proofs.table.sdt.next_service.Tie as tie
 returns : tie.Need-returns
 unfolding serviceStep
 returns c =
-    simp (
+    rw (
       ← c .before .before .next-entry .ensures,
       c .enum-told .given .1,
     )
@@ -14,7 +14,7 @@ returns c =
 returns-2 : tie.Need-returns-2
 unfolding serviceStep
 returns-2 c =
-    simp (
+    rw (
       ← c .before .before .next-entry .ensures,
       c .enum-told2 .given .1,
     )
@@ -22,7 +22,7 @@ returns-2 c =
 returns-3 : tie.Need-returns-3
 unfolding serviceStep
 returns-3 c =
-    simp (
+    rw (
       ← c .before .before .before .before .next-entry .ensures,
       c .before .before .e .given .1,
       ← c .service-of .ensures,

@@ -7,12 +7,12 @@ use Rattle.isdb_mmt.proofs.table.section.next_entry.Tie as tie
 returns : tie.Need-returns
 unfolding entryAt
 returns c =
-    simp (le-leb _ _ (c .if1 .taken))
+    rw (le-leb _ _ (c .if1 .taken))
 
 returns-2 : tie.Need-returns-2
 unfolding entryAt
 returns-2 c =
-    simp (
+    rw (
       lt-leb _ _ (c .before .if1 .left),
       lt-ltb _ _ (c .if2 .taken),
     )
@@ -20,7 +20,7 @@ returns-2 c =
 returns-3 : tie.Need-returns-3
 unfolding entryAt
 returns-3 c =
-    simp (
+    rw (
       lt-leb _ _ (c .before .before .before .if1 .left),
       le-ltb _ _ (c .before .before .if2 .left),
       ← c .before .get-u12 .ensures,
@@ -30,7 +30,7 @@ returns-3 c =
 returns-4 : tie.Need-returns-4
 unfolding entryAt
 returns-4 c =
-    simp (
+    rw (
       lt-leb _ _ (c .before .before .before .if1 .left),
       le-ltb _ _ (c .before .before .if2 .left),
       ← c .before .get-u12 .ensures,

@@ -1,74 +1,44 @@
-use Rattle.isdb_mmt.specs.Tot.{totOf}
-use mathlib.Core.Path.{sym}
-use lib.Seq.{length-take-le}
 use borrow.Author.Tests.{lt-ltb, le-ltb, eq-eqb, ne-eqb}
+use Rattle.isdb_mmt.specs.Tot.{totOf}
 use borrow.Author.Needs.{needs}
 use Rattle.isdb_mmt.proofs.table.tot.parse.Statement.{statement}
 use Rattle.isdb_mmt.proofs.table.tot.parse.Tie as tie
 
 returns : tie.Need-returns
 unfolding totOf
-returns c =
-    simp (lt-ltb _ _ (c .if1 .taken))
+returns c = rw (c .refused .ensures, lt-ltb _ _ (c .before .if1 .taken))
 
 returns-2 : tie.Need-returns-2
 unfolding totOf
-returns-2 c =
-    simp (
-      le-ltb _ _ (c .before .before .if1 .left),
-      ← c .before .get-u12 .ensures,
-      lt-ltb _ _ (c .if2 .taken),
-    )
+returns-2 c = rw (c .refused2 .ensures, le-ltb _ _ (c .before .before .before .if1 .left), ← c .before .before .get-u12 .ensures, lt-ltb _ _ (c .before .if2 .taken))
 
 returns-3 : tie.Need-returns-3
 unfolding totOf
-returns-3 c =
-    simp (
-      le-ltb _ _ (c .before .before .before .if1 .left),
-      ← c .before .before .get-u12 .ensures,
-      le-ltb _ _ (c .before .if2 .left),
-      lt-ltb _ _ (c .if3 .taken),
-    )
-
-slice-aggregate-crc32 : tie.Need-slice-aggregate-crc32
-slice-aggregate-crc32 c = sym (length-take-le _ (c .before .before .before .before .before .before .args .b .now) (c .before .if3 .left))
+returns-3 c = rw (c .refused3 .ensures, le-ltb _ _ (c .before .before .before .before .if1 .left), ← c .before .before .before .get-u12 .ensures, le-ltb _ _ (c .before .before .if2 .left), lt-ltb _ _ (c .before .if3 .taken))
 
 returns-4 : tie.Need-returns-4
 unfolding totOf
-returns-4 c =
-    simp (
-      le-ltb _ _ (c .before .before .before .before .before .before .if1 .left),
-      ← c .before .before .before .before .before .get-u12 .ensures,
-      le-ltb _ _ (c .before .before .before .before .if2 .left),
-      le-ltb _ _ (c .before .before .before .if3 .left),
-      ← c .before .crc32 .ensures,
-      ne-eqb _ _ (c .if4 .taken),
-    )
+returns-4 c = rw (c .refused4 .ensures, le-ltb _ _ (c .before .before .before .before .before .before .before .if1 .left), ← c .before .before .before .before .before .before .get-u12 .ensures, le-ltb _ _ (c .before .before .before .before .before .if2 .left), le-ltb _ _ (c .before .before .before .before .if3 .left), ← c .before .before .before .part .ensures, ← c .before .before .crc32 .ensures, ne-eqb _ _ (c .before .if4 .taken))
 
 returns-5 : tie.Need-returns-5
 unfolding totOf
-returns-5 c =
-    simp (
-      le-ltb _ _ (c .before .before .before .before .before .before .before .if1 .left),
-      ← c .before .before .before .before .before .before .get-u12 .ensures,
-      le-ltb _ _ (c .before .before .before .before .before .if2 .left),
-      le-ltb _ _ (c .before .before .before .before .if3 .left),
-      ← c .before .before .crc32 .ensures,
-      eq-eqb _ _ (c .before .if4 .left),
-      ← c .read .ensures,
-    )
+returns-5 c = rw (le-ltb _ _ (c .before .before .before .before .before .before .before .if1 .left), ← c .before .before .before .before .before .before .get-u12 .ensures, le-ltb _ _ (c .before .before .before .before .before .if2 .left), le-ltb _ _ (c .before .before .before .before .if3 .left), ← c .before .before .before .part .ensures, ← c .before .before .crc32 .ensures, eq-eqb _ _ (c .before .if4 .left), ← c .read .ensures)
 
 pub parse-spec : {M : Type 1} → statement M
 parse-spec =
     tie.close
     (tie.spec
+    (λ c κs. search needs)
     returns
     (λ c κs. search needs)
     (λ c. search needs)
     (λ c. search needs)
+    (λ c κs. search needs)
     returns-2
+    (λ c κs. search needs)
     returns-3
-    slice-aggregate-crc32
+    (λ c κs. search needs)
+    (λ c κs. search needs)
     (λ c κs. search needs)
     returns-4
     (λ c κs. search needs)

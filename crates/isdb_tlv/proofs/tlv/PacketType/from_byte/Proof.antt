@@ -26,7 +26,7 @@ returns-5 c = rw (c .match .keys5)
 returns-6 : tie.Need-returns-6
 unfolding packetType
 returns-6 c = let r = c .match .rest in
-    simp (
+    rw (
       ne-eqb _ 0x01 (r .0 .0 .0 .0 .1),
       ne-eqb _ 0x02 (r .0 .0 .0 .1),
       ne-eqb _ 0x03 (r .0 .0 .1),
