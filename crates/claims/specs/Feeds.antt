@@ -9,7 +9,8 @@ use Rattle.isdb_tlv.specs.Fields.{bytesOf}
 use Rattle.isdb_mmt.specs.Objects.{Mfu, continued, grown, unitDoes}
 use Rattle.isdb_mmt.specs.Model.{opened}
 use Rattle.isdb_mmt.specs.Demand.{packetsOf, pushAll}
-use Rattle.isdb_mmt.specs.Cases.{told, left, passed, sections, needed, given, tables, asks, clearly, headOf, lastOf, completeOf, unreadable, scrambledOf, payload, fragment, mptMessage, mediaNeeds, messageNeeds, ab, cd, nit1, nit2}
+use Rattle.isdb_mmt.specs.Cases.{told, left, passed, sections, needed, given, tables, asks, clearly, headOf, lastOf, completeOf, unreadable, scrambledOf, payload, mediaNeeds, ab, cd}
+use Rattle.isdb_mmt.specs.ControlCases.{fragment, mptMessage, messageNeeds, nit1, nit2}
 use Rattle.isdb_mmt.specs.declared.mpu.FragmentationIndicator.the-variants.{Middle, Last}
 
 -- behind 4,294,967,295 comes 0: a head there and its last at 0 are one object

@@ -7,3 +7,4 @@ pub mod Descriptors
 pub mod Tables
 pub mod Session
 pub mod Feeds
+pub mod Pushes

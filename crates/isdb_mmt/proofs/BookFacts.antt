@@ -9,12 +9,12 @@ use mathlib.Core.List.{List, [], _∷_, _++_, append-nil, append-assoc}
 use lib.ListN.{length, length-append}
 use lib.Dec.{eqb, leb, leb→le, eqb→eq}
 use Rattle.isdb_mmt.proofs.Run.{at, run-written}
-use Rattle.isdb_mmt.specs.Packet.{Bytes, Piece, Packet, ipError, ntp, nonMmtp, media, message, control, other}
+use Rattle.isdb_mmt.specs.Packet.{Bytes, Piece, Packet, ipError, ntp, nonMmtp, media, message, control, other, readable}
 use Rattle.isdb_mmt.specs.Maps.{find, orElse}
-use Rattle.isdb_mmt.specs.Objects.{readable, fresh}
+use Rattle.isdb_mmt.specs.Objects.{fresh}
 use Rattle.isdb_mmt.specs.Model.{opened, assetOf}
-use Rattle.isdb_mmt.specs.Book.{Item, seen, got, gots, itemsOf, tapeOf, Book, nothing, dropCounted, inOrder, goesOn, write, writeAll, book, follower, limit, isHeld, begins, begunIn, begunBy, begun, deliveredOf, Unbroken, joined, whole, divided, Cut, done, skip, object}
-use Rattle.isdb_mmt.specs.Demand.{pushAll, giveAll, bytesOf, heldOf, droppedOf, AllSmall, EverySmall, Bounded, OfId}
+use Rattle.isdb_mmt.specs.Book.{Item, seen, got, gots, itemsOf, tapeOf, Book, nothing, dropCounted, inOrder, missing, goesOn, write, writeAll, book, follower, limit, isHeld, begins, begunIn, begunBy, begun, deliveredOf, Unbroken, joined, whole, divided, Cut, done, skip, object}
+use Rattle.isdb_mmt.specs.Demand.{pushAll, giveAll, bytesOf, heldOf, droppedOf, lostOf, AllSmall, EverySmall, Bounded, OfId}
 use Rattle.isdb_mmt.specs.declared.mpu.FragmentationIndicator.the-variants.{Complete, Head, Middle, Last}
 
 -- ---- the balance
@@ -30,36 +30,36 @@ begunOn (x ∷ t) = begunAt x + begunOn t
 unfoldable total : Book → ℕ
 total b = length (b .delivered) + b .dropped + isHeld (b .held)
 
-total-write : (n : Option ℕ) (h : Option Bytes) (k : ℕ) (os : List Bytes) (x : Item)
-    → total (write (at n h k os) x) ≡ begunAt x + total (at n h k os)
+total-write : (w : ℕ) (n : Option ℕ) (h : Option Bytes) (k : ℕ) (os : List Bytes) (x : Item)
+    → total (write (at w n h k os) x) ≡ begunAt x + total (at w n h k os)
 unfolding total write dropCounted goesOn begunAt begins isHeld
-total-write n h k os (seen j) = go (inOrder n j) h
+total-write w n h k os (seen j) = go (inOrder n j) h
   where
-    go : (b : Bool) (h : Option Bytes) → total (cond b (at (some j) h k os) (at (some j) none (dropCounted h k) os)) ≡ 0 + total (at n h k os)
+    go : (b : Bool) (h : Option Bytes) → total (cond b (at (w + missing n j) (some j) h k os) (at (w + missing n j) (some j) none (dropCounted h k) os)) ≡ 0 + total (at w n h k os)
     go true h = omega arith
     go false none = omega arith
     go false (some h) = omega arith
-total-write n none k os (got j Complete d) = simp length-append (omega arith)
-total-write n (some h) k os (got j Complete d) = simp length-append (omega arith)
-total-write n none k os (got j Head d) = omega arith
-total-write n (some h) k os (got j Head d) = omega arith
-total-write n none k os (got j Middle d) = omega arith
-total-write n (some h) k os (got j Middle d) = go (leb (length h + length d) limit)
+total-write w n none k os (got j Complete d) = simp length-append (omega arith)
+total-write w n (some h) k os (got j Complete d) = simp length-append (omega arith)
+total-write w n none k os (got j Head d) = omega arith
+total-write w n (some h) k os (got j Head d) = omega arith
+total-write w n none k os (got j Middle d) = omega arith
+total-write w n (some h) k os (got j Middle d) = go (leb (length h + length d) limit)
   where
-    go : (b : Bool) → total (cond b (at n (some (h ++ d)) k os) (at n none (k + 1) os)) ≡ 0 + total (at n (some h) k os)
+    go : (b : Bool) → total (cond b (at w n (some (h ++ d)) k os) (at w n none (k + 1) os)) ≡ 0 + total (at w n (some h) k os)
     go true = omega arith
     go false = omega arith
-total-write n none k os (got j Last d) = omega arith
-total-write n (some h) k os (got j Last d) = go (leb (length h + length d) limit)
+total-write w n none k os (got j Last d) = omega arith
+total-write w n (some h) k os (got j Last d) = go (leb (length h + length d) limit)
   where
-    go : (b : Bool) → total (cond b (at n none k (os ++ ((h ++ d) ∷ []))) (at n none (k + 1) os)) ≡ 0 + total (at n (some h) k os)
+    go : (b : Bool) → total (cond b (at w n none k (os ++ ((h ++ d) ∷ []))) (at w n none (k + 1) os)) ≡ 0 + total (at w n (some h) k os)
     go true = simp length-append (omega arith)
     go false = omega arith
 
 balance : (t : List Item) (b : Book) → begunOn t + total b ≡ total (writeAll b t)
 unfolding begunOn writeAll
 balance [] b = omega arith
-balance (x ∷ t) b = omega (arith, balance t (write b x), total-write (b .number) (b .held) (b .dropped) (b .delivered) x)
+balance (x ∷ t) b = omega (arith, balance t (write b x), total-write (b .lost) (b .number) (b .held) (b .dropped) (b .delivered) x)
 
 begunOn-append : (s t : List Item) → begunOn (s ++ t) ≡ begunOn s + begunOn t
 unfolding begunOn
@@ -98,37 +98,37 @@ SmallOn [] = Unit {0}
 SmallOn (seen n ∷ t) = SmallOn t
 SmallOn (got n f d ∷ t) = (length d ≤ limit) × SmallOn t
 
-bound : (t : List Item) (n : Option ℕ) (h : Option Bytes) (k : ℕ) (os : List Bytes) → SmallOn t → Bounded h → Bounded (writeAll (at n h k os) t .held)
+bound : (t : List Item) (w : ℕ) (n : Option ℕ) (h : Option Bytes) (k : ℕ) (os : List Bytes) → SmallOn t → Bounded h → Bounded (writeAll (at w n h k os) t .held)
 unfolding writeAll write goesOn
-bound [] n h k os q f = f
-bound (seen j ∷ t) n h k os q f = go (inOrder n j) (bound t (some j) h k os q f) (bound t (some j) none (dropCounted h k) os q tt)
+bound [] w n h k os q f = f
+bound (seen j ∷ t) w n h k os q f = go (inOrder n j) (bound t (w + missing n j) (some j) h k os q f) (bound t (w + missing n j) (some j) none (dropCounted h k) os q tt)
   where
-    go : (b : Bool) → Bounded (writeAll (at (some j) h k os) t .held) → Bounded (writeAll (at (some j) none (dropCounted h k) os) t .held)
-        → Bounded (writeAll (cond b (at (some j) h k os) (at (some j) none (dropCounted h k) os)) t .held)
+    go : (b : Bool) → Bounded (writeAll (at (w + missing n j) (some j) h k os) t .held) → Bounded (writeAll (at (w + missing n j) (some j) none (dropCounted h k) os) t .held)
+        → Bounded (writeAll (cond b (at (w + missing n j) (some j) h k os) (at (w + missing n j) (some j) none (dropCounted h k) os)) t .held)
     go true x y = x
     go false x y = y
-bound (got j Complete d ∷ t) n h k os q f = bound t n none (dropCounted h k) (os ++ (d ∷ [])) (q .1) tt
-bound (got j Head d ∷ t) n h k os q f = bound t n (some d) (dropCounted h k) os (q .1) (q .0)
-bound (got j Middle d ∷ t) n none k os q f = bound t n none k os (q .1) tt
-bound (got j Middle d ∷ t) n (some h) k os q f =
-    go (leb (length h + length d) limit) refl (bound t n (some (h ++ d)) k os (q .1)) (bound t n none (k + 1) os (q .1) tt)
+bound (got j Complete d ∷ t) w n h k os q f = bound t w n none (dropCounted h k) (os ++ (d ∷ [])) (q .1) tt
+bound (got j Head d ∷ t) w n h k os q f = bound t w n (some d) (dropCounted h k) os (q .1) (q .0)
+bound (got j Middle d ∷ t) w n none k os q f = bound t w n none k os (q .1) tt
+bound (got j Middle d ∷ t) w n (some h) k os q f =
+    go (leb (length h + length d) limit) refl (bound t w n (some (h ++ d)) k os (q .1)) (bound t w n none (k + 1) os (q .1) tt)
   where
     go : (b : Bool) → leb (length h + length d) limit ≡ b
-        → (Bounded (some (h ++ d)) → Bounded (writeAll (at n (some (h ++ d)) k os) t .held)) → Bounded (writeAll (at n none (k + 1) os) t .held)
-        → Bounded (writeAll (cond b (at n (some (h ++ d)) k os) (at n none (k + 1) os)) t .held)
+        → (Bounded (some (h ++ d)) → Bounded (writeAll (at w n (some (h ++ d)) k os) t .held)) → Bounded (writeAll (at w n none (k + 1) os) t .held)
+        → Bounded (writeAll (cond b (at w n (some (h ++ d)) k os) (at w n none (k + 1) os)) t .held)
     go true e x y = x (simp length-append (leb→le (length h + length d) limit (rw e tt)))
     go false e x y = y
-bound (got j Last d ∷ t) n none k os q f = bound t n none k os (q .1) tt
-bound (got j Last d ∷ t) n (some h) k os q f =
-    go (leb (length h + length d) limit) (bound t n none k (os ++ ((h ++ d) ∷ [])) (q .1) tt) (bound t n none (k + 1) os (q .1) tt)
+bound (got j Last d ∷ t) w n none k os q f = bound t w n none k os (q .1) tt
+bound (got j Last d ∷ t) w n (some h) k os q f =
+    go (leb (length h + length d) limit) (bound t w n none k (os ++ ((h ++ d) ∷ [])) (q .1) tt) (bound t w n none (k + 1) os (q .1) tt)
   where
-    go : (b : Bool) → Bounded (writeAll (at n none k (os ++ ((h ++ d) ∷ []))) t .held) → Bounded (writeAll (at n none (k + 1) os) t .held)
-        → Bounded (writeAll (cond b (at n none k (os ++ ((h ++ d) ∷ []))) (at n none (k + 1) os)) t .held)
+    go : (b : Bool) → Bounded (writeAll (at w n none k (os ++ ((h ++ d) ∷ []))) t .held) → Bounded (writeAll (at w n none (k + 1) os) t .held)
+        → Bounded (writeAll (cond b (at w n none k (os ++ ((h ++ d) ∷ []))) (at w n none (k + 1) os)) t .held)
     go true x y = x
     go false x y = y
 
 held-bounded : (b : Book) (t : List Item) → SmallOn t → Bounded (b .held) → Bounded (writeAll b t .held)
-held-bounded b t q f = bound t (b .number) (b .held) (b .dropped) (b .delivered) q f
+held-bounded b t q f = bound t (b .lost) (b .number) (b .held) (b .dropped) (b .delivered) q f
 
 -- ---- what the delivered objects are made of
 
@@ -185,53 +185,53 @@ on-last {k} {d} {h} q c = rw append-nil at (opens {h = h} [] k d q (closed c))
 in-front : {ds : List Bytes} (os : List Bytes) (o : Bytes) (new : List Bytes) → ds ≡ os ++ (o ∷ []) ++ new → ds ≡ os ++ o ∷ new
 in-front os o new e = e ∙ append-assoc os (o ∷ []) new
 
-made : (t : List Item) (n : Option ℕ) (h : Option Bytes) (k : ℕ) (os : List Bytes) → Numbered n t → Sane n h
-    → Made (writeAll (at n h k os) t .delivered) n h os t
+made : (t : List Item) (w : ℕ) (n : Option ℕ) (h : Option Bytes) (k : ℕ) (os : List Bytes) → Numbered n t → Sane n h
+    → Made (writeAll (at w n h k os) t .delivered) n h os t
 unfolding writeAll write goesOn inOrder joined
-made [] n h k os q s = record { new = []; grown = sym (append-nil os); cut = plain done }
-made (seen j ∷ t) none none k os q s =
-    let r = made t (some j) none k os q tt in record { new = r .new; grown = r .grown; cut = plain (skip (seen j) (closed (r .cut))) }
-made (seen j ∷ t) none (some h) k os q s = absurd s
-made (seen j ∷ t) (some l) h k os q s = go (eqb j (follower l)) refl (made t (some j) h k os q tt) (made t (some j) none (dropCounted h k) os q tt)
+made [] w n h k os q s = record { new = []; grown = sym (append-nil os); cut = plain done }
+made (seen j ∷ t) w none none k os q s =
+    let r = made t (w + missing none j) (some j) none k os q tt in record { new = r .new; grown = r .grown; cut = plain (skip (seen j) (closed (r .cut))) }
+made (seen j ∷ t) w none (some h) k os q s = absurd s
+made (seen j ∷ t) w (some l) h k os q s = go (eqb j (follower l)) refl (made t (w + missing (some l) j) (some j) h k os q tt) (made t (w + missing (some l) j) (some j) none (dropCounted h k) os q tt)
   where
     go : (b : Bool) → eqb j (follower l) ≡ b
-        → Made (writeAll (at (some j) h k os) t .delivered) (some j) h os t → Made (writeAll (at (some j) none (dropCounted h k) os) t .delivered) (some j) none os t
-        → Made (writeAll (cond b (at (some j) h k os) (at (some j) none (dropCounted h k) os)) t .delivered) (some l) h os (seen j ∷ t)
+        → Made (writeAll (at (w + missing (some l) j) (some j) h k os) t .delivered) (some j) h os t → Made (writeAll (at (w + missing (some l) j) (some j) none (dropCounted h k) os) t .delivered) (some j) none os t
+        → Made (writeAll (cond b (at (w + missing (some l) j) (some j) h k os) (at (w + missing (some l) j) (some j) none (dropCounted h k) os)) t .delivered) (some l) h os (seen j ∷ t)
     go true e x y = record { new = x .new; grown = x .grown; cut = on-seen (eqb→eq j (follower l) (rw e tt)) (x .cut) }
     go false e x y = record { new = y .new; grown = y .grown; cut = plain (skip (seen j) (closed (y .cut))) }
-made (got j f d ∷ t) none h k os q s = absurd q
-made (got j Complete d ∷ t) (some n) h k os q s =
-    let r = made t (some n) none (dropCounted h k) (os ++ (d ∷ [])) (q .1) tt in
+made (got j f d ∷ t) w none h k os q s = absurd q
+made (got j Complete d ∷ t) w (some n) h k os q s =
+    let r = made t w (some n) none (dropCounted h k) (os ++ (d ∷ [])) (q .1) tt in
     record { new = d ∷ r .new; grown = in-front os d (r .new) (r .grown); cut = plain (rw append-nil at (object (whole j d) (closed (r .cut)))) }
-made (got j Head d ∷ t) (some n) h k os q s =
-    let r = made t (some n) (some d) (dropCounted h k) os (q .1) tt in
+made (got j Head d ∷ t) w (some n) h k os q s =
+    let r = made t w (some n) (some d) (dropCounted h k) os (q .1) tt in
     record { new = r .new; grown = r .grown; cut = on-head (q .0) (r .cut) }
-made (got j Middle d ∷ t) (some n) none k os q s =
-    let r = made t (some n) none k os (q .1) tt in
+made (got j Middle d ∷ t) w (some n) none k os q s =
+    let r = made t w (some n) none k os (q .1) tt in
     record { new = r .new; grown = r .grown; cut = plain (skip (got j Middle d) (closed (r .cut))) }
-made (got j Middle d ∷ t) (some n) (some h) k os q s =
-    go (leb (length h + length d) limit) (made t (some n) (some (h ++ d)) k os (q .1) tt) (made t (some n) none (k + 1) os (q .1) tt)
+made (got j Middle d ∷ t) w (some n) (some h) k os q s =
+    go (leb (length h + length d) limit) (made t w (some n) (some (h ++ d)) k os (q .1) tt) (made t w (some n) none (k + 1) os (q .1) tt)
   where
-    go : (b : Bool) → Made (writeAll (at (some n) (some (h ++ d)) k os) t .delivered) (some n) (some (h ++ d)) os t
-        → Made (writeAll (at (some n) none (k + 1) os) t .delivered) (some n) none os t
-        → Made (writeAll (cond b (at (some n) (some (h ++ d)) k os) (at (some n) none (k + 1) os)) t .delivered) (some n) (some h) os (got j Middle d ∷ t)
+    go : (b : Bool) → Made (writeAll (at w (some n) (some (h ++ d)) k os) t .delivered) (some n) (some (h ++ d)) os t
+        → Made (writeAll (at w (some n) none (k + 1) os) t .delivered) (some n) none os t
+        → Made (writeAll (cond b (at w (some n) (some (h ++ d)) k os) (at w (some n) none (k + 1) os)) t .delivered) (some n) (some h) os (got j Middle d ∷ t)
     go true x y = record { new = x .new; grown = x .grown; cut = on-middle (x .cut) }
     go false x y = record { new = y .new; grown = y .grown; cut = plain (skip (got j Middle d) (closed (y .cut))) }
-made (got j Last d ∷ t) (some n) none k os q s =
-    let r = made t (some n) none k os (q .1) tt in
+made (got j Last d ∷ t) w (some n) none k os q s =
+    let r = made t w (some n) none k os (q .1) tt in
     record { new = r .new; grown = r .grown; cut = plain (skip (got j Last d) (closed (r .cut))) }
-made (got j Last d ∷ t) (some n) (some h) k os q s =
-    go (leb (length h + length d) limit) (made t (some n) none k (os ++ ((h ++ d) ∷ [])) (q .1) tt) (made t (some n) none (k + 1) os (q .1) tt)
+made (got j Last d ∷ t) w (some n) (some h) k os q s =
+    go (leb (length h + length d) limit) (made t w (some n) none k (os ++ ((h ++ d) ∷ [])) (q .1) tt) (made t w (some n) none (k + 1) os (q .1) tt)
   where
-    go : (b : Bool) → Made (writeAll (at (some n) none k (os ++ ((h ++ d) ∷ []))) t .delivered) (some n) none (os ++ ((h ++ d) ∷ [])) t
-        → Made (writeAll (at (some n) none (k + 1) os) t .delivered) (some n) none os t
-        → Made (writeAll (cond b (at (some n) none k (os ++ ((h ++ d) ∷ []))) (at (some n) none (k + 1) os)) t .delivered) (some n) (some h) os (got j Last d ∷ t)
+    go : (b : Bool) → Made (writeAll (at w (some n) none k (os ++ ((h ++ d) ∷ []))) t .delivered) (some n) none (os ++ ((h ++ d) ∷ [])) t
+        → Made (writeAll (at w (some n) none (k + 1) os) t .delivered) (some n) none os t
+        → Made (writeAll (cond b (at w (some n) none k (os ++ ((h ++ d) ∷ []))) (at w (some n) none (k + 1) os)) t .delivered) (some n) (some h) os (got j Last d ∷ t)
     go true x y = record { new = (h ++ d) ∷ x .new; grown = in-front os (h ++ d) (x .new) (x .grown); cut = on-last (q .0) (x .cut) }
     go false x y = record { new = y .new; grown = y .grown; cut = plain (skip (got j Last d) (closed (y .cut))) }
 
 cut-book : (t : List Item) → Numbered none t → Cut t (writeAll nothing t .delivered)
 unfolding nothing
-cut-book t q = let r = made t none none 0 [] q tt in rw (r .grown) (closed (r .cut))
+cut-book t q = let r = made t 0 none none 0 [] q tt in rw (r .grown) (closed (r .cut))
 
 numbered-gots : (n : ℕ) (us : List Piece) (t : List Item) → Numbered (some n) t → Numbered (some n) (gots n us ++ t)
 unfolding gots
@@ -277,16 +277,18 @@ small-tape i (other ∷ ps) h = small-tape i ps (h .1)
 
 -- ---- of an id
 
-pub ids : (pass : Bool) (ps : List Packet) → EverySmall ps → (i : ℕ) → OfId (pushAll (opened pass) ps) (deliveredOf i (giveAll (opened pass) ps)) ps i
+pub ids : (pass : Bool) (ps : List Packet) → EverySmall ps → (i : ℕ)
+    → OfId (droppedOf i (pushAll (opened pass) ps)) (lostOf i (pushAll (opened pass) ps)) (heldOf i (pushAll (opened pass) ps)) (deliveredOf i (giveAll (opened pass) ps)) ps i
 unfolding book nothing opened assetOf find orElse fresh total isHeld bytesOf
 ids pass ps small i =
-    let e : book i ps ≡ at (assetOf i (pushAll (opened pass) ps) .number) (heldOf i (pushAll (opened pass) ps)) (droppedOf i (pushAll (opened pass) ps))
+    let e : book i ps ≡ at (lostOf i (pushAll (opened pass) ps)) (assetOf i (pushAll (opened pass) ps) .number) (heldOf i (pushAll (opened pass) ps)) (droppedOf i (pushAll (opened pass) ps))
     (deliveredOf i (giveAll (opened pass) ps))
     = run-written i (opened pass) [] ps in
     record {
       balanced = omega (arith, balance (tapeOf i ps) nothing, begun-tape i ps, ap total e);
       delivered = sym (ap (λ (b : Book). b .delivered) e);
       dropped = sym (ap (λ (b : Book). b .dropped) e);
+      lost = sym (ap (λ (b : Book). b .lost) e);
       held = sym (ap (λ (b : Book). b .held) e);
       made = rw (ap (λ (b : Book). b .delivered) e) at (cut-book (tapeOf i ps) (numbered-tape i ps none));
       bounded = rw (ap (λ (b : Book). b .held) e) at (held-bounded nothing (tapeOf i ps) (small-tape i ps small) tt);

@@ -11,7 +11,8 @@ use Rattle.isdb_mmt.specs.Packet.{Bytes, Ctl, Packet, ipError, ntp, nonM
 use Rattle.isdb_mmt.specs.Maps.{orElse, find, put}
 use Rattle.isdb_mmt.specs.Joins.{Line, lineAfter}
 use Rattle.isdb_mmt.specs.Kept.{Section, sectionOf, Kept, Store, otherVersion, keepIf, keep, keepAll, Table, emptyTable, mptTable, pltTable, totTable, cutSection, aSection, otherTable, stored, storedAll}
-use Rattle.isdb_mmt.specs.Model.{State, opened, idleControl, controlOf, lineOf, tablesGiven, controlTables, pushed}
+use Rattle.isdb_mmt.specs.GivenTables.{tablesGiven, controlTables}
+use Rattle.isdb_mmt.specs.Model.{State, opened, idleControl, controlOf, lineOf, pushed}
 use Rattle.isdb_mmt.specs.Book.{wellFormedIn, sectionsAmong, Lines, allIdle, linesAfter, sectionsFrom, reaching, wellFormed, AllOf, EndsOff, FirstOfLastRun}
 use Rattle.isdb_mmt.specs.Demand.{pushAll, Keeps, never, keeps}
 use Rattle.isdb_mmt.proofs.Maps.{eqb-true, find-put, find-put-other}

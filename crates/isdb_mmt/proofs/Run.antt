@@ -10,12 +10,12 @@ use lib.ListN.{length}
 use lib.Dec.{eqb, leb}
 use Rattle.isdb_tlv.proofs.Guards.{cond-elim}
 use Rattle.isdb_mmt.proofs.Maps.{eqb-true, find-put, find-put-other}
-use Rattle.isdb_mmt.specs.Mpu.{follows}
-use Rattle.isdb_mmt.specs.Packet.{Bytes, Piece, Media, Packet, ipError, ntp, nonMmtp, media, message, control, other}
+use Rattle.isdb_mmt.specs.Mpu.{follows, lostFrom}
+use Rattle.isdb_mmt.specs.Packet.{Bytes, Piece, Media, Packet, ipError, ntp, nonMmtp, media, message, control, other, readable}
 use Rattle.isdb_mmt.specs.Maps.{one, isSome, find, put, orElse}
-use Rattle.isdb_mmt.specs.Objects.{Mfu, Rec, Asset, mostObject, grown, readable, fresh, gap, continued, unitDoes, didTo, did, objectOf, unitsDo, unitsGive, noted, assetAfter, tagged, passes, mediaGives}
+use Rattle.isdb_mmt.specs.Objects.{Mfu, Rec, Asset, mostObject, grown, fresh, gap, lostBy, continued, unitDoes, didTo, did, objectOf, unitsDo, unitsGive, noted, assetAfter, tagged, passes, mediaGives}
 use Rattle.isdb_mmt.specs.Model.{State, assetOf, pushed, gives}
-use Rattle.isdb_mmt.specs.Book.{Item, seen, got, gots, itemsOf, tapeOf, Book, dropCounted, inOrder, follower, goesOn, write, writeAll, deliveredOf}
+use Rattle.isdb_mmt.specs.Book.{Item, seen, got, gots, itemsOf, tapeOf, Book, dropCounted, inOrder, missing, follower, goesOn, write, writeAll, deliveredOf}
 use Rattle.isdb_mmt.specs.Demand.{pushAll, giveAll, bytesOf}
 use Rattle.isdb_mmt.specs.declared.mpu.FragmentationIndicator.{FragmentationIndicator}
 use Rattle.isdb_mmt.specs.declared.mpu.FragmentationIndicator.the-variants.{Complete, Head, Middle, Last}
@@ -31,36 +31,36 @@ data-append [] ys = refl
 data-append (x ∷ xs) ys = rw (data-append xs ys)
 
 abbrev bookOf : Asset → List Bytes → Book
-bookOf a os = record { number = a .number; held = bytesOf (a .held); dropped = a .dropped; delivered = os }
+bookOf a os = record { number = a .number; held = bytesOf (a .held); dropped = a .dropped; lost = a .lost; delivered = os }
 
 -- a book by its parts
-abbrev pub at : Option ℕ → Option Bytes → ℕ → List Bytes → Book
-at n h k os = record { number = n; held = h; dropped = k; delivered = os }
+abbrev pub at : ℕ → Option ℕ → Option Bytes → ℕ → List Bytes → Book
+at w n h k os = record { number = n; held = h; dropped = k; lost = w; delivered = os }
 
 -- one unit
-unit-parts : (c : Option ℕ) (h : Option Mfu) (k : ℕ) (os : List Bytes) (n : ℕ) (f : FragmentationIndicator) (u : Mfu)
-    → write (at c (bytesOf h) k os) (got n f (u .bytes))
-    ≡ at c (bytesOf (unitDoes f h u .held)) (k + unitDoes f h u .drops) (os ++ dataOf (unitDoes f h u .outs))
+unit-parts : (w : ℕ) (c : Option ℕ) (h : Option Mfu) (k : ℕ) (os : List Bytes) (n : ℕ) (f : FragmentationIndicator) (u : Mfu)
+    → write (at w c (bytesOf h) k os) (got n f (u .bytes))
+    ≡ at w c (bytesOf (unitDoes f h u .held)) (k + unitDoes f h u .drops) (os ++ dataOf (unitDoes f h u .outs))
 unfolding write dropCounted goesOn unitDoes continued isSome bytesOf grown
-unit-parts c none k os n Complete u = rw add-zero
-unit-parts c (some h) k os n Complete u = refl
-unit-parts c none k os n Head u = rw (add-zero, append-nil)
-unit-parts c (some h) k os n Head u = rw append-nil
-unit-parts c none k os n Middle u = rw (add-zero, append-nil)
-unit-parts c (some h) k os n Middle u = go (leb (length (h .bytes) + length (u .bytes)) mostObject)
+unit-parts w c none k os n Complete u = rw add-zero
+unit-parts w c (some h) k os n Complete u = refl
+unit-parts w c none k os n Head u = rw (add-zero, append-nil)
+unit-parts w c (some h) k os n Head u = rw append-nil
+unit-parts w c none k os n Middle u = rw (add-zero, append-nil)
+unit-parts w c (some h) k os n Middle u = go (leb (length (h .bytes) + length (u .bytes)) mostObject)
   where
     go : (b : Bool)
-        → cond b (at c (some (h .bytes ++ u .bytes)) k os) (at c none (k + 1) os)
-        ≡ at c (bytesOf (continued b false (grown h (u .bytes)) .held)) (k + continued b false (grown h (u .bytes)) .drops)
+        → cond b (at w c (some (h .bytes ++ u .bytes)) k os) (at w c none (k + 1) os)
+        ≡ at w c (bytesOf (continued b false (grown h (u .bytes)) .held)) (k + continued b false (grown h (u .bytes)) .drops)
         (os ++ dataOf (continued b false (grown h (u .bytes)) .outs))
     go true = rw (add-zero, append-nil)
     go false = rw append-nil
-unit-parts c none k os n Last u = rw (add-zero, append-nil)
-unit-parts c (some h) k os n Last u = go (leb (length (h .bytes) + length (u .bytes)) mostObject)
+unit-parts w c none k os n Last u = rw (add-zero, append-nil)
+unit-parts w c (some h) k os n Last u = go (leb (length (h .bytes) + length (u .bytes)) mostObject)
   where
     go : (b : Bool)
-        → cond b (at c none k (os ++ ((h .bytes ++ u .bytes) ∷ []))) (at c none (k + 1) os)
-        ≡ at c (bytesOf (continued b true (grown h (u .bytes)) .held)) (k + continued b true (grown h (u .bytes)) .drops)
+        → cond b (at w c none k (os ++ ((h .bytes ++ u .bytes) ∷ []))) (at w c none (k + 1) os)
+        ≡ at w c (bytesOf (continued b true (grown h (u .bytes)) .held)) (k + continued b true (grown h (u .bytes)) .drops)
         (os ++ dataOf (continued b true (grown h (u .bytes)) .outs))
     go true = rw add-zero
     go false = rw append-nil
@@ -70,23 +70,23 @@ units-written : (m : Media) (a : Asset) (os : List Bytes) (n : ℕ) (us : List P
 unfolding writeAll gots unitsDo unitsGive didTo did objectOf
 units-written m a os n [] = rw append-nil
 units-written m a os n (u ∷ us) =
-    ap (λ (b : Book). writeAll b (gots n us)) (unit-parts (a .number) (a .held) (a .dropped) os n (u .fragment) (objectOf m u))
+    ap (λ (b : Book). writeAll b (gots n us)) (unit-parts (a .lost) (a .number) (a .held) (a .dropped) os n (u .fragment) (objectOf m u))
     ∙ units-written m (didTo a (did m a u)) (os ++ dataOf (did m a u .outs)) n us
     ∙ rw (data-append, append-assoc)
 
 -- a packet's number
-seen-parts : (c : Option ℕ) (h : Option Mfu) (k : ℕ) (os : List Bytes) (n : ℕ)
-    → write (at c (bytesOf h) k os) (seen n) ≡ at (some n) (bytesOf (cond (gap c n) none h)) (k + one (gap c n && isSome h)) os
-unfolding write dropCounted inOrder follower gap follows bytesOf isSome
-seen-parts none h k os n = rw add-zero
-seen-parts (some l) h k os n = go (eqb n (follower l)) h
+seen-parts : (w : ℕ) (c : Option ℕ) (h : Option Mfu) (k : ℕ) (os : List Bytes) (n : ℕ)
+    → write (at w c (bytesOf h) k os) (seen n) ≡ at (w + lostBy c n) (some n) (bytesOf (cond (gap c n) none h)) (k + one (gap c n && isSome h)) os
+unfolding write dropCounted inOrder follower missing lostBy lostFrom gap follows bytesOf isSome
+seen-parts w none h k os n = simp add-zero
+seen-parts w (some l) h k os n = go (eqb n (follower l)) (lostFrom l n) h
   where
-    go : (b : Bool) (h : Option Mfu)
-        → cond b (at (some n) (bytesOf h) k os) (at (some n) none (dropCounted (bytesOf h) k) os)
-        ≡ at (some n) (bytesOf (cond (not b) none h)) (k + one (not b && isSome h)) os
-    go true h = rw add-zero
-    go false none = rw add-zero
-    go false (some h) = refl
+    go : (b : Bool) (z : ℕ) (h : Option Mfu)
+        → cond b (at (w + cond b 0 z) (some n) (bytesOf h) k os) (at (w + cond b 0 z) (some n) none (dropCounted (bytesOf h) k) os)
+        ≡ at (w + cond b 0 z) (some n) (bytesOf (cond (not b) none h)) (k + one (not b && isSome h)) os
+    go true z h = simp add-zero
+    go false z none = simp add-zero
+    go false z (some h) = refl
 
 writeAll-append : (b : Book) (xs ys : List Item) → writeAll b (xs ++ ys) ≡ writeAll (writeAll b xs) ys
 unfolding writeAll
@@ -98,12 +98,12 @@ media-written : (a : Asset) (os : List Bytes) (m : Media)
     ≡ bookOf (assetAfter a m) (os ++ dataOf (unitsGive m (noted a m) (readable m)))
 unfolding writeAll assetAfter noted
 media-written a os m =
-    ap (λ (b : Book). writeAll b (gots (m .number) (readable m))) (seen-parts (a .number) (a .held) (a .dropped) os (m .number))
+    ap (λ (b : Book). writeAll b (gots (m .number) (readable m))) (seen-parts (a .lost) (a .number) (a .held) (a .dropped) os (m .number))
     ∙ units-written m (noted a m) os (m .number) (readable m)
 
 -- ---- what a push hands out for an id
 
-deliveredOf-append : (i : ℕ) (xs ys : List Rec) → deliveredOf i (xs ++ ys) ≡ deliveredOf i xs ++ deliveredOf i ys
+pub deliveredOf-append : (i : ℕ) (xs ys : List Rec) → deliveredOf i (xs ++ ys) ≡ deliveredOf i xs ++ deliveredOf i ys
 unfolding deliveredOf
 deliveredOf-append i [] ys = refl
 deliveredOf-append i (r ∷ rs) ys = go (eqb i (r .id) && not (r .scrambled)) (deliveredOf-append i rs ys)

@@ -26,8 +26,7 @@ use Rattle.isdb_mmt.specs.declared.mpu.FragmentType.{FragmentType}
 use Rattle.isdb_mmt.specs.declared.mpu.FragmentType.the-variants.{MpuMetadata, MovieFragmentMetadata, Mfu, Reserved as reservedType}
 use Rattle.isdb_mmt.specs.declared.mpu.PayloadHeader.{PayloadHeader}
 use Rattle.isdb_mmt.specs.declared.mpu.Unit.{Unit as DataUnit}
-use Rattle.isdb_mmt.specs.Packet.{Bytes, ntp, headerIn, pieceOf, piecesOf, unitsFor, unitsRead, mediaOf, byType, mmtpIn, toPort, inFlow, datagramIn, byKind, classify}
-use Rattle.isdb_mmt.specs.Objects.{clear, readable}
+use Rattle.isdb_mmt.specs.Packet.{Bytes, ntp, headerIn, pieceOf, piecesOf, unitsFor, unitsRead, mediaOf, clear, readable, byType, mmtpIn, toPort, inFlow, datagramIn, byKind, classify}
 use Rattle.isdb_mmt.specs.Demand.{AllSmall, Small, EverySmall, Feed, packetsOf, AllFit}
 
 take-small : (n : ℕ) (b : Bytes) → length b < 65536 → length (take n b) < 65536

@@ -1,19 +1,19 @@
 -- What the session is held against, drawn from the accepted packets alone: nothing here mentions a state. Of a media id: its
 -- tape, its book (the term of the scope), the objects begun, and the stretches of tape that delivered objects are. Of a key: its
 -- well-formed sections, and the first of the last run of equal version.
-use Prim.Native.Nat.{ℕ, zero, suc, _+_, _%_}
+use Prim.Native.Nat.{ℕ, _+_, _-_, _%_, min}
 use mathlib.Core.Path.{_≡_}
 use mathlib.Core.Logic.{_≢_}
-use mathlib.Core.Bool.{Bool, true, false, not, cond, _&&_}
+use mathlib.Core.Bool.{Bool, true, false, not, _&&_}
 use mathlib.Core.Option.{Option, none, some}
 use mathlib.Core.List.{List, [], _∷_, _++_, map}
 use lib.ListN.{length}
 use Rattle.isdb_tlv.specs.Guards.{if_then_else_, _≤?_, _=?_}
-use Rattle.isdb_mmt.specs.Packet.{Bytes, Piece, Media, Ctl, Packet, ipError, ntp, nonMmtp, media, message, control, other}
-use Rattle.isdb_mmt.specs.Objects.{readable, Rec}
-use Rattle.isdb_mmt.specs.Joins.{Line, idle, lineAfter, lineGives}
+use Rattle.isdb_mmt.specs.Packet.{Bytes, Piece, Packet, ipError, ntp, nonMmtp, media, message, control, other, readable}
+use Rattle.isdb_mmt.specs.Objects.{Rec}
+use Rattle.isdb_mmt.specs.Joins.{Line, idle, lineAfter}
 use Rattle.isdb_mmt.specs.Kept.{Section, sectionOf, Table, aSection, emptyTable, mptTable, pltTable, totTable, cutSection, otherTable}
-use Rattle.isdb_mmt.specs.Model.{tablesGiven, controlTables}
+use Rattle.isdb_mmt.specs.GivenTables.{tablesGiven}
 use Rattle.isdb_mmt.specs.declared.mpu.FragmentationIndicator.{FragmentationIndicator}
 use Rattle.isdb_mmt.specs.declared.mpu.FragmentationIndicator.the-variants.{Complete, Head, Middle, Last}
 
@@ -52,11 +52,12 @@ pub record Book : Type 0 where
   pub number : Option ℕ
   pub held : Option Bytes
   pub dropped : ℕ
+  pub lost : ℕ
   pub delivered : List Bytes
 
 -- nothing held, no number, counts 0
 unfoldable pub nothing : Book
-nothing = record { number = none; held = none; dropped = 0; delivered = [] }
+nothing = record { number = none; held = none; dropped = 0; lost = 0; delivered = [] }
 
 -- the count of drops, where what is held is dropped
 unfoldable pub dropCounted : Option Bytes → ℕ → ℕ
@@ -67,26 +68,31 @@ unfoldable pub inOrder : Option ℕ → ℕ → Bool
 inOrder none n = true
 inOrder (some l) n = n =? follower l
 
+-- the gap rule: (new - old - 1) modulo 2^32, at most 1,048,576; nothing where the number follows or is the first
+unfoldable pub missing : Option ℕ → ℕ → ℕ
+missing none n = 0
+missing (some l) n = if n =? follower l then 0 else min ((n + 8589934592 - l - 1) % 4294967296) 1048576
+
 -- a continuing unit with data `d`; `e` says whether it is a Last
 unfoldable pub goesOn : Book → Bool → Bytes → Option Bytes → Book
 goesOn b e d none = b
 goesOn b e d (some h) =
     if length h + length d ≤? limit
     then (if e
-    then record { number = b .number; held = none; dropped = b .dropped; delivered = b .delivered ++ ((h ++ d) ∷ []) }
-    else record { number = b .number; held = some (h ++ d); dropped = b .dropped; delivered = b .delivered })
-    else record { number = b .number; held = none; dropped = b .dropped + 1; delivered = b .delivered }
+    then record { number = b .number; held = none; dropped = b .dropped; lost = b .lost; delivered = b .delivered ++ ((h ++ d) ∷ []) }
+    else record { number = b .number; held = some (h ++ d); dropped = b .dropped; lost = b .lost; delivered = b .delivered })
+    else record { number = b .number; held = none; dropped = b .dropped + 1; lost = b .lost; delivered = b .delivered }
 
 unfoldable pub write : Book → Item → Book
-unfolding dropCounted inOrder goesOn
+unfolding dropCounted inOrder missing goesOn
 write b (seen n) =
     if inOrder (b .number) n
-    then record { number = some n; held = b .held; dropped = b .dropped; delivered = b .delivered }
-    else record { number = some n; held = none; dropped = dropCounted (b .held) (b .dropped); delivered = b .delivered }
+    then record { number = some n; held = b .held; dropped = b .dropped; lost = b .lost + missing (b .number) n; delivered = b .delivered }
+    else record { number = some n; held = none; dropped = dropCounted (b .held) (b .dropped); lost = b .lost + missing (b .number) n; delivered = b .delivered }
 write b (got n Complete d) =
-    record { number = b .number; held = none; dropped = dropCounted (b .held) (b .dropped); delivered = b .delivered ++ (d ∷ []) }
+    record { number = b .number; held = none; dropped = dropCounted (b .held) (b .dropped); lost = b .lost; delivered = b .delivered ++ (d ∷ []) }
 write b (got n Head d) =
-    record { number = b .number; held = some d; dropped = dropCounted (b .held) (b .dropped); delivered = b .delivered }
+    record { number = b .number; held = some d; dropped = dropCounted (b .held) (b .dropped); lost = b .lost; delivered = b .delivered }
 write b (got n Middle d) = goesOn b false d (b .held)
 write b (got n Last d) = goesOn b true d (b .held)
 

@@ -1,5 +1,5 @@
 -- Worked cases, proved as one table by computation: the lengths of descriptors, and feeds from their bytes through `classify` and
--- `pushed`, with the readings that are easily got wrong.
+-- `pushed`, with the readings that are easily got wrong. Those of messages and sections are in ControlCases.
 use Prim.Native.Nat.{ℕ, _+_, _-_, _*_, _/_, _%_, _^_}
 use mathlib.Core.Path.{refl}
 use mathlib.Core.Bool.{Bool, true, false}
@@ -24,16 +24,22 @@ use Rattle.isdb_mmt.specs.Desc.{lengthWidth, stepAt, splitFrom, splitOf,
 use Rattle.isdb_mmt.specs.Mpu.{fragmentType, indicator, payloadHeader, unitIn, unitAt, unitStep, unitsFrom, unitsOf, follows, lostFrom}
 use Rattle.isdb_mmt.specs.Section.{longSectionOf, entryAt, entriesFrom, entriesTold}
 use Rattle.isdb_mmt.specs.Nit.{nitBody, nitOf}
+use Rattle.isdb_mmt.specs.Sdt.{sdtBody, sdtOf}
 use Rattle.isdb_mmt.specs.Mpt.{declaredLength, mptAssets, mptTable, mptOf}
-use Rattle.isdb_mmt.specs.Message.{divisionOf, paTables, sectionTable, contentOf}
-use Rattle.isdb_mmt.specs.Packet.{Bytes, Packet, mediaOf, classify}
+use Rattle.isdb_mmt.specs.Message.{divisionOf, paTables, sectionTable, contentOf, tableAt, tablesFrom}
+use Rattle.isdb_mmt.specs.Packet.{Bytes, Packet, mediaOf, clear, readable, classify}
 use Rattle.isdb_mmt.specs.Maps.{find, put, orElse, isSome}
-use Rattle.isdb_mmt.specs.Objects.{Asset, Rec, fresh, gap, lostBy, grown, continued, unitDoes, didTo, objectOf, did, unitsDo, unitsGive, clear, readable, newMpu, jumped, mpuAfter, rangeAfter, malformedPayload, noted, assetAfter, tagged, passes, mediaGives}
-use Rattle.isdb_mmt.specs.Joins.{idle, partBefore, joinedOn, partAfter, wholeOf, lineAfter, lineGives, orphan, oversize, tablesOf, tablesOfAll, messagesOf, cutOf, cutOfAll}
+use Rattle.isdb_mmt.specs.Objects.{Asset, Rec, fresh, gap, lostBy, grown, continued, unitDoes, didTo, objectOf, did, unitsDo, unitsGive, newMpu, jumped, mpuAfter, rangeAfter, malformedPayload, noted, assetAfter, tagged, passes, mediaGives}
+use Rattle.isdb_mmt.specs.Joins.{Join, idle, partBefore, joinedOn, partAfter, wholeOf, lineAfter, lineGives, orphan, oversize, tablesOf, tablesOfAll, messagesOf, cutOf, cutOfAll}
 use Rattle.isdb_mmt.specs.Kept.{Kept, bodyRead, sectionOf, otherVersion, keepIf, keep, keepAll, zeros, tabled, sectionAdds, tableById, tableRead, tableAdds, mptAfter, mptAfterAll, stored, storedAll, countedAll}
-use Rattle.isdb_mmt.specs.Model.{State, opened, idleControl, assetOf, controlOf, packetCounted, messageCounted, lineCounted, tablesGiven, timeAfter, pushed, gives}
-use Rattle.isdb_mmt.specs.Book.{book, nothing, writeAll, write, tapeOf, itemsOf, gots, follower, dropCounted, inOrder, goesOn, deliveredOf}
+use Rattle.isdb_mmt.specs.GivenTables.{tablesGiven}
+use Rattle.isdb_mmt.specs.Model.{State, Control, opened, idleControl, assetOf, controlOf, packetCounted, messageCounted, lineCounted, timeAfter, pushed, gives}
+use Rattle.isdb_mmt.specs.Book.{book, nothing, writeAll, write, tapeOf, itemsOf, gots, follower, dropCounted, inOrder, missing, goesOn, deliveredOf}
 use Rattle.isdb_mmt.specs.Needs.{Needs, needs, unitsNeed, lineNeeds, tableArea, tablesNeed}
+use Rattle.isdb_mmt.specs.declared.maybe.MaybeU32.the-variants.{None as noU32}
+use Rattle.isdb_mmt.specs.declared.mpu.MfuHeader.{MfuHeader}
+use Rattle.isdb_mmt.specs.declared.mpu.MaybeMfu.{MaybeMfu}
+use Rattle.isdb_mmt.specs.declared.mpu.MaybeMfu.the-variants.{None as noMfu, Some as someMfu}
 use Rattle.isdb_mmt.specs.Demand.{Feed, packetsOf, pushAll, giveAll, bytesOf as heldBytes}
 
 -- what a feed leaves of the media id F100h: packets, lost, scrambled, MPUs, malformed, objects delivered, dropped, the held one
@@ -65,7 +71,8 @@ leftOf pass f a =
 
 -- what is asked, and what is answered: the width of a tag's length, a loop's descriptors, their bodies' bytes; a compressed
 -- packet's reading; of a feed the id's counts and objects, its book from the packets alone, the data of all records with
--- scrambled payloads passed on, the IP errors, the sections' counts with the versions kept, and what a packet needs behind it
+-- scrambled payloads passed on, all records under either setting, the id's MPU numbers, the IP errors, the sections' counts with
+-- the versions kept, the sections' bytes kept, what is joined for the control id 8001h, and what a packet needs behind it
 pub data Ask : Type 0 where
   widthOf : ℕ → Ask
   decodedOf : Bytes → Ask
@@ -74,8 +81,12 @@ pub data Ask : Type 0 where
   left : Feed → Ask
   booked : Feed → Ask
   passed : Feed → Ask
+  handed : Bool → Feed → Ask
+  mpuOf : Feed → Ask
   ipErrors : Feed → Ask
   sections : Feed → Ask
+  keptOf : Feed → Ask
+  joinedOf : Feed → Ask
   needed : Feed → ℕ × Bytes → Ask
 
 pub data Told : Type 0 where
@@ -86,12 +97,27 @@ pub data Told : Type 0 where
   leaves : Left → Told
   books : List Bytes → ℕ → Option Bytes → Told
   given : List Bytes → Told
+  records : List Rec → Told
+  -- the last number, then the first and the last
+  mpu : Option ℕ → Option (ℕ × ℕ) → Told
   errors : ℕ → Told
   tables : ℕ → ℕ → List ℕ → Told
+  kept : List Bytes → Told
+  -- orphans, malformed, the last number, what is being joined, the MPT
+  joined : ℕ → ℕ → Option ℕ → Option Bytes → Option Bytes → Told
   asks : Needs → Told
 
+abbrev joiningIn : Option Join → Option Bytes
+joiningIn none = none
+joiningIn (some j) = some (j .bytes)
+
+-- what a state has joined for the control id, `c`
+abbrev joinedIn : State → Control → Told
+joinedIn s c =
+    joined (s .counters .orphans) (s .counters .messageMalformed) (c .line .number) (joiningIn (c .line .part)) (c .mpt)
+
 unfoldable pub told : Ask → Told
-unfolding bytesOf be feed feedByte crcOf packetType compressedOf fecType payloadType bitsOf entry extensionAt afterFixed mmtpOf isTlvSi sectionAt sectionsFrom sectionsOf lengthWidth stepAt splitFrom splitOf streamIdentifier descriptorOf descriptorsOf fragmentType indicator payloadHeader unitIn unitAt unitStep unitsFrom unitsOf follows lostFrom longSectionOf entryAt entriesFrom entriesTold nitBody nitOf declaredLength mptAssets mptTable mptOf divisionOf paTables sectionTable contentOf mediaOf classify find put orElse isSome fresh gap lostBy grown continued unitDoes didTo objectOf did unitsDo unitsGive clear readable newMpu jumped mpuAfter rangeAfter malformedPayload noted assetAfter tagged passes mediaGives idle partBefore joinedOn partAfter wholeOf lineAfter lineGives orphan oversize tablesOf tablesOfAll messagesOf cutOf cutOfAll bodyRead sectionOf otherVersion keepIf keep keepAll zeros tabled sectionAdds tableById tableRead tableAdds mptAfter mptAfterAll stored storedAll countedAll opened idleControl assetOf controlOf packetCounted messageCounted lineCounted tablesGiven timeAfter pushed gives book nothing writeAll write tapeOf itemsOf gots follower dropCounted inOrder goesOn deliveredOf needs unitsNeed lineNeeds tableArea tablesNeed pushAll giveAll heldBytes
+unfolding bytesOf be feed feedByte crcOf packetType compressedOf fecType payloadType bitsOf entry extensionAt afterFixed mmtpOf isTlvSi sectionAt sectionsFrom sectionsOf lengthWidth stepAt splitFrom splitOf streamIdentifier descriptorOf descriptorsOf fragmentType indicator payloadHeader unitIn unitAt unitStep unitsFrom unitsOf follows lostFrom longSectionOf entryAt entriesFrom entriesTold nitBody nitOf sdtBody sdtOf declaredLength mptAssets mptTable mptOf divisionOf paTables sectionTable contentOf tableAt tablesFrom mediaOf classify find put orElse isSome fresh gap lostBy grown continued unitDoes didTo objectOf did unitsDo unitsGive clear readable newMpu jumped mpuAfter rangeAfter malformedPayload noted assetAfter tagged passes mediaGives idle partBefore joinedOn partAfter wholeOf lineAfter lineGives orphan oversize tablesOf tablesOfAll messagesOf cutOf cutOfAll bodyRead sectionOf otherVersion keepIf keep keepAll zeros tabled sectionAdds tableById tableRead tableAdds mptAfter mptAfterAll stored storedAll countedAll opened idleControl assetOf controlOf packetCounted messageCounted lineCounted tablesGiven timeAfter pushed gives book nothing writeAll write tapeOf itemsOf gots follower dropCounted inOrder missing goesOn deliveredOf needs unitsNeed lineNeeds tableArea tablesNeed pushAll giveAll heldBytes
 told (widthOf t) = width (lengthWidth t)
 told (decodedOf s) = decoded (descriptorsOf s)
 told (bodiesOf s) = bodies (map (λ r. partOf s (r .body)) (splitOf s .found))
@@ -100,10 +126,15 @@ told (needed f p) = asks (needs (pushAll (opened false) (packetsOf f)) (classify
 told (left f) = leaves (leftOf false f (assetOf id (pushAll (opened false) (packetsOf f))))
 told (booked f) = books (book id (packetsOf f) .delivered) (book id (packetsOf f) .dropped) (book id (packetsOf f) .held)
 told (passed f) = given (map (λ r. r .mfu .bytes) (giveAll (opened true) (packetsOf f)))
+told (handed pass f) = records (giveAll (opened pass) (packetsOf f))
+told (mpuOf f) =
+    mpu (assetOf id (pushAll (opened false) (packetsOf f)) .mpu) (assetOf id (pushAll (opened false) (packetsOf f)) .range)
 told (ipErrors f) = errors (pushAll (opened false) (packetsOf f) .counters .ipErrors)
 told (sections f) =
     tables (pushAll (opened false) (packetsOf f) .counters .versionChanges) (pushAll (opened false) (packetsOf f) .counters .malformed)
     (map (λ e. e .1 .version) (pushAll (opened false) (packetsOf f) .store .kept))
+told (keptOf f) = kept (map (λ e. e .1 .bytes) (pushAll (opened false) (packetsOf f) .store .kept))
+told (joinedOf f) = joinedIn (pushAll (opened false) (packetsOf f)) (controlOf 0x8001 (pushAll (opened false) (packetsOf f)))
 
 -- a compressed packet of context 1 with an MMTP packet: first byte, payload type, packet id, number, what follows the twelve
 -- bytes
@@ -115,10 +146,6 @@ compressed flags type i number rest =
 abbrev pub mmtp : ℕ → ℕ → Bytes → ℕ × Bytes
 mmtp flags number rest = compressed flags 0x00 id number rest
 
--- a message packet of the control id 8001h, with a byte of flags
-abbrev pub fragment : ℕ → Bytes → ℕ × Bytes
-fragment flags d = compressed 0x00 0x02 0x8001 5 (flags ∷ 0x00 ∷ d)
-
 -- a payload of MPU 7 that declares `n` bytes, with a byte of flags
 abbrev pub payload : ℕ → ℕ → Bytes → Bytes
 payload n flags rest = 0x00 ∷ n ∷ flags ∷ 0x00 ∷ 0x00 ∷ 0x00 ∷ 0x00 ∷ 0x07 ∷ rest
@@ -129,6 +156,9 @@ unit number flags d = mmtp 0x00 number (payload 22 flags (replicate 14 0x00 ++ d
 
 abbrev pub headOf : ℕ → Bytes → ℕ × Bytes
 headOf n d = unit n 0x2A d
+
+abbrev pub middleOf : ℕ → Bytes → ℕ × Bytes
+middleOf n d = unit n 0x2C d
 
 abbrev pub lastOf : ℕ → Bytes → ℕ × Bytes
 lastOf n d = unit n 0x2E d
@@ -150,23 +180,29 @@ ab = 0xAA ∷ 0xBB ∷ []
 abbrev pub cd : Bytes
 cd = 0xCC ∷ 0xDD ∷ []
 
--- a NIT of version 1, and one of version 2 whose network descriptors run over its end
-abbrev pub nit1 : Bytes
-nit1 =
-    0x40 ∷ 0xB0 ∷ 0x0D ∷ 0x00 ∷ 0x04 ∷ 0xC3 ∷ 0x00 ∷ 0x00 ∷ 0xF0 ∷ 0x00 ∷ 0xF0 ∷ 0x00 ∷ 0x17 ∷ 0x51 ∷ 0xD0 ∷ 0x6F ∷ []
+-- scrambled, with a unit that could be read
+abbrev pub scrambledUnit : ℕ × Bytes
+scrambledUnit = scrambledOf 5 (payload 22 0x28 (replicate 14 0x00 ++ ab))
 
-abbrev pub nit2 : Bytes
-nit2 =
-    0x40 ∷ 0xB0 ∷ 0x0D ∷ 0x00 ∷ 0x04 ∷ 0xC5 ∷ 0x00 ∷ 0x00 ∷ 0xF0 ∷ 0x05 ∷ 0xF0 ∷ 0x00 ∷ 0xB6 ∷ 0xD9 ∷ 0xA3 ∷ 0x25 ∷ []
+-- the bytes 1 to 14, and the MFU header that they are
+abbrev pub oneTo14 : Bytes
+oneTo14 =
+    0x01 ∷ 0x02 ∷ 0x03 ∷ 0x04 ∷ 0x05 ∷ 0x06 ∷ 0x07 ∷ 0x08 ∷ 0x09 ∷ 0x0A ∷ 0x0B ∷ 0x0C ∷ 0x0D ∷ 0x0E ∷ []
 
--- a PA message without a body
-abbrev pub emptyPa : Bytes
-emptyPa = replicate 7 0x00
+abbrev pub header : MfuHeader
+header =
+    record {
+      «movie_fragment_sequence_number» = 0x01020304;
+      «sample_number» = 0x05060708;
+      offset = 0x090A0B0C;
+      priority = 13;
+      «dependency_counter» = 14;
+    }
 
--- an M2 section message with an MPT of nine bytes without assets, and two bytes behind it
-abbrev pub mptMessage : Bytes
-mptMessage =
-    0x80 ∷ 0x00 ∷ 0x00 ∷ 0x00 ∷ 0x0B ∷ 0x20 ∷ 0x01 ∷ 0x00 ∷ 0x05 ∷ 0xFC ∷ 0x00 ∷ 0x00 ∷ 0x00 ∷ 0x00 ∷ 0xFF ∷ 0xFF ∷ []
+-- a record of the id, MPU 7, with or without an MFU header
+abbrev pub recordOf : Bool → MaybeMfu → Bytes → Rec
+recordOf hidden h d =
+    record { id = id; scrambled = hidden; mfu = record { mpu = 7; rap = false; mfu = h; itemId = noU32; bytes = d } }
 
 -- nothing scrambled, one MPU: packets, lost, malformed, objects, dropped, held
 abbrev pub clearly : ℕ → ℕ → ℕ → List Bytes → ℕ → Option Bytes → Told
@@ -178,11 +214,6 @@ clearly p l m os d h =
 abbrev pub mediaNeeds : ℕ → ℕ → ℕ → ℕ → Needs
 mediaNeeds i o r d =
     record { mediaIds = i; controlIds = 0; sections = 0; object = o; message = 0; table = 0; records = r; dataBytes = d }
-
--- of a message packet: new control ids, the longest message, the longest table
-abbrev pub messageNeeds : ℕ → ℕ → ℕ → Needs
-messageNeeds i m t =
-    record { mediaIds = 0; controlIds = i; sections = 0; object = 0; message = m; table = t; records = 0; dataBytes = 0 }
 
 abbrev cases : List (Case Ask Told)
 cases =
@@ -220,16 +251,18 @@ cases =
     ∷ (booked (headOf 5 ab ∷ unreadable 6 ∷ []) ⇒ books [] 0 (some ab))
     -- a scrambled payload is passed on from byte 8 to its end, beyond the six bytes that it declares
     ∷ (passed (scrambledOf 5 (payload 6 0x28 ab) ∷ []) ⇒ given (ab ∷ []))
-    -- a version change is counted though the body fails; what is kept stays
-    ∷ (sections ((0xFE, nit1) ∷ (0xFE, nit2) ∷ []) ⇒ tables 1 1 (1 ∷ []))
+    -- a scrambled unit that could be read: counted, and handed out only as it is, where the session is set so
+    ∷ (left (scrambledUnit ∷ []) ⇒ leaves (record { packets = 1; lost = 0; scrambled = 1; mpus = 1; malformed = 0; objects = []; dropped = 0; held = none }))
+    ∷ (handed false (scrambledUnit ∷ []) ⇒ records [])
+    ∷ (handed true (scrambledUnit ∷ []) ⇒ records (recordOf true noMfu (replicate 14 0x00 ++ ab) ∷ []))
+    -- the five fields of an MFU's header; the MPU's number
+    ∷ (handed false (mmtp 0x00 5 (payload 22 0x28 (oneTo14 ++ ab)) ∷ []) ⇒ records (recordOf false (someMfu header) ab ∷ []))
+    ∷ (mpuOf (completeOf 5 ab ∷ []) ⇒ mpu (some 7) (some (7, 7)))
     -- a last needs room for what it joins; a whole unit for nothing but its record
     ∷ (needed (headOf 5 ab ∷ []) (lastOf 6 cd) ⇒ asks (mediaNeeds 0 4 1 4))
     ∷ (needed [] (completeOf 5 ab) ⇒ asks (mediaNeeds 1 0 1 2))
     ∷ (needed [] (headOf 5 ab) ⇒ asks (mediaNeeds 1 2 0 0))
-    -- an undivided message needs no room to be joined in, a first fragment its own length; an MPT its declared length
-    ∷ (needed [] (fragment 0x00 emptyPa) ⇒ asks (messageNeeds 1 0 0))
-    ∷ (needed [] (fragment 0x40 emptyPa) ⇒ asks (messageNeeds 1 7 0))
-    ∷ (needed [] (fragment 0x00 mptMessage) ⇒ asks (messageNeeds 1 0 9))
+    ∷ (needed (headOf 5 ab ∷ []) (middleOf 6 cd) ⇒ asks (mediaNeeds 0 4 0 0))
     ∷ []
 
 pub table : Holds told cases

@@ -5,9 +5,9 @@ use mathlib.Core.Bool.{Bool}
 use mathlib.Core.Option.{Option, none, some}
 use mathlib.Core.List.{List, [], _∷_, _++_, map}
 use lib.ListN.{length}
-use Rattle.isdb_mmt.specs.Packet.{Bytes, Piece, Packet, classify, ipError, ntp, nonMmtp, media, message, control, other}
+use Rattle.isdb_mmt.specs.Packet.{Bytes, Piece, Packet, classify, ipError, ntp, nonMmtp, media, message, control, other, readable}
 use Rattle.isdb_mmt.specs.Maps.{find}
-use Rattle.isdb_mmt.specs.Objects.{Mfu, readable, Rec}
+use Rattle.isdb_mmt.specs.Objects.{Mfu, Rec}
 use Rattle.isdb_mmt.specs.Kept.{Kept, Section}
 use Rattle.isdb_mmt.specs.Model.{State, opened, assetOf, pushed, gives}
 use Rattle.isdb_mmt.specs.Book.{tapeOf, book, isHeld, begun, deliveredOf, Cut, wellFormed, FirstOfLastRun}
@@ -30,6 +30,9 @@ heldOf i s = bytesOf (assetOf i s .held)
 
 abbrev pub droppedOf : ℕ → State → ℕ
 droppedOf i s = assetOf i s .dropped
+
+abbrev pub lostOf : ℕ → State → ℕ
+lostOf i s = assetOf i s .lost
 
 -- a unit is a part of its packet, which has at most 65,535 bytes
 abbrev pub AllSmall : List Piece → Type 0
@@ -65,14 +68,16 @@ abbrev pub Bounded : Option Bytes → Type 0
 Bounded none = Unit {0}
 Bounded (some h) = length h ≤ 16777216
 
--- of a media id, between the state, the objects given out and the packets accepted
-pub record OfId (s : State) (os : List Bytes) (ps : List Packet) (i : ℕ) : Type 0 where
-  pub balanced : begun i ps ≡ length os + droppedOf i s + isHeld (heldOf i s)
+-- of a media id, between what a session says of it (drops `k`, losses `w`, the held object `h`), the objects given out and the
+-- packets accepted
+pub record OfId (k w : ℕ) (h : Option Bytes) (os : List Bytes) (ps : List Packet) (i : ℕ) : Type 0 where
+  pub balanced : begun i ps ≡ length os + k + isHeld h
   pub delivered : os ≡ book i ps .delivered
-  pub dropped : droppedOf i s ≡ book i ps .dropped
-  pub held : heldOf i s ≡ book i ps .held
+  pub dropped : k ≡ book i ps .dropped
+  pub lost : w ≡ book i ps .lost
+  pub held : h ≡ book i ps .held
   pub made : Cut (tapeOf i ps) os
-  pub bounded : Bounded (heldOf i s)
+  pub bounded : Bounded h
 
 -- of a key: what is kept is the first of the last run of equal version among its well-formed sections, and nothing is kept
 -- exactly where there are none
@@ -80,13 +85,19 @@ pub data Keeps : Option Kept → List Section → Type 0 where
   never : Keeps none []
   keeps : {xs : List Section} (x : Section) → FirstOfLastRun x xs → Keeps (some (record { version = x .version; bytes = x .bytes })) xs
 
-pub record Holds (pass : Bool) (ps : List Packet) : Type 0 where
-  pub ids : (i : ℕ) → OfId (pushAll (opened pass) ps) (deliveredOf i (giveAll (opened pass) ps)) ps i
-  pub keys : (k : ℕ) → Keeps (find k (pushAll (opened pass) ps .store .kept)) (wellFormed k ps)
+-- of all ids and keys: what a session says of each, the records given out and the packets accepted
+pub record Holds (k w : ℕ → ℕ) (h : ℕ → Option Bytes) (kept : ℕ → Option Kept) (rs : List Rec) (ps : List Packet) : Type 0 where
+  pub ids : (i : ℕ) → OfId (k i) (w i) (h i) (deliveredOf i rs) ps i
+  pub keys : (k : ℕ) → Keeps (kept k) (wellFormed k ps)
+
+-- of a state
+abbrev pub HoldsOf : State → List Rec → List Packet → Type 0
+HoldsOf s rs ps = Holds (λ i. droppedOf i s) (λ i. lostOf i s) (λ i. heldOf i s) (λ k. find k (s .store .kept)) rs ps
 
 -- proved in proofs/Demand.antt: of packets as they are read, and of a feed's bytes
 abbrev pub Theorem : Type 0
-Theorem = (pass : Bool) (ps : List Packet) → EverySmall ps → Holds pass ps
+Theorem = (pass : Bool) (ps : List Packet) → EverySmall ps → HoldsOf (pushAll (opened pass) ps) (giveAll (opened pass) ps) ps
 
 abbrev pub OfBytes : Type 0
-OfBytes = (pass : Bool) (f : Feed) → AllFit f → Holds pass (packetsOf f)
+OfBytes = (pass : Bool) (f : Feed) → AllFit f
+    → HoldsOf (pushAll (opened pass) (packetsOf f)) (giveAll (opened pass) (packetsOf f)) (packetsOf f)

@@ -125,6 +125,10 @@ sectionOf b =
       bytes = declaredSection b;
     }
 
+-- header, CRC and the body of the table that the id names all parse
+unfoldable pub parsesAs : ℕ → Bytes → Bool
+parsesAs id b = headIsOk (longSectionOf b) && bodyRead id b .ok
+
 pub record Kept : Type 0 where
   pub version : ℕ
   pub bytes : Bytes

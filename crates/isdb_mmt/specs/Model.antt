@@ -3,13 +3,14 @@
 use Prim.Native.Nat.{ℕ, _+_}
 use mathlib.Core.Bool.{Bool}
 use mathlib.Core.Option.{Option, none, some}
-use mathlib.Core.List.{List, [], map}
+use mathlib.Core.List.{List, []}
 use lib.ListN.{replicate}
 use Rattle.isdb_mmt.specs.Packet.{Bytes, Ctl, Packet, ipError, ntp, nonMmtp, media, message, control, other}
 use Rattle.isdb_mmt.specs.Maps.{find, put, orElse, one}
 use Rattle.isdb_mmt.specs.Objects.{fresh, assetAfter, mediaGives, Asset, Rec}
 use Rattle.isdb_mmt.specs.Joins.{idle, lineAfter, lineGives, orphan, oversize, cutOfAll, short, Line}
-use Rattle.isdb_mmt.specs.Kept.{sectionOf, zeros, tableRead, mptAfterAll, storedAll, countedAll, Counters, Store, Table, aSection}
+use Rattle.isdb_mmt.specs.Kept.{zeros, mptAfterAll, storedAll, countedAll, Counters, Store}
+use Rattle.isdb_mmt.specs.GivenTables.{tablesGiven, controlTables}
 
 -- what is known of a control id: the message being joined, and the kept MPT
 pub record Control : Type 0 where
@@ -93,18 +94,9 @@ unfoldable pub lineCounted : Counters → Line → Ctl → Counters
 lineCounted c l x =
     messageCounted c (one (orphan l x)) (one (oversize l x)) (one (short x) + cutOfAll (lineGives l x) .malformed)
 
--- the tables that a message packet makes whole
-unfoldable pub tablesGiven : Line → Ctl → List Table
-unfolding tableRead
-tablesGiven l x = map tableRead (cutOfAll (lineGives l x) .tables)
-
 unfoldable pub timeAfter : Option ℕ → Option ℕ → Option ℕ
 timeAfter o none = o
 timeAfter o (some t) = some t
-
--- a control signal's sections are read as sections, whatever is in them: no MPT is among them
-abbrev pub controlTables : List Bytes → List Table
-controlTables bs = map (λ b. aSection (sectionOf b)) bs
 
 abbrev pub counting : State → Counters → State
 counting s c =

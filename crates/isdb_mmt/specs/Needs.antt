@@ -5,12 +5,13 @@ use mathlib.Core.Bool.{Bool, true, false, cond, _&&_}
 use mathlib.Core.Option.{Option, none, some}
 use mathlib.Core.List.{List, [], _∷_}
 use lib.ListN.{length, drop}
-use Rattle.isdb_mmt.specs.Packet.{Bytes, Piece, Media, Ctl, Packet, ipError, ntp, nonMmtp, media, message, control, other}
+use Rattle.isdb_mmt.specs.Packet.{Bytes, Piece, Media, Ctl, Packet, ipError, ntp, nonMmtp, media, message, control, other, readable}
 use Rattle.isdb_mmt.specs.Maps.{find}
-use Rattle.isdb_mmt.specs.Objects.{Mfu, Asset, Did, did, didTo, noted, readable, Rec}
+use Rattle.isdb_mmt.specs.Objects.{Mfu, Asset, Did, did, didTo, noted, Rec}
 use Rattle.isdb_mmt.specs.Joins.{Join, Line, short, flagsOf, partBefore, joinedOn}
 use Rattle.isdb_mmt.specs.Kept.{Section, otherVersion, Store, stored, Table, emptyTable, mptTable, pltTable, totTable, cutSection, aSection, otherTable}
-use Rattle.isdb_mmt.specs.Model.{tablesGiven, controlTables, State, assetOf, controlOf, lineOf, pushed, gives}
+use Rattle.isdb_mmt.specs.GivenTables.{tablesGiven, controlTables}
+use Rattle.isdb_mmt.specs.Model.{State, assetOf, controlOf, lineOf, pushed, gives}
 use Rattle.isdb_mmt.specs.declared.mpu.FragmentationIndicator.{FragmentationIndicator}
 use Rattle.isdb_mmt.specs.declared.mpu.FragmentationIndicator.the-variants.{Complete, Head, Middle, Last}
 use Rattle.isdb_mmt.specs.declared.message.Division.{Division}

@@ -7,7 +7,7 @@ use mathlib.Core.List.{List, [], _∷_, _++_}
 use lib.ListN.{length}
 use Rattle.isdb_tlv.specs.Guards.{if_then_else_, _≤?_, _=?_}
 use Rattle.isdb_mmt.specs.Mpu.{follows, lostFrom, completesOf}
-use Rattle.isdb_mmt.specs.Packet.{Bytes, Piece, Media}
+use Rattle.isdb_mmt.specs.Packet.{Bytes, Piece, Media, readable}
 use Rattle.isdb_mmt.specs.declared.maybe.MaybeU32.{MaybeU32}
 use Rattle.isdb_mmt.specs.declared.maybe.MaybeU32.the-variants.{None as noU32}
 use Rattle.isdb_mmt.specs.declared.mpu.FragmentationIndicator.{FragmentationIndicator}
@@ -141,16 +141,6 @@ unfoldable pub unitsGive : Media → Asset → List Piece → List Mfu
 unfolding didTo did
 unitsGive m a [] = []
 unitsGive m a (u ∷ us) = did m a u .outs ++ unitsGive m (didTo a (did m a u)) us
-
--- the units that are taken: those of a clear payload that parses ("readable clear")
-unfoldable pub clear : Bool → Option (List Piece) → List Piece
-clear true us = []
-clear false none = []
-clear false (some us) = us
-
-unfoldable pub readable : Media → List Piece
-unfolding clear
-readable m = clear (m .scrambled) (m .units)
 
 unfoldable pub newMpu : Option ℕ → Option ℕ → Bool
 newMpu o none = false

@@ -95,11 +95,24 @@ mediaOf h payload =
       raw = drop 8 payload;
     }
 
+-- the units that are taken: those of a clear payload that parses ("readable clear")
+unfoldable pub clear : Bool → Option (List Piece) → List Piece
+clear true us = []
+clear false none = []
+clear false (some us) = us
+
+unfoldable pub readable : Media → List Piece
+unfolding clear
+readable m = clear (m .scrambled) (m .units)
+
 -- a message packet
 pub record Ctl : Type 0 where
   pub id : ℕ
   pub number : ℕ
   pub payload : Bytes
+
+abbrev pub ctl : ℕ → ℕ → Bytes → Ctl
+ctl id n b = record { id = id; number = n; payload = b }
 
 pub data Packet : Type 0 where
   -- IP data that cannot be read
@@ -117,7 +130,7 @@ pub data Packet : Type 0 where
 
 abbrev pub byType : Header → Bytes → PayloadType → Packet
 byType h payload Mpu = media (mediaOf h payload)
-byType h payload Messages = message (record { id = h .«packet_id»; number = h .sequence; payload = payload })
+byType h payload Messages = message (ctl (h .«packet_id») (h .sequence) payload)
 byType h payload GenericObject = other
 byType h payload FecRepair = other
 byType h payload (Reserved c) = other

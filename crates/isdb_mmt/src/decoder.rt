@@ -6,19 +6,35 @@ ghost use lib.ListN.{length, replicate};
 ghost use Rattle.isdb_mmt.specs.Lent.{over};
 ghost use Rattle.isdb_mmt.specs.Layout.{tableIds, stateSize};
 ghost use Rattle.isdb_mmt.specs.Opening.{lent, openedState, Opened};
+ghost use Rattle.isdb_mmt.specs.Push.{input, Pushed};
 use crate::decoder::layout::STATE_SIZE;
 use crate::decoder::limits::Lengths;
 use crate::decoder::limits::Limits;
+use crate::decoder::records::Answer;
 
 mod check;
+mod commit;
 mod control;
+mod counted;
 pub mod counts;
 mod head;
+mod joined;
 mod layout;
 pub mod limits;
 mod media;
+mod messages;
 mod place;
+mod push_control;
+mod push_media;
+mod push_message;
+mod reassembler;
+pub mod records;
+mod route;
 mod section;
+mod start;
+mod take;
+mod verdict;
+mod walk;
 
 fn clear(s: &mut [u8])
     ensures { λ r. ⌜ now (s .exit) ≡ replicate (length (now (s .entry))) 0 ⌝ }
@@ -86,4 +102,60 @@ pub fn open(
     ensures { λ r. ⌜ Opened l (lent (now (state .entry)) (now (others .entry)) (now (objects .entry)) (now (messages .entry)) (now (tables .entry))) r (lent (now (state .exit)) (now (others .exit)) (now (objects .entry)) (now (messages .entry)) (now (tables .entry))) ⌝ }
 {
     open_in(l, state, others, objects, messages, tables)
+}
+
+fn push_in(
+    state: &mut [u8],
+    others: &mut [u64],
+    objects: &mut [u8],
+    messages: &mut [u8],
+    tables: &mut [u8],
+    kind: u8,
+    b: &[u8],
+    rows: &mut [u8],
+    out: &mut [u8],
+) -> Answer
+    requires { ⌜ length (now others) ≡ tableIds ⌝ }
+    ensures { λ r. ⌜ Pushed (lent (now (state .entry)) (now (others .entry)) (now (objects .entry)) (now (messages .entry)) (now (tables .entry))) (input kind (now (b .entry)) (now (rows .entry)) (now (out .entry))) (r .number) (r .records) (r .bytes) (lent (now (state .exit)) (now (others .exit)) (now (objects .exit)) (now (messages .exit)) (now (tables .exit))) (now (rows .exit)) (now (out .exit)) ⌝ }
+{
+    let lengths = Lengths {
+        state: state.len() as u64,
+        objects: objects.len() as u64,
+        messages: messages.len() as u64,
+        tables: tables.len() as u64,
+    };
+    if !check::ready(state, others, lengths) {
+        return records::refused(5);
+    }
+    if 65535 < b.len() {
+        return records::refused(6);
+    }
+    if !take::may_take(state) {
+        return records::refused(7);
+    }
+    place::octets(state);
+    place::octets(objects);
+    place::octets(messages);
+    place::octets(tables);
+    place::octets(b);
+    take::take(state, others, objects, messages, tables, kind, b, rows, out)
+}
+
+// Takes a packet of a kind byte and its data. It answers 0 and how many records and data bytes it handed out, or the number of the
+// first question that is answered no, with nothing changed and nothing handed out. Records are rows of 36 bytes one behind the
+// other from the start of `rows`, their data lie one behind the other from the start of `out`; bytes beyond stay.
+pub fn push(
+    state: &mut [u8],
+    others: &mut [u64; 256],
+    objects: &mut [u8],
+    messages: &mut [u8],
+    tables: &mut [u8],
+    kind: u8,
+    b: &[u8],
+    rows: &mut [u8],
+    out: &mut [u8],
+) -> Answer
+    ensures { λ r. ⌜ Pushed (lent (now (state .entry)) (now (others .entry)) (now (objects .entry)) (now (messages .entry)) (now (tables .entry))) (input kind (now (b .entry)) (now (rows .entry)) (now (out .entry))) (r .number) (r .records) (r .bytes) (lent (now (state .exit)) (now (others .exit)) (now (objects .exit)) (now (messages .exit)) (now (tables .exit))) (now (rows .exit)) (now (out .exit)) ⌝ }
+{
+    push_in(state, others, objects, messages, tables, kind, b, rows, out)
 }

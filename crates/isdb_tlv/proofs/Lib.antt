@@ -14,3 +14,4 @@ pub mod Rfc791
 pub mod Rfc8200
 pub mod StdB32
 pub mod Iso23008
+pub mod Headers

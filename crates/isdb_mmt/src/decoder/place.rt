@@ -5,6 +5,7 @@ ghost use Prim.Native.Nat.{_+_, _*_, _≤_, _<_};
 ghost use lib.ListN.{length};
 ghost use Rattle.isdb_tlv.specs.Bytes.{be};
 ghost use Rattle.isdb_mmt.specs.Lent.{part, over, flag as flagAt, namesFrom, among, distinct, cellOf, amongMarked, foundFrom, seatOf};
+ghost use Rattle.isdb_mmt.specs.Octets.{Octets};
 use isdb_tlv::bytes;
 
 pub(crate) fn flag(p: &[u8], at: usize) -> bool
@@ -170,15 +171,29 @@ pub(crate) fn in_area(s: &[u8], i: usize, area: usize, n: usize) -> &[u8]
     bytes::part(s, i * area, n)
 }
 
-// Some bytes, from a place of area i on.
-pub(crate) fn put_in_area(s: &mut [u8], i: usize, area: usize, from: usize, b: &[u8])
-    requires { ⌜ i * area + from + length (now b) ≤ length (now s) ⌝ }
-    ensures { λ r. ⌜ now (s .exit) ≡ over (i * area + from) (now (b .entry)) (now (s .entry)) ⌝ }
+// Some bytes, from a place on.
+pub(crate) fn put_bytes(s: &mut [u8], at: usize, b: &[u8])
+    requires { ⌜ at + length (now b) ≤ length (now s) ⌝ }
+    ensures { λ r. ⌜ now (s .exit) ≡ over at (now (b .entry)) (now (s .entry)) ⌝ }
 {
-    let at = i * area + from;
     let mut k = 0;
     while k < b.len() {
         s[at + k] = b[k];
         k += 1;
     }
+}
+
+// Some bytes, from a place of area i on.
+pub(crate) fn put_in_area(s: &mut [u8], i: usize, area: usize, from: usize, b: &[u8])
+    requires { ⌜ i * area + from + length (now b) ≤ length (now s) ⌝ }
+    ensures { λ r. ⌜ now (s .exit) ≡ over (i * area + from) (now (b .entry)) (now (s .entry)) ⌝ }
+{
+    put_bytes(s, i * area + from, b);
+}
+
+// Every element of lent memory is a byte, which a definition over lists of numbers does not know.
+pub(crate) fn octets(s: &[u8])
+    ensures { λ r. ⌜ Octets (now (s .entry)) ⌝ }
+{
+    bytes::get_u8(s, 0);
 }

@@ -3,7 +3,7 @@ ghost use mathlib.Core.Path.{_≡_};
 ghost use Prim.Native.Nat.{_+_, _*_, _≤_, _<_};
 ghost use lib.ListN.{length};
 ghost use Rattle.isdb_tlv.specs.Fields.{written};
-ghost use Rattle.isdb_mmt.specs.Lent.{over};
+ghost use Rattle.isdb_mmt.specs.Lent.{part, over};
 ghost use Rattle.isdb_mmt.specs.Layout.{mostSections, sectionPlaces, sectionSize, stateSize};
 ghost use Rattle.isdb_mmt.specs.Session.{sectionPlaceOf, sectionFields, sectionAt};
 use crate::decoder::layout::SECTION_PLACES;
@@ -17,9 +17,11 @@ pub(crate) struct KeptSection {
     pub length: u32,
 }
 
-fn section_of(p: &[u8]) -> KeptSection
-    ensures { λ r. ⌜ r ≡ sectionPlaceOf (now (p .entry)) ⌝ }
+// The section place that starts at a place of some bytes.
+pub(crate) fn section_at(s: &[u8], at: usize) -> KeptSection
+    ensures { λ r. ⌜ r ≡ sectionPlaceOf (part at sectionSize (now (s .entry))) ⌝ }
 {
+    let p = bytes::part(s, at, SECTION_SIZE);
     KeptSection {
         key: bytes::get_u32(p, 0),
         version: bytes::get_u8(p, 4),
@@ -32,16 +34,16 @@ pub(crate) fn load_section(s: &[u8], i: usize) -> KeptSection
     requires { ⌜ i < mostSections ⌝ }
     ensures { λ r. ⌜ r ≡ sectionAt (now (s .entry)) i ⌝ }
 {
-    section_of(bytes::part(s, SECTION_PLACES + SECTION_SIZE * i, SECTION_SIZE))
+    section_at(s, SECTION_PLACES + SECTION_SIZE * i)
 }
 
-fn put_section(p: &mut [u8], x: KeptSection)
-    requires { ⌜ length (now p) ≡ sectionSize ⌝ }
-    ensures { λ r. ⌜ now (p .exit) ≡ written (sectionFields x) ⌝ }
+pub(crate) fn put_section_at(s: &mut [u8], at: usize, x: KeptSection)
+    requires { ⌜ at + sectionSize ≤ length (now s) ⌝ }
+    ensures { λ r. ⌜ now (s .exit) ≡ over at (written (sectionFields x)) (now (s .entry)) ⌝ }
 {
     bytes::put4(
-        p,
-        0,
+        s,
+        at,
         0x4140,
         x.key as u64,
         x.version as u64,
@@ -54,7 +56,5 @@ pub(crate) fn store_section(s: &mut [u8], i: usize, x: KeptSection)
     requires { ⌜ (i < mostSections) × (stateSize ≤ length (now s)) ⌝ }
     ensures { λ r. ⌜ now (s .exit) ≡ over (sectionPlaces + sectionSize * i) (written (sectionFields x)) (now (s .entry)) ⌝ }
 {
-    let at = SECTION_PLACES + SECTION_SIZE * i;
-    let end = at + SECTION_SIZE;
-    put_section(&mut s[at..end], x);
+    put_section_at(s, SECTION_PLACES + SECTION_SIZE * i, x);
 }

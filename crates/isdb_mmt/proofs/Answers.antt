@@ -1,0 +1,175 @@
+-- The seat, the place and the answer of a media packet, as the code has them. Assumes nothing.
+use Prim.Native.Nat.{ℕ, _+_, _-_, _*_, _≤_, _<_}
+use mathlib.Core.Path.{_≡_, sym, ap, _∙_}
+use mathlib.Core.Bool.{Bool, true, false, cond}
+use mathlib.Core.List.{List}
+use native.Mathlib.Omega.{arith}
+use mir.Val.{Fits}
+use mir.Syntax.{w64}
+use lib.ListN.{length}
+use borrow.Author.Tests.{lt-ltb, le-ltb, eq-eqb, ne-eqb}
+use Rattle.isdb_tlv.specs.Bytes.{be}
+use Rattle.isdb_tlv.specs.Fields.{written}
+use Rattle.isdb_mmt.specs.Maps.{one}
+use Rattle.isdb_mmt.specs.Layout.{mostMediaIds, countersPlace, mediaPlaces, mediaSize, stateSize}
+use Rattle.isdb_mmt.specs.Lent.{over}
+use Rattle.isdb_mmt.specs.Session.{usedOf, countersOf, mediaFields, mediaAt}
+use Rattle.isdb_mmt.specs.MediaPush.{oneMore, withUsed, withPackets}
+use Rattle.isdb_mmt.specs.MediaCommit.{CanSeat, blank, placeIn, indexOf, passesOn, fitsNumber, numberOf, refused, accepted, answerBy, answerOf, Small, stateAfter, CanStore}
+use Rattle.isdb_mmt.specs.declared.decoder.place.Seat.{Seat}
+use Rattle.isdb_mmt.specs.declared.decoder.place.Seat.the-variants.{Old, New, Full}
+use Rattle.isdb_mmt.specs.declared.decoder.head.Used.{Used}
+use Rattle.isdb_mmt.specs.declared.decoder.limits.Limits.{Limits}
+use Rattle.isdb_mmt.specs.declared.decoder.media.Media.{Media}
+use Rattle.isdb_mmt.specs.declared.decoder.reassembler.Survey.{Survey}
+use Rattle.isdb_mmt.specs.declared.decoder.reassembler.Look.{Look}
+use Rattle.isdb_mmt.specs.declared.decoder.records.Answer.{Answer}
+use Rattle.isdb_mmt.proofs.Surveys.{one-le}
+
+-- ---- the place
+
+pub seats-there : (s : List ℕ) (l : Limits) (u : Used) → CanSeat s l → u ≡ usedOf s → mediaPlaces + u .«media_ids» * mediaSize ≤ length s
+seats-there s l u h e =
+    let k : u .«media_ids» ≡ usedOf s .«media_ids» = ap (λ (x : Used). x .«media_ids») e in
+    omega (arith, k, h .there .long, h .there .media)
+
+module _ (seat : Seat) (i : ℕ) where
+  pub old-low : seat ≡ Old i → indexOf seat < mostMediaIds → i < mostMediaIds
+  old-low e h = rw e at h
+
+  pub new-low : seat ≡ New i → indexOf seat < mostMediaIds → i < mostMediaIds
+  new-low e h = rw e at h
+
+module _ (l : List ℕ) (seat : Seat) (r : Media) where
+  pub place-old : (i : ℕ) → seat ≡ Old i → r ≡ mediaAt l i → r ≡ placeIn l seat
+  unfolding placeIn
+  place-old i e er = er ∙ ap (placeIn l) (sym e)
+
+  pub place-new : (i : ℕ) → seat ≡ New i → r ≡ blank → r ≡ placeIn l seat
+  unfolding placeIn
+  place-new i e er = er ∙ ap (placeIn l) (sym e)
+
+  pub place-none : seat ≡ Full → r ≡ blank → r ≡ placeIn l seat
+  unfolding placeIn
+  place-none e er = er ∙ ap (placeIn l) (sym e)
+
+-- ---- the state
+
+module _ (l : List ℕ) (seat : Seat) (can : CanStore l seat) where
+  packets-is : (n : ℕ) → n ≡ be 8 l countersPlace → n ≡ countersOf l .«tlv_packets»
+  unfolding countersOf
+  packets-is n e = e
+
+  pub one-packet : (n : ℕ) → n ≡ be 8 l countersPlace → Fits w64 (n + 1)
+  one-packet n e = record { fits = omega (arith, packets-is n e, can .packets) }
+
+  pub can-more : (u : Used) → u ≡ usedOf l → u .«media_ids» ≤ mostMediaIds
+  can-more u e = omega (arith, ap (λ (x : Used). x .«media_ids») e, can .used)
+
+  pub can-old : (i : ℕ) → seat ≡ Old i → (i < mostMediaIds) × (stateSize ≤ length l)
+  can-old i e = (old-low seat i e (can .index), can .long)
+
+  pub can-new : (i : ℕ) → seat ≡ New i → (i < mostMediaIds) × (stateSize ≤ length l)
+  can-new i e = (new-low seat i e (can .index), can .long)
+
+module _ (l : List ℕ) (seat : Seat) (m : Media) (n : ℕ) (en : n ≡ be 8 l countersPlace) (l′ : List ℕ) where
+  pub store-is-old : (i : ℕ) → seat ≡ Old i → l′ ≡ withPackets (n + 1) (over (mediaPlaces + mediaSize * i) (written (mediaFields m)) l)
+      → l′ ≡ stateAfter l m seat
+  unfolding stateAfter countersOf
+  store-is-old i e el =
+      el ∙ ap (λ k. withPackets (k + 1) (over (mediaPlaces + mediaSize * i) (written (mediaFields m)) l)) en ∙ ap (stateAfter l m) (sym e)
+
+  pub store-is-new : (i : ℕ) → seat ≡ New i → (u : Used) → u ≡ usedOf l → (v : Used) → v ≡ oneMore u
+      → l′ ≡ withPackets (n + 1) (withUsed v (over (mediaPlaces + mediaSize * i) (written (mediaFields m)) l))
+      → l′ ≡ stateAfter l m seat
+  unfolding stateAfter countersOf
+  store-is-new i e u eu v ev el =
+      el
+      ∙ ap (λ k. withPackets (k + 1) (withUsed v (over (mediaPlaces + mediaSize * i) (written (mediaFields m)) l))) en
+      ∙ ap (λ (x : Used). withPackets (be 8 l countersPlace + 1) (withUsed x (over (mediaPlaces + mediaSize * i) (written (mediaFields m)) l)))
+      (ev ∙ ap oneMore eu)
+      ∙ ap (stateAfter l m) (sym e)
+
+pub store-is-none : (l : List ℕ) (seat : Seat) (m : Media) → seat ≡ Full → l ≡ stateAfter l m seat
+unfolding stateAfter
+store-is-none l seat m e = ap (stateAfter l m) (sym e)
+
+-- ---- the number
+
+module _ (area longest rows given records bytes : ℕ) where
+  pub fits-no-area : area < longest → 9 ≡ fitsNumber area longest rows given records bytes
+  unfolding fitsNumber
+  fits-no-area h = rw (lt-ltb area longest h)
+
+  module _ (a : longest ≤ area) where
+    pub fits-no-rows : rows < 36 * records → 10 ≡ fitsNumber area longest rows given records bytes
+    unfolding fitsNumber
+    fits-no-rows h = rw (le-ltb area longest a, lt-ltb rows (36 * records) h)
+
+    module _ (b : 36 * records ≤ rows) where
+      pub fits-no-bytes : given < bytes → 10 ≡ fitsNumber area longest rows given records bytes
+      unfolding fitsNumber
+      fits-no-bytes h = rw (le-ltb area longest a, le-ltb rows (36 * records) b, lt-ltb given bytes h)
+
+      pub fits-all : bytes ≤ given → 0 ≡ fitsNumber area longest rows given records bytes
+      unfolding fitsNumber
+      fits-all h = rw (le-ltb area longest a, le-ltb rows (36 * records) b, le-ltb given bytes h)
+
+  pub number-8 : (seat : Seat) → seat ≡ Full → 8 ≡ numberOf seat area longest rows given records bytes
+  unfolding numberOf
+  number-8 seat e = ap (λ (s : Seat). numberOf s area longest rows given records bytes) (sym e)
+
+  pub number-old : (seat : Seat) (i r : ℕ) → seat ≡ Old i → r ≡ fitsNumber area longest rows given records bytes
+      → r ≡ numberOf seat area longest rows given records bytes
+  unfolding numberOf
+  number-old seat i r e er = er ∙ ap (λ (s : Seat). numberOf s area longest rows given records bytes) (sym e)
+
+  pub number-new : (seat : Seat) (i r : ℕ) → seat ≡ New i → r ≡ fitsNumber area longest rows given records bytes
+      → r ≡ numberOf seat area longest rows given records bytes
+  unfolding numberOf
+  number-new seat i r e er = er ∙ ap (λ (s : Seat). numberOf s area longest rows given records bytes) (sym e)
+
+-- ---- the answer
+
+module _ (passed : Bool) (n : ℕ) where
+  pub passed-short : passed ≡ true → n < 8 → 0 ≡ cond passed (n - 8) 0
+  passed-short e h = let z : 0 ≡ n - 8 = omega arith in rw e z
+
+  pub passed-long : passed ≡ true → 8 ≤ n → n - 8 ≡ cond passed (n - 8) 0
+  passed-long e h = rw e
+
+  pub not-passed : passed ≡ false → 0 ≡ cond passed (n - 8) 0
+  not-passed e = rw e
+
+  passed-le : cond passed (n - 8) 0 ≤ n
+  passed-le = go passed
+    where
+      go : (x : Bool) → cond x (n - 8) 0 ≤ n
+      go true = omega arith
+      go false = omega arith
+
+  module _ (t : Survey) (s : Small t) (h : n ≤ 65535) where
+    pub add-records : (o : ℕ) → o ≡ one passed → Fits w64 (o + t .records)
+    add-records o e = record { fits = omega (arith, e, one-le passed, s .records) }
+
+    pub few-records : (o : ℕ) → o ≡ one passed → o + t .records ≤ 65538
+    few-records o e = omega (arith, e, one-le passed, s .records)
+
+    pub add-bytes : (d : ℕ) → d ≡ cond passed (n - 8) 0 → Fits w64 (d + t .bytes)
+    add-bytes d e = record { fits = omega (arith, e, passed-le, s .bytes) }
+
+module _ (seat : Seat) (l : Limits) (scrambled : Bool) (r : Look) (n rows given : ℕ)
+    (passed : Bool) (ep : passed ≡ passesOn (l .«pass_scrambled») scrambled (r .header))
+    (o d : ℕ) (eo : o ≡ one passed) (ed : d ≡ cond passed (n - 8) 0)
+    (k : ℕ) (ek : k ≡ numberOf seat (l .«mfu_area») (r .units .longest) rows given (o + r .units .records) (d + r .units .bytes)) (a : Answer) where
+  answer-is : a ≡ answerBy k (o + r .units .records) (d + r .units .bytes) → a ≡ answerOf seat l scrambled r n rows given
+  unfolding answerOf
+  answer-is ea = ea ∙ rw (ek, eo, ed, ep)
+
+  pub answer-yes : k ≡ 0 → a ≡ accepted (o + r .units .records) (d + r .units .bytes) → a ≡ answerOf seat l scrambled r n rows given
+  answer-yes z ea =
+      answer-is (ea ∙ ap (λ b. cond b (accepted (o + r .units .records) (d + r .units .bytes)) (refused k)) (sym (eq-eqb k 0 z)))
+
+  pub answer-no : (k ≡ 0 → ⊥) → a ≡ refused k → a ≡ answerOf seat l scrambled r n rows given
+  answer-no z ea =
+      answer-is (ea ∙ ap (λ b. cond b (accepted (o + r .units .records) (d + r .units .bytes)) (refused k)) (sym (ne-eqb k 0 z)))

@@ -1,0 +1,42 @@
+-- The count of a packet, in the state's bytes. Assumes nothing.
+use Prim.Native.Nat.{ℕ}
+use mathlib.Core.Path.{_≡_, refl, sym, ap, _∙_, subst}
+use mathlib.Core.Bool.{true}
+use mathlib.Core.List.{List}
+use Rattle.isdb_tlv.specs.Fields.{written}
+use Rattle.isdb_mmt.specs.Model.{packetCounted}
+use Rattle.isdb_mmt.specs.Layout.{timePlace, countersPlace}
+use Rattle.isdb_mmt.specs.Lent.{over}
+use Rattle.isdb_mmt.specs.Session.{countersOf, countersFields, timeFields}
+use Rattle.isdb_mmt.specs.View.{countsOf}
+use Rattle.isdb_mmt.specs.Placing.{countersFor}
+use Rattle.isdb_mmt.specs.Leaves.{withCounters, withTime}
+use Rattle.isdb_mmt.specs.Route.{timeGiven}
+use Rattle.isdb_mmt.specs.Counted.{Countable, StateCountable}
+use Rattle.isdb_mmt.specs.declared.maybe.MaybeU64.{MaybeU64}
+use Rattle.isdb_mmt.specs.declared.maybe.MaybeU64.the-variants.{Some as someU64}
+use Rattle.isdb_mmt.specs.declared.decoder.counts.Counters.{Counters}
+use Rattle.isdb_mmt.specs.declared.decoder.head.Time.{Time}
+
+module _ (l : List ℕ) (c : Counters) (e : c ≡ countersOf l) where
+  pub countable : (ip non time : ℕ) → StateCountable l ip non time → Countable c ip non time
+  countable ip non time h = subst (λ (x : Counters). Countable x ip non time) (sym e) (h .counts)
+
+  -- stored over what the state has become
+  pub counted-over : (ip non time : ℕ) (d : Counters) → d ≡ countersFor (packetCounted (countsOf c) ip non time)
+      → (m m′ : List ℕ) → m′ ≡ over countersPlace (written (countersFields d)) m
+      → m′ ≡ withCounters (packetCounted (countsOf (countersOf l)) ip non time) m
+  counted-over ip non time d h m m′ k =
+      k ∙ ap (λ (x : Counters). over countersPlace (written (countersFields x)) m)
+      (h ∙ ap (λ (x : Counters). countersFor (packetCounted (countsOf x) ip non time)) e)
+
+  pub counted-after : (ip non time : ℕ) (d : Counters) → d ≡ countersFor (packetCounted (countsOf c) ip non time)
+      → (t : MaybeU64) (m m′ : List ℕ) → m ≡ withTime (timeGiven t) l → m′ ≡ over countersPlace (written (countersFields d)) m
+      → m′ ≡ withCounters (packetCounted (countsOf (countersOf l)) ip non time) (withTime (timeGiven t) l)
+  counted-after ip non time d h t m m′ j k =
+      counted-over ip non time d h m m′ k
+      ∙ ap (λ (x : List ℕ). withCounters (packetCounted (countsOf (countersOf l)) ip non time) x) j
+
+pub time-seen : (l l′ : List ℕ) (t : MaybeU64) (v : ℕ) → t ≡ someU64 v
+    → l′ ≡ over timePlace (written (timeFields (record { seen = true; timestamp = v }))) l → l′ ≡ withTime (timeGiven t) l
+time-seen l l′ t v e h = h ∙ ap (λ (x : MaybeU64). withTime (timeGiven x) l) (sym e)

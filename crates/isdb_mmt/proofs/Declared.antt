@@ -1,0 +1,166 @@
+-- The declared bytes of a table read as the table does: its parser looks at nothing behind them. Assumes nothing.
+use Prim.Native.Nat.{ℕ, zero, suc, _+_, _-_, _%_, _≤_, _<_}
+use mathlib.Core.Path.{_≡_, refl, ap, _∙_}
+use mathlib.Core.Bool.{not}
+use mathlib.Core.List.{[], _∷_}
+use native.Mathlib.Omega.{arith}
+use lib.ListN.{length, getD, take, drop}
+use lib.Seq.{take-all, take-take, getD-take, length-take-le}
+use lib.Dec.{ltb, leb, eqb}
+use borrow.Author.Tests.{ltb-false, leb-true, leb-false, le-ltb}
+use Rattle.isdb_tlv.specs.Bytes.{be}
+use Rattle.isdb_tlv.specs.Crc.{crcOf}
+use Rattle.isdb_tlv.proofs.Guards.{cond-elim, either}
+use Rattle.isdb_tlv.proofs.Numbers.{be-take}
+use Rattle.isdb_mmt.specs.Packet.{Bytes}
+use Rattle.isdb_mmt.specs.Part.{partOf}
+use Rattle.isdb_mmt.specs.Section.{length12, headerOf, longSectionOf}
+use Rattle.isdb_mmt.specs.Eit.{eitOf, eitIn, eitBody}
+use Rattle.isdb_mmt.specs.Sdt.{sdtOf, sdtIn, sdtBody}
+use Rattle.isdb_mmt.specs.Bit.{bitOf, bitIn, bitBody}
+use Rattle.isdb_mmt.specs.Nit.{nitOf, nitIn, nitBody}
+use Rattle.isdb_mmt.specs.Amt.{amtOf, amtIn, amtBody}
+use Rattle.isdb_mmt.specs.Tot.{totOf, totFields}
+use Rattle.isdb_mmt.specs.Mpt.{mptOf, mptTable, declaredLength}
+use Rattle.isdb_mmt.specs.Plt.{pltOf, pltTable}
+use Rattle.isdb_mmt.specs.Kept.{declaredSection, declaredTable, bodyRead, body}
+use Rattle.isdb_mmt.specs.declared.table.section.SectionHeader.{SectionHeader}
+use Rattle.isdb_mmt.specs.declared.table.section.SectionError.{SectionError}
+use Rattle.isdb_mmt.specs.declared.table.section.SectionError.the-variants.{Truncated, Crc}
+use Rattle.isdb_mmt.specs.declared.table.section.LongSection.{LongSection}
+use Rattle.isdb_mmt.specs.declared.table.section.LongSection.the-variants.{Ok, Err}
+use Rattle.isdb_mmt.specs.declared.table.mpt.Place.the-variants.{At}
+
+part-take : (k m n : ℕ) (l : Bytes) → k + m ≤ n → take m (drop k (take n l)) ≡ take m (drop k l)
+part-take zero m n l h = take-take m n l (omega arith)
+part-take (suc k) m zero l h = absurd (omega arith)
+part-take (suc k) m (suc n) [] h = refl
+part-take (suc k) m (suc n) (x ∷ l) h = part-take k m n l (omega arith)
+
+-- the first `n` bytes are all there are, or `n`
+cut : (P : Bytes → Type 0) (n : ℕ) (b : Bytes) → P b → (n < length b → length (take n b) ≡ n → P (take n b)) → P (take n b)
+cut P n b h f =
+    either (leb (length b) n) (λ e. rw (take-all n b (leb-true (length b) n e)) h)
+    (λ e. let l = leb-false (length b) n e in f l (length-take-le n b (omega arith)))
+
+module _ (b : Bytes) where
+  abbrev n : ℕ
+  n = length12 b 1 + 3
+
+  same12 : length12 (take n b) 1 ≡ length12 b 1
+  same12 = ap (λ x. x % 4096) (be-take 2 n b 1 (omega arith))
+
+  pub same-id : getD (declaredSection b) 0 0 ≡ getD b 0 0
+  same-id = getD-take n b 0 0 (omega arith)
+
+  same-header : 9 ≤ length12 b 1 → headerOf (take n b) (length12 b 1 - 9) ≡ headerOf b (length12 b 1 - 9)
+  same-header h =
+      rw (
+        be-take 2 n b 3 (omega arith),
+        getD-take n b 0 0 (omega arith),
+        getD-take n b 5 0 (omega arith),
+        getD-take n b 6 0 (omega arith),
+        getD-take n b 7 0 (omega arith),
+      )
+
+  pub same-section : longSectionOf (declaredSection b) ≡ longSectionOf b
+  unfolding longSectionOf
+  same-section =
+      cut (λ (d : Bytes). longSectionOf d ≡ longSectionOf b) n b refl (λ l e.
+      either (ltb (length12 b 1) 9)
+      (λ t. rw (e, same12, t, le-ltb n 3 (omega arith), le-ltb (length b) 3 (omega arith)))
+      (λ t.
+      let q = ltb-false (length12 b 1) 9 t in
+      simp (
+        e,
+        same12,
+        t,
+        le-ltb n 3 (omega arith),
+        le-ltb (length b) 3 (omega arith),
+        le-ltb n n (omega arith),
+        le-ltb (length b) n (omega arith),
+        take-take n n b (omega arith),
+        same-header q,
+      )))
+
+  -- what reads a section by its header and body
+  module _ {R : Type 0} (f : Bytes → LongSection → R) (bad : (e : SectionError) → f (take n b) (Err e) ≡ f b (Err e))
+      (good : (h : SectionHeader) → partOf (take n b) (h .body) ≡ partOf b (h .body) → f (take n b) (Ok h) ≡ f b (Ok h)) where
+    abbrev Alike : LongSection → Type 0
+    Alike x = f (take n b) x ≡ f b x
+
+    alike : Alike (longSectionOf b)
+    unfolding longSectionOf
+    alike =
+        cond-elim Alike (ltb (length b) 3) (λ e. bad Truncated) (λ e.
+        cond-elim Alike (ltb (length12 b 1) 9) (λ e. bad Truncated) (λ t.
+        cond-elim Alike (ltb (length b) n) (λ e. bad Truncated) (λ e.
+        cond-elim Alike (not (eqb (crcOf (take n b)) 0)) (λ e. bad Crc) (λ e.
+        let q = ltb-false (length12 b 1) 9 t in
+        good (headerOf b (length12 b 1 - 9)) (part-take 8 (length12 b 1 - 9) n b (omega arith))))))
+
+    read-same : f (take n b) (longSectionOf (take n b)) ≡ f b (longSectionOf b)
+    read-same = ap (f (take n b)) same-section ∙ alike
+
+  pub same-eit : eitOf (declaredSection b) ≡ eitOf b
+  unfolding eitOf
+  same-eit = read-same eitIn (λ e. refl) (λ h q. ap (eitBody h) q)
+
+  pub same-sdt : sdtOf (declaredSection b) ≡ sdtOf b
+  unfolding sdtOf
+  same-sdt = read-same sdtIn (λ e. refl) (λ h q. ap (sdtBody h) q)
+
+  pub same-bit : bitOf (declaredSection b) ≡ bitOf b
+  unfolding bitOf
+  same-bit = read-same bitIn (λ e. refl) (λ h q. ap (bitBody h) q)
+
+  pub same-nit : nitOf (declaredSection b) ≡ nitOf b
+  unfolding nitOf
+  same-nit = read-same nitIn (λ e. refl) (λ h q. ap (nitBody h) q)
+
+  pub same-amt : amtOf (declaredSection b) ≡ amtOf b
+  unfolding amtOf
+  same-amt = read-same amtIn (λ e. refl) (λ h q. ap (amtBody h) q)
+
+  pub same-tot : totOf (declaredSection b) ≡ totOf b
+  unfolding totOf totFields
+  same-tot =
+      cut (λ (d : Bytes). totOf d ≡ totOf b) n b refl (λ l e.
+      simp (
+        e,
+        same12,
+        le-ltb n 3 (omega arith),
+        le-ltb (length b) 3 (omega arith),
+        le-ltb n n (omega arith),
+        le-ltb (length b) n (omega arith),
+        take-take n n b (omega arith),
+      ))
+
+  pub same-body : (id : ℕ) → bodyRead id (declaredSection b) ≡ bodyRead id b
+  unfolding bodyRead
+  same-body id = simp (same-eit, same-sdt, same-bit, same-nit, same-amt)
+
+-- an MPT and a PLT
+module _ (b : Bytes) where
+  abbrev k : ℕ
+  k = be 2 b 2 + 4
+
+  same-length : k < length b → length (take k b) ≡ k → declaredLength (take k b) ≡ At k
+  unfolding declaredLength
+  same-length l e = simp (e, be-take 2 k b 2 (omega arith), le-ltb k 4 (omega arith), le-ltb k k (omega arith))
+
+  was-length : k < length b → declaredLength b ≡ At k
+  unfolding declaredLength
+  was-length l = simp (le-ltb (length b) 4 (omega arith), le-ltb (length b) k (omega arith))
+
+  pub same-mpt : mptOf (declaredTable b) ≡ mptOf b
+  unfolding mptOf
+  same-mpt =
+      cut (λ (d : Bytes). mptOf d ≡ mptOf b) k b refl (λ l e.
+      rw (same-length l e, was-length l) (ap mptTable (take-take k k b (omega arith))))
+
+  pub same-plt : pltOf (declaredTable b) ≡ pltOf b
+  unfolding pltOf
+  same-plt =
+      cut (λ (d : Bytes). pltOf d ≡ pltOf b) k b refl (λ l e.
+      rw (same-length l e, was-length l) (ap pltTable (take-take k k b (omega arith))))

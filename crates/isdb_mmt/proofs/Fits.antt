@@ -1,0 +1,145 @@
+-- What a media packet does to its id: what is held stays within its area, and no count grows by more than 2^21. Assumes nothing.
+use Prim.Native.Nat.{ℕ, suc, _+_, _-_, _≤_, _<_}
+use mathlib.Core.Bool.{Bool, true, false, cond, _&&_}
+use mathlib.Core.Option.{Option, none, some}
+use mathlib.Core.List.{List, [], _∷_}
+use native.Mathlib.Omega.{arith}
+use lib.ListN.{length}
+use lib.Dec.{leb}
+use Rattle.isdb_tlv.proofs.Guards.{cond-elim}
+use Rattle.isdb_mmt.specs.Mpu.{follows, lostFrom}
+use Rattle.isdb_mmt.specs.Packet.{Piece, Media, readable}
+use Rattle.isdb_mmt.specs.Maps.{one, isSome}
+use Rattle.isdb_mmt.specs.Objects.{Mfu, Asset, fresh, mostObject, gap, lostBy, Did, grown, continued, unitDoes, didTo, objectOf, did, unitsDo, noted, newMpu, jumped, malformedPayload, assetAfter, mpuIn, completes}
+use Rattle.isdb_mmt.specs.Needs.{heldLength, unitArea, unitsNeed}
+use Rattle.isdb_mmt.specs.declared.mpu.FragmentationIndicator.{FragmentationIndicator}
+use Rattle.isdb_mmt.specs.declared.mpu.FragmentationIndicator.the-variants.{Complete, Head, Middle, Last}
+
+-- what one packet adds to a count at most: 2^21
+abbrev pub mostAdded : ℕ
+mostAdded = 2097152
+
+pub one-le : (b : Bool) → one b ≤ 1
+one-le true = omega arith
+one-le false = omega arith
+
+pub record AssetFits (area n : ℕ) (a : Asset) : Type 0 where
+  pub held : heldLength (a .held) ≤ area
+  pub packets : a .packets ≤ n
+  pub lost : a .lost ≤ n
+  pub scrambled : a .scrambled ≤ n
+  pub mfus : a .mfus ≤ n
+  pub scrambledMfus : a .scrambledMfus ≤ n
+  pub dropped : a .dropped ≤ n
+  pub mpus : a .mpus ≤ n
+  pub jumps : a .jumps ≤ n
+  pub malformed : a .malformed ≤ n
+
+pub asset-more : (area n m : ℕ) (a : Asset) → n ≤ m → AssetFits area n a → AssetFits area m a
+asset-more area n m a l h =
+    record {
+      held = h .held;
+      packets = omega (arith, h .packets);
+      lost = omega (arith, h .lost);
+      scrambled = omega (arith, h .scrambled);
+      mfus = omega (arith, h .mfus);
+      scrambledMfus = omega (arith, h .scrambledMfus);
+      dropped = omega (arith, h .dropped);
+      mpus = omega (arith, h .mpus);
+      jumps = omega (arith, h .jumps);
+      malformed = omega (arith, h .malformed);
+    }
+
+pub fresh-fits : (area n : ℕ) → AssetFits area n fresh
+unfolding fresh
+fresh-fits area n =
+    record {
+      held = omega arith;
+      packets = omega arith;
+      lost = omega arith;
+      scrambled = omega arith;
+      mfus = omega arith;
+      scrambledMfus = omega arith;
+      dropped = omega arith;
+      mpus = omega arith;
+      jumps = omega arith;
+      malformed = omega arith;
+    }
+
+-- a unit drops one object, delivers one, and holds what its area counts
+record Mild (f : FragmentationIndicator) (r : Did) : Type 0 where
+  held : heldLength (r .held) ≤ unitArea f r
+  drops : r .drops ≤ 1
+  outs : length (r .outs) ≤ 1
+
+mild : (f : FragmentationIndicator) (h : Option Mfu) (u : Mfu) → Mild f (unitDoes f h u)
+unfolding unitDoes continued
+mild Complete h u = record { held = omega arith; drops = one-le (isSome h); outs = omega arith }
+mild Head h u = record { held = omega arith; drops = one-le (isSome h); outs = omega arith }
+mild Middle none u = record { held = omega arith; drops = omega arith; outs = omega arith }
+mild Middle (some h) u = go (leb (length (h .bytes) + length (u .bytes)) mostObject)
+  where
+    go : (b : Bool) → Mild Middle (continued b false (grown h (u .bytes)))
+    go true = record { held = omega arith; drops = omega arith; outs = omega arith }
+    go false = record { held = omega arith; drops = omega arith; outs = omega arith }
+mild Last none u = record { held = omega arith; drops = omega arith; outs = omega arith }
+mild Last (some h) u = go (leb (length (h .bytes) + length (u .bytes)) mostObject)
+  where
+    go : (b : Bool) → Mild Last (continued b true (grown h (u .bytes)))
+    go true = record { held = omega arith; drops = omega arith; outs = omega arith }
+    go false = record { held = omega arith; drops = omega arith; outs = omega arith }
+
+units-fit : (area : ℕ) (m : Media) (us : List Piece) (n : ℕ) (a : Asset) → AssetFits area n a → unitsNeed m a us ≤ area
+    → AssetFits area (n + length us) (unitsDo m a us)
+unfolding unitsDo unitsNeed didTo did
+units-fit area m [] n a h k = asset-more area n (n + 0) a (omega arith) h
+units-fit area m (u ∷ us) n a h k =
+    let r = did m a u in
+    let q = mild (u .fragment) (a .held) (objectOf m u) in
+    let next : AssetFits area (n + 1) (didTo a r) =
+    record {
+      held = omega (arith, q .held);
+      packets = omega (arith, h .packets);
+      lost = omega (arith, h .lost);
+      scrambled = omega (arith, h .scrambled);
+      mfus = omega (arith, h .mfus, q .outs);
+      scrambledMfus = omega (arith, h .scrambledMfus);
+      dropped = omega (arith, h .dropped, q .drops);
+      mpus = omega (arith, h .mpus);
+      jumps = omega (arith, h .jumps);
+      malformed = omega (arith, h .malformed);
+    } in
+    asset-more area (n + 1 + length us) (n + suc (length us)) (unitsDo m (didTo a r) us) (omega arith)
+    (units-fit area m us (n + 1) (didTo a r) next (omega arith))
+
+lost-le : (o : Option ℕ) (n : ℕ) → lostBy o n ≤ 1048576
+unfolding lostBy lostFrom
+lost-le none n = omega arith
+lost-le (some l) n = cond-elim (λ (x : ℕ). x ≤ 1048576) (follows l n) (λ e. omega arith) (λ e. omega arith)
+
+gone-le : (b : Bool) (h : Option Mfu) → heldLength (cond b none h) ≤ heldLength h
+gone-le true h = omega arith
+gone-le false h = omega arith
+
+noted-fits : (area n : ℕ) (a : Asset) (m : Media) → AssetFits area n a → AssetFits area (n + 1048576) (noted a m)
+unfolding noted
+noted-fits area n a m h =
+    record {
+      held = omega (arith, gone-le (gap (a .number) (m .number)) (a .held), h .held);
+      packets = omega (arith, h .packets);
+      lost = omega (arith, h .lost, lost-le (a .number) (m .number));
+      scrambled = omega (arith, h .scrambled, one-le (m .scrambled));
+      mfus = omega (arith, h .mfus);
+      scrambledMfus = omega (arith, h .scrambledMfus, one-le (m .scrambled && completes (m .header)));
+      dropped = omega (arith, h .dropped, one-le (gap (a .number) (m .number) && isSome (a .held)));
+      mpus = omega (arith, h .mpus, one-le (newMpu (a .mpu) (mpuIn (m .header))));
+      jumps = omega (arith, h .jumps, one-le (jumped (a .mpu) (mpuIn (m .header))));
+      malformed = omega (arith, h .malformed, one-le (malformedPayload m));
+    }
+
+pub asset-fits : (area n : ℕ) (a : Asset) (m : Media) → AssetFits area n a → length (readable m) < 65536
+    → unitsNeed m (noted a m) (readable m) ≤ area → AssetFits area (n + mostAdded) (assetAfter a m)
+unfolding assetAfter
+asset-fits area n a m h l k =
+    asset-more area (n + 1048576 + length (readable m)) (n + mostAdded) (assetAfter a m) (omega arith)
+    (units-fit area m (readable m) (n + 1048576) (noted a m) (noted-fits area n a m h) k)

@@ -1,0 +1,166 @@
+-- What the commit of a walk stores is the model's next state, laid out. Assumes nothing.
+use Prim.Native.Nat.{ℕ, zero, suc, _+_, _-_, _*_, _/_, _%_, _≤_, _<_}
+use mathlib.Core.Path.{_≡_, refl, sym, ap, _∙_, subst}
+use mathlib.Core.Bool.{Bool, true, false}
+use mathlib.Core.List.{List, [], _∷_, _++_, map, append-nil}
+use native.Mathlib.Omega.{arith}
+use native.Mathlib.Nat.{zero-add, mul-le-mul-right}
+use lib.Dec.{eqb}
+use lib.ListN.{length, getD, take, drop, length-take, length-drop}
+use lib.Seq.{getD-take, getD-drop, take-all, take-add, take-suc, drop-drop, length-take-le}
+use borrow.Author.Tests.{eqb-false}
+use Rattle.isdb_tlv.specs.Bytes.{be}
+use Rattle.isdb_tlv.specs.Fields.{bytesOf, written}
+use Rattle.isdb_tlv.proofs.Guards.{either}
+use Rattle.isdb_mmt.specs.Layout.{sectionSize}
+use Rattle.isdb_mmt.specs.Packet.{Bytes}
+use Rattle.isdb_mmt.specs.Octets.{Octets}
+use Rattle.isdb_mmt.specs.Kept.{Kept, Counters as Counts}
+use Rattle.isdb_mmt.specs.Lent.{part, placesFrom, indexed}
+use Rattle.isdb_mmt.specs.Session.{sectionPlaceOf, sectionFields}
+use Rattle.isdb_mmt.specs.Placing.{tableLength, countersFor}
+use Rattle.isdb_mmt.specs.Leaves.{keptPlace, sectionRows}
+use Rattle.isdb_mmt.specs.Verdict.{indexOf}
+use Rattle.isdb_mmt.specs.Dry.{Logged, withLog, placesOf, bytesAt, drawnEntry, drawnRecent, Dry, dryOf, drawnCounters}
+use Rattle.isdb_mmt.specs.Commit.{EntryFits, AllFit}
+use Rattle.isdb_mmt.specs.Start.{recentLength, countersWith}
+use Rattle.isdb_mmt.specs.Maps.{isSome}
+use Rattle.isdb_mmt.specs.declared.decoder.section.KeptSection.{KeptSection}
+use Rattle.isdb_mmt.specs.declared.decoder.verdict.Recent.{Recent}
+use Rattle.isdb_mmt.specs.declared.decoder.walk.Going.{Going}
+use Rattle.isdb_mmt.specs.declared.decoder.counts.Counters.{Counters}
+use Rattle.isdb_mmt.proofs.Notes.{log-places, log-length}
+
+-- ---- a place written again is what it was
+
+bytes-again : (w at : ℕ) (s : Bytes) → Octets s → at + w ≤ length s → bytesOf w (be w s at) ≡ part at w s
+unfolding bytesOf be
+bytes-again zero at s o h = refl
+bytes-again (suc w) at s o h =
+    let x : ℕ = be w s at in
+    let y : ℕ = getD s (at + w) 0 in
+    let b : y < 256 = o (at + w) in
+    let q : (x * 256 + y) / 256 ≡ x = omega arith in
+    let r : (x * 256 + y) % 256 ≡ y = omega arith in
+    let l : w < length (drop at s) = omega (arith, length-drop at s) in
+    let z : List ℕ = y ∷ [] in
+    ap (λ k. bytesOf w k ++ ((x * 256 + y) % 256 ∷ [])) q
+    ∙ ap (λ k. bytesOf w x ++ (k ∷ [])) r
+    ∙ ap (λ (l : Bytes). l ++ z) (bytes-again w at s o (omega arith))
+    ∙ ap (λ k. part at w s ++ (k ∷ [])) (sym (getD-drop at s w 0))
+    ∙ sym (take-suc (drop at s) w 0 l)
+
+place-again : (p : Bytes) → length p ≡ sectionSize → Octets p → written (sectionFields (sectionPlaceOf p)) ≡ p
+unfolding sectionPlaceOf
+place-again p e o =
+    let a : bytesOf 4 (be 4 p 0) ≡ part 0 4 p = bytes-again 4 0 p o (omega arith) in
+    let b : bytesOf 1 (be 1 p 4) ≡ part 4 1 p = bytes-again 1 4 p o (omega arith) in
+    let c : bytesOf 4 (be 4 p 5) ≡ part 5 4 p = bytes-again 4 5 p o (omega arith) in
+    let d : part 4 1 p ++ part 5 4 p ≡ part 4 5 p =
+    ap (λ (l : Bytes). part 4 1 p ++ take 4 l) (sym (drop-drop 1 4 p)) ∙ sym (take-add 1 4 (drop 4 p)) in
+    (λ i. a i ++ (b i ++ (c i ++ [])))
+    ∙ ap (λ (l : Bytes). part 0 4 p ++ (part 4 1 p ++ l)) (append-nil (part 5 4 p))
+    ∙ ap (λ (l : Bytes). part 0 4 p ++ l) d
+    ∙ sym (take-add 4 5 p)
+    ∙ take-all 9 p (omega arith)
+
+-- places one behind the other
+abbrev flat : List KeptSection → Bytes
+flat [] = []
+flat (x ∷ xs) = written (sectionFields x) ++ flat xs
+
+octets-part : (s : Bytes) → Octets s → (at n : ℕ) → Octets (part at n s)
+octets-part s o at zero i = omega arith
+octets-part s o at (suc n) i = go (drop at s) (λ j. rw (getD-drop at s j 0) (o (at + j))) (suc n) i
+  where
+    go : (l : Bytes) → Octets l → (n i : ℕ) → getD (take n l) i 0 < 256
+    go l o zero i = omega arith
+    go [] o (suc n) i = omega arith
+    go (x ∷ l) o (suc n) zero = o 0
+    go (x ∷ l) o (suc n) (suc i) = go l (λ j. o (suc j)) n i
+
+flat-places : (ix : Bytes) → Octets ix → (n at : ℕ) → at + sectionSize * n ≤ length ix
+    → flat (map sectionPlaceOf (placesFrom n sectionSize at ix)) ≡ part at (sectionSize * n) ix
+unfolding placesFrom
+flat-places ix o zero at h = refl
+flat-places ix o (suc n) at h =
+    let p : Bytes = part at sectionSize ix in
+    let lp : length p ≡ sectionSize = length-take-le sectionSize (drop at ix) (omega (arith, length-drop at ix)) in
+    let e : sectionSize + sectionSize * n ≡ sectionSize * suc n = omega arith in
+    ap (λ (l : Bytes). l ++ flat (map sectionPlaceOf (placesFrom n sectionSize (at + sectionSize) ix))) (place-again p lp (octets-part ix o at sectionSize))
+    ∙ ap (λ (l : Bytes). p ++ l) (flat-places ix o n (at + sectionSize) (omega arith))
+    ∙ ap (λ (l : Bytes). p ++ take (sectionSize * n) l) (sym (drop-drop sectionSize at ix))
+    ∙ sym (take-add sectionSize (sectionSize * n) (drop at ix))
+    ∙ ap (λ k. part at k ix) e
+
+-- ---- the places of what is kept
+
+module _ (m t : Bytes) (area : ℕ) where
+  entry-long : (i : ℕ) (e : Logged) → EntryFits area m e → (i + 1) * area ≤ length t
+      → length (bytesAt m t (i * area) (e .from) (e .place .length)) ≡ e .place .length
+  entry-long i e f w =
+      either (eqb (e .from) 0)
+      (λ q. rw q (length-take-le (e .place .length) (drop (i * area) t) (omega (arith, f .small, length-drop (i * area) t))))
+      (λ q. rw q (f .within (eqb-false (e .from) 0 q)))
+
+  rows-of : (es : List Logged) (i : ℕ) → AllFit area m es → (i + length es) * area ≤ length t
+      → sectionRows (indexed (drawnEntry m t area) i es) ≡ flat (placesOf es)
+  unfolding sectionRows indexed
+  rows-of [] i f w = refl
+  rows-of (e ∷ es) i f w =
+      let k : (i + 1) * area ≤ (i + suc (length es)) * area = mul-le-mul-right area (omega arith) in
+      let z : i + 1 + length es ≡ i + suc (length es) = omega arith in
+      let n : length (bytesAt m t (i * area) (e .from) (e .place .length)) ≡ e .place .length = entry-long i e (f .0) (omega arith) in
+      ap (λ n. written (sectionFields (record { key = e .place .key; version = e .place .version; length = n })) ++ sectionRows (indexed (drawnEntry m t area) (i + 1) es)) n
+      ∙ ap (λ (l : Bytes). written (sectionFields (e .place)) ++ l) (rows-of es (i + 1) (f .1) (rw z w))
+
+  pub rows-are : (ix log : List ℕ) → Octets ix → (used : ℕ) → sectionSize * used ≤ length ix → AllFit area m (withLog (indexOf used ix) log)
+      → used * area ≤ length t → length (withLog (indexOf used ix) log) ≡ used
+      → take (sectionSize * used) ix ≡ sectionRows (indexed (drawnEntry m t area) 0 (withLog (indexOf used ix) log))
+  unfolding indexOf
+  rows-are ix log o used h f w l =
+      sym
+      (rows-of (withLog (indexOf used ix) log) 0 f (rw (l, zero-add used) w)
+      ∙ ap flat (log-places (indexOf used ix) log)
+      ∙ flat-places ix o used 0 (omega arith))
+
+  -- ---- an MPT, a PLT or a TOT
+
+  module _ (i : ℕ) (r : Recent) (w : (i + 1) * area ≤ length t) (small : r .there ≡ true → r .length ≤ area)
+      (stands : r .there ≡ true → (r .from ≡ 0 → ⊥) → length (part (r .from - 1) (r .length) m) ≡ r .length) where
+    pub recent-there : r .there ≡ isSome (drawnRecent m t (i * area) r)
+    unfolding isSome
+    recent-there = either (r .there) (λ q. rw q) (λ q. rw q)
+
+    pub recent-long : recentLength r ≡ tableLength (drawnRecent m t (i * area) r)
+    recent-long =
+        either (r .there)
+        (λ q.
+        rw q
+        (either (eqb (r .from) 0)
+        (λ z. rw z (sym (length-take-le (r .length) (drop (i * area) t) (omega (arith, small q, length-drop (i * area) t)))))
+        (λ z. rw z (sym (stands q (eqb-false (r .from) 0 z))))))
+        (λ q. rw q)
+
+-- ---- the counters
+
+pub counters-are : (ix log others : List ℕ) (c : Counts) (r : Going) → r .«message_malformed» ≡ c .messageMalformed
+    → countersWith (countersFor c) r ≡ countersFor (drawnCounters c (dryOf ix log others r))
+counters-are ix log others c r e =
+    ap
+    (λ n.
+    record {
+      «tlv_packets» = c .tlvPackets;
+      «ip_errors» = c .ipErrors;
+      «non_mmtp» = c .nonMmtps;
+      ntp = c .ntps;
+      tables = r .tables;
+      «crc_errors» = r .«crc_errors»;
+      malformed = r .malformed;
+      «version_changes» = r .«version_changes»;
+      «orphan_fragments» = c .orphans;
+      oversize = c .oversizes;
+      «message_malformed» = n;
+      «split_errors» = r .«split_errors»;
+    })
+    e

@@ -1,0 +1,418 @@
+-- What is known of an id or a key fits its place: numbers fit their fields, lengths their areas, and bytes are bytes. It does so
+-- after a packet too, with counts that are no more than 2^21 larger. Assumes nothing.
+use Prim.Native.Nat.{ℕ, suc, _+_, _≤_, _<_}
+use mathlib.Core.Path.{_≡_, refl}
+use mathlib.Core.Bool.{Bool, true, false, not, cond, _&&_}
+use mathlib.Core.Option.{Option, none, some}
+use mathlib.Core.List.{List, [], _∷_, _++_, map}
+use native.Mathlib.Omega.{arith}
+use lib.ListN.{length, getD, take}
+use lib.Dec.{eqb, leb, ltb}
+use Rattle.isdb_tlv.specs.Bytes.{be}
+use Rattle.isdb_tlv.specs.Crc.{crcOf}
+use Rattle.isdb_tlv.specs.Fields.{Field, Fit}
+use Rattle.isdb_tlv.proofs.Guards.{cond-elim}
+use Rattle.isdb_mmt.specs.Packet.{Bytes, Piece, Media, readable}
+use Rattle.isdb_mmt.specs.Maps.{find, orElse}
+use Rattle.isdb_mmt.specs.Objects.{Mfu, Asset, fresh, gap, didTo, did, unitsDo, noted, mpuIn, mpuNumber, mpuAfter, lastIn, rangeAfter, newMpu, assetAfter}
+use Rattle.isdb_mmt.specs.Section.{length12, longSectionOf}
+use Rattle.isdb_mmt.specs.Joins.{Join, idle}
+use Rattle.isdb_mmt.specs.Kept.{Section, sectionOf, keyOf, versionIn, Kept, otherVersion, keepIf, keep, Counters, Store, Table, emptyTable, mptTable, pltTable, totTable, cutSection, aSection, otherTable, longTable, tableById, tableRead, latest, mptAfter, mptAfterAll, stored, storedAll}
+use Rattle.isdb_mmt.specs.GivenTables.{controlTables}
+use Rattle.isdb_mmt.specs.Model.{Control, idleControl}
+use Rattle.isdb_mmt.specs.Needs.{heldLength, joinLength, unitsNeed, tableArea, tablesNeed}
+use Rattle.isdb_mmt.specs.Layout.{mostMfuArea, mostMessageArea, mostTableArea}
+use Rattle.isdb_mmt.specs.Session.{numberFields, objectFields, statsFields, mediaFields, controlFields, sectionFields, latestFields, timeFields, countersFields}
+use Rattle.isdb_mmt.specs.Octets.{Octets}
+use Rattle.isdb_mmt.specs.Placing.{noObject, heldFor, firstIn, placeFor, tableLength, controlFor, sectionFor, latestFor, timeFor, countersFor}
+use Rattle.isdb_mmt.specs.declared.mpu.PayloadHeader.{PayloadHeader}
+use Rattle.isdb_mmt.specs.declared.table.section.LongSection.{LongSection}
+use Rattle.isdb_mmt.proofs.Every.{Every, every-put}
+use Rattle.isdb_mmt.proofs.Brief.{octets-take, AllOctets}
+use Rattle.isdb_mmt.proofs.Fits.{mostAdded, AssetFits, fresh-fits, asset-fits}
+use Rattle.isdb_mmt.proofs.Stores.{CountersFit, counted-one}
+use Rattle.isdb_mmt.proofs.Ready.{JoinFits}
+use Rattle.isdb_mmt.proofs.Outs.{TimeOk, HeldOk, MediaOk, held-after, flag-small, object-fits}
+
+fit-append : (xs ys : List Field) → Fit xs → Fit ys → Fit (xs ++ ys)
+fit-append [] ys a b = b
+fit-append (x ∷ xs) ys a b = (a .0, fit-append xs ys (a .1) b)
+
+-- a number of 4 bytes, where there is one
+abbrev pub NumberOk : Option ℕ → Type 0
+NumberOk none = Unit {0}
+NumberOk (some n) = n < 4294967296
+
+number-small : (o : Option ℕ) → NumberOk o → orElse 0 o < 4294967296
+unfolding orElse
+number-small none h = omega arith
+number-small (some n) h = h
+
+-- ---- a media id
+
+pub record AssetOk (area n : ℕ) (a : Asset) : Type 0 where
+  pub counts : AssetFits area n a
+  pub number : NumberOk (a .number)
+  pub mpu : NumberOk (a .mpu)
+  pub first : firstIn (a .range) < 4294967296
+  pub held : HeldOk (a .held)
+
+pub fresh-ok : (area n : ℕ) → AssetOk area n fresh
+unfolding fresh
+fresh-ok area n = record { counts = fresh-fits area n; number = tt; mpu = tt; first = omega arith; held = tt }
+
+-- units leave its numbers
+record Numbers (a b : Asset) : Type 0 where
+  number : a .number ≡ b .number
+  mpu : a .mpu ≡ b .mpu
+  range : a .range ≡ b .range
+
+units-numbers : (m : Media) (us : List Piece) (a : Asset) → Numbers (unitsDo m a us) a
+unfolding unitsDo didTo
+units-numbers m [] a = record { number = refl; mpu = refl; range = refl }
+units-numbers m (u ∷ us) a =
+    let h = units-numbers m us (didTo a (did m a u)) in record { number = h .number; mpu = h .mpu; range = h .range }
+
+mpu-after : (o : Option ℕ) (h : Option PayloadHeader) → NumberOk o → mpuNumber h < 4294967296 → NumberOk (mpuAfter o (mpuIn h))
+unfolding mpuAfter
+mpu-after o none a b = a
+mpu-after o (some h) a b = b
+
+last-first : (r : Option (ℕ × ℕ)) (n : ℕ) → firstIn r < 4294967296 → n < 4294967296 → firstIn (lastIn r n) < 4294967296
+last-first none n a b = b
+last-first (some r) n a b = a
+
+range-first : (new : Bool) (r : Option (ℕ × ℕ)) (h : Option PayloadHeader) → firstIn r < 4294967296 → mpuNumber h < 4294967296
+    → firstIn (rangeAfter new r (mpuIn h)) < 4294967296
+unfolding rangeAfter
+range-first false r h a b = a
+range-first true r none a b = a
+range-first true r (some h) a b = last-first r (h .«mpu_sequence_number») a b
+
+pub asset-after : (area n : ℕ) (a : Asset) (m : Media) → AssetOk area n a → MediaOk m → length (readable m) < 65536
+    → unitsNeed m (noted a m) (readable m) ≤ area → AssetOk area (n + mostAdded) (assetAfter a m)
+unfolding assetAfter noted
+asset-after area n a m h o q k =
+    let s = units-numbers m (readable m) (noted a m) in
+    let gone : HeldOk (noted a m .held) = cond-elim HeldOk (gap (a .number) (m .number)) (λ e. tt) (λ e. h .held) in
+    record {
+      counts = asset-fits area n a m (h .counts) q k;
+      number = rw (s .number) (o .number);
+      mpu = rw (s .mpu) (mpu-after (a .mpu) (m .header) (h .mpu) (o .mpu));
+      first = rw (s .range) (range-first (newMpu (a .mpu) (mpuIn (m .header))) (a .range) (m .header) (h .first) (o .mpu));
+      held = held-after m (readable m) (noted a m) (o .mpu) gone (o .pieces);
+    }
+
+zero-object : Fit (objectFields noObject)
+zero-object = (
+  omega arith,
+  (
+    omega arith,
+    (
+      omega arith,
+      (
+        omega arith,
+        (
+          omega arith,
+          (omega arith, (omega arith, (omega arith, (omega arith, (omega arith, (omega arith, tt)))))),
+        ),
+      ),
+    ),
+  ),
+)
+
+held-fits : (area : ℕ) → area ≤ mostMfuArea → (o : Option Mfu) → HeldOk o → heldLength o ≤ area → Fit (objectFields (heldFor o))
+held-fits area w none h l = zero-object
+held-fits area w (some h) o l = object-fits h o (omega arith)
+
+pub asset-place : (area n id : ℕ) (a : Asset) → area ≤ mostMfuArea → n < 18446744073709551616 → id < 4294967296 → AssetOk area n a
+    → Fit (mediaFields (placeFor id a))
+unfolding placeFor
+asset-place area n id a w c i h =
+    let p = placeFor id a in
+    let k = h .counts in
+    let numbers : Fit (numberFields p) = (
+      i,
+      (
+        flag-small (p .seen),
+        (
+          number-small (a .number) (h .number),
+          (flag-small (p .«mpu_seen»), (number-small (a .mpu) (h .mpu), (h .first, (flag-small (p .held), tt)))),
+        ),
+      ),
+    ) in
+    let stats : Fit (statsFields (p .stats)) = (
+      omega (arith, k .packets),
+      (
+        omega (arith, k .lost),
+        (
+          omega (arith, k .scrambled),
+          (
+            omega (arith, k .mfus),
+            (
+              omega (arith, k .scrambledMfus),
+              (
+                omega (arith, k .dropped),
+                (omega (arith, k .mpus), (omega (arith, k .jumps), (omega (arith, k .malformed), tt))),
+              ),
+            ),
+          ),
+        ),
+      ),
+    ) in
+    fit-append (numberFields p) (objectFields (p .object) ++ statsFields (p .stats)) numbers
+    (fit-append (objectFields (p .object)) (statsFields (p .stats)) (held-fits area w (a .held) (h .held) (k .held)) stats)
+
+-- ---- kept tables
+
+abbrev pub TableOk : ℕ → Option Bytes → Type 0
+TableOk area none = Unit {0}
+TableOk area (some b) = (length b ≤ area) × Octets b
+
+pub record KeptOk (area k : ℕ) (x : Kept) : Type 0 where
+  pub key : k < 4294967296
+  pub version : x .version < 256
+  pub fits : length (x .bytes) ≤ area
+  pub octets : Octets (x .bytes)
+
+pub section-place : (area k : ℕ) (x : Kept) → area ≤ mostTableArea → KeptOk area k x → Fit (sectionFields (sectionFor k x))
+section-place area k x w h = (h .key, (h .version, (omega (arith, h .fits), tt)))
+
+pub record StoreOk (area n : ℕ) (s : Store) : Type 0 where
+  pub plt : TableOk area (s .plt)
+  pub tot : TableOk area (s .tot)
+  pub kept : Every (KeptOk area) (s .kept)
+  pub others : (i : ℕ) → getD (s .others) i 0 ≤ n
+
+pub store-ok-more : (area n m : ℕ) (s : Store) → n ≤ m → StoreOk area n s → StoreOk area m s
+store-ok-more area n m s l h = record { plt = h .plt; tot = h .tot; kept = h .kept; others = λ i. omega (arith, h .others i) }
+
+table-small : (area : ℕ) → area ≤ mostTableArea → (o : Option Bytes) → TableOk area o → tableLength o < 4294967296
+table-small area w none h = omega arith
+table-small area w (some b) h = omega (arith, h .0)
+
+pub latest-place : (area n : ℕ) (s : Store) → area ≤ mostTableArea → StoreOk area n s → Fit (latestFields (latestFor s))
+unfolding latestFor
+latest-place area n s w h = (
+  flag-small (latestFor s .plt),
+  (table-small area w (s .plt) (h .plt), (flag-small (latestFor s .tot), (table-small area w (s .tot) (h .tot), tt))),
+)
+
+-- a table as it is read: its bytes are bytes, a key has 4 and a version 1
+pub record SectionOk (x : Section) : Type 0 where
+  pub key : x .key < 4294967296
+  pub version : x .version < 256
+  pub octets : Octets (x .bytes)
+
+abbrev pub ReadOk : Table → Type 0
+ReadOk emptyTable = Unit {0}
+ReadOk (mptTable ok n b) = Octets b
+ReadOk (pltTable ok b) = Octets b
+ReadOk (totTable ok c n b) = Octets b
+ReadOk cutSection = Unit {0}
+ReadOk (aSection x) = SectionOk x
+ReadOk (otherTable id) = Unit {0}
+
+abbrev pub AllRead : List Table → Type 0
+AllRead [] = Unit {0}
+AllRead (t ∷ ts) = ReadOk t × AllRead ts
+
+key-small : (b : Bytes) → Octets b → keyOf b < 4294967296
+unfolding be
+key-small b o = omega (arith, o 0, o 3, o 4, o 6)
+
+version-small : (b : Bytes) → versionIn (longSectionOf b) < 256
+unfolding longSectionOf
+version-small b =
+    let P : LongSection → Type 0 = λ x. versionIn x < 256 in
+    cond-elim P (ltb (length b) 3) (λ e. omega arith) (λ e.
+    cond-elim P (ltb (length12 b 1) 9) (λ e. omega arith) (λ e.
+    cond-elim P (ltb (length b) (length12 b 1 + 3)) (λ e. omega arith) (λ e.
+    cond-elim P (not (eqb (crcOf (take (length12 b 1 + 3) b)) 0)) (λ e. omega arith) (λ e. omega arith))))
+
+section-ok : (b : Bytes) → Octets b → SectionOk (sectionOf b)
+unfolding sectionOf
+section-ok b o = record { key = key-small b o; version = version-small b; octets = octets-take (length12 b 1 + 3) b o }
+
+table-ok : (b : Bytes) → Octets b → ReadOk (tableRead b)
+unfolding tableRead tableById
+table-ok b o =
+    let id = getD b 0 0 in
+    let long : ReadOk (longTable b) = cond-elim ReadOk (ltb (length b) 7) (λ e. tt) (λ e. section-ok b o) in
+    let declared = octets-take (be 2 b 2 + 4) b o in
+    cond-elim ReadOk (eqb (length b) 0) (λ e. tt) (λ e.
+    cond-elim ReadOk (ltb id 0x11) (λ e. tt) (λ e.
+    cond-elim ReadOk (leb id 0x20) (λ e. declared) (λ e.
+    cond-elim ReadOk (eqb id 0x80) (λ e. declared) (λ e.
+    cond-elim ReadOk (eqb id 0xA1) (λ e. octets-take (length12 b 1 + 3) b o) (λ e.
+    cond-elim ReadOk (ltb id 0x8B) (λ e. tt) (λ e.
+    cond-elim ReadOk (leb id 0x9B) (λ e. long) (λ e.
+    cond-elim ReadOk (eqb id 0x9D) (λ e. long) (λ e.
+    cond-elim ReadOk (eqb id 0x9F) (λ e. long) (λ e.
+    cond-elim ReadOk (eqb id 0xA0) (λ e. long) (λ e. tt))))))))))
+
+pub tables-ok : (bs : List Bytes) → AllOctets bs → AllRead (map tableRead bs)
+tables-ok [] o = tt
+tables-ok (b ∷ bs) o = (table-ok b (o .0), tables-ok bs (o .1))
+
+pub control-ok : (bs : List Bytes) → AllOctets bs → AllRead (controlTables bs)
+control-ok [] o = tt
+control-ok (b ∷ bs) o = (section-ok b (o .0), control-ok bs (o .1))
+
+-- one table, and all of them
+latest-ok : (area : ℕ) (ok : Bool) (o : Option Bytes) (b : Bytes) → TableOk area o → Octets b → cond ok (length b) 0 ≤ area → TableOk area (latest ok o b)
+latest-ok area true o b h q l = (l, q)
+latest-ok area false o b h q l = h
+
+kept-ok : (area : ℕ) (x : Section) (m : List (ℕ × Kept)) → Every (KeptOk area) m → SectionOk x → (h n b : Bool)
+    → cond (h && (n && b)) (length (x .bytes)) 0 ≤ area → Every (KeptOk area) (cond h (keepIf n b x m) m)
+unfolding keepIf
+kept-ok area x m f q true true true l =
+    every-put (KeptOk area) (x .key) _ (record { key = q .key; version = q .version; fits = l; octets = q .octets }) m f
+kept-ok area x m f q true true false l = f
+kept-ok area x m f q true false b l = f
+kept-ok area x m f q false n b l = f
+
+store-ok : (area n : ℕ) (s : Store) (t : Table) → StoreOk area n s → ReadOk t → tableArea s t ≤ area → StoreOk area (n + 1) (stored s t)
+unfolding stored tableArea keep
+store-ok area n s emptyTable h q l = store-ok-more area n (n + 1) s (omega arith) h
+store-ok area n s (mptTable ok k b) h q l = store-ok-more area n (n + 1) s (omega arith) h
+store-ok area n s (pltTable ok b) h q l =
+    record { plt = latest-ok area ok (s .plt) b (h .plt) q l; tot = h .tot; kept = h .kept; others = λ i. omega (arith, h .others i) }
+store-ok area n s (totTable ok c k b) h q l =
+    record { plt = h .plt; tot = latest-ok area ok (s .tot) b (h .tot) q l; kept = h .kept; others = λ i. omega (arith, h .others i) }
+store-ok area n s cutSection h q l = store-ok-more area n (n + 1) s (omega arith) h
+store-ok area n s (aSection x) h q l =
+    record {
+      plt = h .plt;
+      tot = h .tot;
+      kept = kept-ok area x (s .kept) (h .kept) q (x .headOk) (otherVersion (find (x .key) (s .kept)) (x .version)) (x .bodyOk) l;
+      others = λ i. omega (arith, h .others i);
+    }
+store-ok area n s (otherTable id) h q l =
+    record { plt = h .plt; tot = h .tot; kept = h .kept; others = counted-one (s .others) id n (h .others) }
+
+pub stores-ok : (area : ℕ) (ts : List Table) (n : ℕ) (s : Store) → StoreOk area n s → AllRead ts → tablesNeed s ts ≤ area
+    → StoreOk area (n + length ts) (storedAll s ts)
+unfolding storedAll tablesNeed
+stores-ok area [] n s h q l = store-ok-more area n (n + 0) s (omega arith) h
+stores-ok area (t ∷ ts) n s h q l =
+    store-ok-more area (n + 1 + length ts) (n + suc (length ts)) (storedAll (stored s t) ts) (omega arith)
+    (stores-ok area ts (n + 1) (stored s t) (store-ok area n s t h (q .0) (omega arith)) (q .1) (omega arith))
+
+-- the counts of table ids alone
+pub others-counted : (ts : List Table) (n : ℕ) (s : Store) → ((i : ℕ) → getD (s .others) i 0 ≤ n) → (i : ℕ) → getD (storedAll s ts .others) i 0 ≤ n + length ts
+unfolding storedAll stored
+others-counted [] n s h i = omega (arith, h i)
+others-counted (emptyTable ∷ ts) n s h i = omega (arith, others-counted ts n (stored s emptyTable) h i)
+others-counted (mptTable ok k b ∷ ts) n s h i = omega (arith, others-counted ts n (stored s (mptTable ok k b)) h i)
+others-counted (pltTable ok b ∷ ts) n s h i = omega (arith, others-counted ts n (stored s (pltTable ok b)) h i)
+others-counted (totTable ok c k b ∷ ts) n s h i = omega (arith, others-counted ts n (stored s (totTable ok c k b)) h i)
+others-counted (cutSection ∷ ts) n s h i = omega (arith, others-counted ts n (stored s cutSection) h i)
+others-counted (aSection x ∷ ts) n s h i = omega (arith, others-counted ts n (stored s (aSection x)) h i)
+others-counted (otherTable id ∷ ts) n s h i =
+    omega (arith, others-counted ts (n + 1) (stored s (otherTable id)) (counted-one (s .others) id n h) i)
+
+-- the MPT of a control id
+mpt-ok : (area : ℕ) (m : Option Bytes) (s : Store) (t : Table) → TableOk area m → ReadOk t → tableArea s t ≤ area → TableOk area (mptAfter m t)
+unfolding mptAfter tableArea
+mpt-ok area m s emptyTable h q l = h
+mpt-ok area m s (mptTable ok k b) h q l = latest-ok area ok m b h q l
+mpt-ok area m s (pltTable ok b) h q l = h
+mpt-ok area m s (totTable ok c k b) h q l = h
+mpt-ok area m s cutSection h q l = h
+mpt-ok area m s (aSection x) h q l = h
+mpt-ok area m s (otherTable id) h q l = h
+
+pub mpts-ok : (area : ℕ) (ts : List Table) (m : Option Bytes) (s : Store) → TableOk area m → AllRead ts → tablesNeed s ts ≤ area
+    → TableOk area (mptAfterAll m ts)
+unfolding mptAfterAll tablesNeed
+mpts-ok area [] m s h q l = h
+mpts-ok area (t ∷ ts) m s h q l =
+    mpts-ok area ts (mptAfter m t) (stored s t) (mpt-ok area m s t h (q .0) (omega arith)) (q .1) (omega arith)
+
+-- ---- a control id
+
+pub record ControlOk (message table : ℕ) (c : Control) : Type 0 where
+  pub number : NumberOk (c .line .number)
+  pub joins : JoinFits message (c .line .part)
+  pub mpt : TableOk table (c .mpt)
+
+pub idle-ok : (message table : ℕ) → ControlOk message table idleControl
+unfolding idleControl idle
+idle-ok message table = record { number = tt; joins = tt; mpt = tt }
+
+join-small : (area : ℕ) → area ≤ mostMessageArea → (o : Option Join) → JoinFits area o → joinLength o < 4294967296
+join-small area w none h = omega arith
+join-small area w (some j) h = omega (arith, h .0)
+
+pub control-place : (message table id : ℕ) (c : Control) → message ≤ mostMessageArea → table ≤ mostTableArea → id < 4294967296
+    → ControlOk message table c → Fit (controlFields (controlFor id c))
+unfolding controlFor
+control-place message table id c w v i h =
+    let p = controlFor id c in (
+      i,
+      (
+        flag-small (p .seen),
+        (
+          number-small (c .line .number) (h .number),
+          (
+            flag-small (p .joining),
+            (
+              flag-small (p .«long_length»),
+              (
+                flag-small (p .aggregated),
+                (
+                  join-small message w (c .line .part) (h .joins),
+                  (flag-small (p .mpt), (table-small table v (c .mpt) (h .mpt), tt)),
+                ),
+              ),
+            ),
+          ),
+        ),
+      ),
+    )
+
+-- ---- counters and the time
+
+pub counters-place : (n : ℕ) (c : Counters) → n < 18446744073709551616 → CountersFit n n n c → Fit (countersFields (countersFor c))
+counters-place n c l h = (
+  omega (arith, h .tlvPackets),
+  (
+    omega (arith, h .ipErrors),
+    (
+      omega (arith, h .nonMmtps),
+      (
+        omega (arith, h .ntps),
+        (
+          omega (arith, h .tables),
+          (
+            omega (arith, h .crcErrors),
+            (
+              omega (arith, h .malformed),
+              (
+                omega (arith, h .versionChanges),
+                (
+                  omega (arith, h .orphans),
+                  (
+                    omega (arith, h .oversizes),
+                    (omega (arith, h .messageMalformed), (omega (arith, h .splitErrors), tt)),
+                  ),
+                ),
+              ),
+            ),
+          ),
+        ),
+      ),
+    ),
+  ),
+)
+
+time-small : (o : Option ℕ) → TimeOk o → orElse 0 o < 18446744073709551616
+unfolding orElse
+time-small none h = omega arith
+time-small (some t) h = h
+
+pub time-place : (t : Option ℕ) → TimeOk t → Fit (timeFields (timeFor t))
+unfolding timeFor
+time-place t h = (flag-small (timeFor t .seen), (time-small t h, tt))

@@ -1,0 +1,279 @@
+-- The place after a packet is the place of the model's asset after it. Assumes nothing.
+use Prim.Native.Nat.{ℕ, _+_, _-_}
+use mathlib.Core.Path.{_≡_, refl, sym, ap, _∙_, subst}
+use mathlib.Core.Bool.{Bool, true, false, not, cond, _&&_}
+use mathlib.Core.Option.{Option, none, some}
+use mathlib.Core.List.{List, [], _∷_}
+use native.Mathlib.Omega.{arith}
+use lib.Dec.{eqb}
+use lib.ListN.{length}
+use borrow.Author.Tests.{eqb-true}
+use Rattle.isdb_tlv.proofs.Guards.{either}
+use Rattle.isdb_mmt.specs.Packet.{Bytes, Piece, Media as MediaPacket, headerIn, readable}
+use Rattle.isdb_mmt.specs.Maps.{one, isSome, orElse}
+use Rattle.isdb_mmt.specs.Mpu.{follows}
+use Rattle.isdb_mmt.specs.Objects.{Mfu, Asset, didTo, did, unitsDo, gap, lostBy, mpuIn, newMpu, jumped, mpuAfter, rangeAfter, completes, malformedPayload, noted, assetAfter}
+use Rattle.isdb_mmt.specs.View.{given, headerGiven, itemGiven, mfuOf, assetOfPlace}
+use Rattle.isdb_mmt.specs.Records.{hasHeader, headerOr, hasItem, itemOr, objectFor}
+use Rattle.isdb_mmt.specs.MediaPush.{noObject, heldFor, firstIn, placeFor}
+use Rattle.isdb_mmt.specs.Place.{gapIn, lostIn, headerIf, itemIf, tidied, begun, startOf, newIn, jumpIn, seenMpu, lastMpu, firstMpu, completesIn, addsOf, summed, statsAfter, placeAfter}
+use Rattle.isdb_mmt.specs.declared.mpu.MfuHeader.{MfuHeader}
+use Rattle.isdb_mmt.specs.declared.mpu.PayloadHeader.{PayloadHeader}
+use Rattle.isdb_mmt.specs.declared.mpu.MaybeHeader.{MaybeHeader}
+use Rattle.isdb_mmt.specs.declared.mpu.MaybeHeader.the-variants.{None as noPayload, Some as payload}
+use Rattle.isdb_mmt.specs.declared.decoder.media.Object.{Object}
+use Rattle.isdb_mmt.specs.declared.decoder.media.Media.{Media}
+use Rattle.isdb_mmt.specs.declared.decoder.reassembler.Survey.{Survey}
+use Rattle.isdb_mmt.proofs.Told.{Told}
+
+-- the range ends with the last MPU number
+abbrev pub rangeFor : Option ℕ → ℕ → Option (ℕ × ℕ)
+rangeFor none f = none
+rangeFor (some n) f = some (f, n)
+
+abbrev pub Tied : Asset → Type 0
+Tied a = a .range ≡ rangeFor (a .mpu) (firstIn (a .range))
+
+-- ---- the units leave the rest of an asset
+
+abbrev withUnits : Asset → Option Mfu → ℕ → ℕ → Asset
+withUnits a h mfus dropped =
+    record {
+      number = a .number;
+      mpu = a .mpu;
+      held = h;
+      range = a .range;
+      packets = a .packets;
+      lost = a .lost;
+      scrambled = a .scrambled;
+      mfus = mfus;
+      scrambledMfus = a .scrambledMfus;
+      dropped = dropped;
+      mpus = a .mpus;
+      jumps = a .jumps;
+      malformed = a .malformed;
+    }
+
+pub units-keep : (m : MediaPacket) (us : List Piece) (a : Asset)
+    → unitsDo m a us ≡ withUnits a (unitsDo m a us .held) (unitsDo m a us .mfus) (unitsDo m a us .dropped)
+unfolding unitsDo didTo
+units-keep m [] a = refl
+units-keep m (u ∷ us) a = units-keep m us (didTo a (did m a u))
+
+-- ---- the held object
+
+module _ (p : Media) (b : Bytes) (n : ℕ) where
+  gap-is : gapIn p n ≡ gap (assetOfPlace p b .number) n
+  unfolding gapIn gap assetOfPlace
+  gap-is = either (p .seen) (λ t. rw t) (λ f. rw f)
+
+  lost-is : lostIn p n ≡ lostBy (assetOfPlace p b .number) n
+  unfolding lostIn gapIn lostBy assetOfPlace
+  lost-is =
+      either (p .seen)
+      (λ t. either (follows (p .sequence) n) (λ x. rw (t, x)) (λ x. rw (t, x)))
+      (λ f. rw f)
+
+tidy-header : (t : Bool) (h : MfuHeader) → headerIf t h ≡ headerOr (headerGiven t h)
+tidy-header true h = refl
+tidy-header false h = refl
+
+tidy-timed : (t : Bool) (h : MfuHeader) → t ≡ hasHeader (headerGiven t h)
+tidy-timed true h = refl
+tidy-timed false h = refl
+
+tidy-item : (t : Bool) (i : ℕ) → itemIf t i ≡ itemOr (itemGiven t i)
+tidy-item true i = refl
+tidy-item false i = refl
+
+tidy-has : (t : Bool) (i : ℕ) → t ≡ hasItem (itemGiven t i)
+tidy-has true i = refl
+tidy-has false i = refl
+
+pub tidied-is : (o : Object) (b : Bytes) → length b ≡ o .length → tidied o ≡ objectFor (mfuOf o b)
+unfolding tidied mfuOf
+tidied-is o b e =
+    λ i.
+    record {
+      «mpu_sequence_number» = o .«mpu_sequence_number»;
+      rap = o .rap;
+      timed = tidy-timed (o .timed) (o .header) i;
+      header = tidy-header (o .timed) (o .header) i;
+      item = tidy-has (o .item) (o .«item_id») i;
+      «item_id» = tidy-item (o .item) (o .«item_id») i;
+      length = sym e i;
+    }
+
+-- what the units start from
+module _ (p : Media) (b : Bytes) (m : MediaPacket) (long : p .held ≡ true → length b ≡ p .object .length) where
+  starts-by : (x g : Bool) (o : Mfu) → (x ≡ true → tidied (p .object) ≡ objectFor o)
+      → (cond (not x) (begun false noObject 0) (cond g (begun false noObject 1) (begun true (tidied (p .object)) 0)) .held ≡ isSome (cond g none (given x o)))
+      × ((cond (not x) (begun false noObject 0) (cond g (begun false noObject 1) (begun true (tidied (p .object)) 0)) .object ≡ heldFor (cond g none (given x o)))
+      × (cond (not x) (begun false noObject 0) (cond g (begun false noObject 1) (begun true (tidied (p .object)) 0)) .drops ≡ one (g && isSome (given x o))))
+  unfolding isSome
+  starts-by true true o e = (refl, (refl, refl))
+  starts-by true false o e = (refl, (e refl, refl))
+  starts-by false true o e = (refl, (refl, refl))
+  starts-by false false o e = (refl, (refl, refl))
+
+  abbrev asset : Asset
+  asset = assetOfPlace p b
+
+  starts : (startOf p (m .number) .held ≡ isSome (noted asset m .held))
+      × ((startOf p (m .number) .object ≡ heldFor (noted asset m .held))
+      × (startOf p (m .number) .drops ≡ one (gap (asset .number) (m .number) && isSome (asset .held))))
+  unfolding startOf noted assetOfPlace
+  starts =
+      rw (← gap-is p b (m .number))
+      (starts-by (p .held) (gapIn p (m .number)) (mfuOf (p .object) b) (λ t. tidied-is (p .object) b (long t)))
+
+  pub start-held : startOf p (m .number) .held ≡ isSome (noted asset m .held)
+  start-held = starts .0
+
+  pub start-object : startOf p (m .number) .object ≡ heldFor (noted asset m .held)
+  start-object = starts .1 .0
+
+  start-drops : startOf p (m .number) .drops + asset .dropped ≡ noted asset m .dropped
+  unfolding noted
+  start-drops = rw (starts .1 .1) (omega arith)
+
+  pub start-zero : (startOf p (m .number) .records ≡ 0) × ((startOf p (m .number) .bytes ≡ 0) × (startOf p (m .number) .longest ≡ 0))
+  unfolding startOf gapIn
+  start-zero =
+      either (p .held) (λ t. either (gapIn p (m .number)) (λ g. rw (t, g) (refl, (refl, refl))) (λ g. rw (t, g) (refl, (refl, refl))))
+      (λ f. rw f (refl, (refl, refl)))
+
+-- ---- the MPU number
+
+module _ (p : Media) (b : Bytes) where
+  new-is : (h : MaybeHeader) → newIn p h ≡ newMpu (assetOfPlace p b .mpu) (mpuIn (headerIn h))
+  unfolding newIn newMpu assetOfPlace
+  new-is noPayload = refl
+  new-is (payload h) = either (p .«mpu_seen») (λ t. rw t) (λ f. rw f)
+
+  jump-is : (h : MaybeHeader) → jumpIn p h ≡ jumped (assetOfPlace p b .mpu) (mpuIn (headerIn h))
+  unfolding jumpIn jumped assetOfPlace
+  jump-is noPayload = refl
+  jump-is (payload h) =
+      either (p .«mpu_seen»)
+      (λ t. either (eqb (h .«mpu_sequence_number») (p .mpu)) (λ x. rw (t, x)) (λ x. rw (t, x)))
+      (λ f. rw f)
+
+  seen-is : (h : MaybeHeader) → seenMpu p h ≡ isSome (mpuAfter (assetOfPlace p b .mpu) (mpuIn (headerIn h)))
+  unfolding mpuAfter isSome assetOfPlace
+  seen-is noPayload = either (p .«mpu_seen») (λ t. rw t) (λ f. rw f)
+  seen-is (payload h) = refl
+
+  last-is : (h : MaybeHeader) → lastMpu p h ≡ orElse 0 (mpuAfter (assetOfPlace p b .mpu) (mpuIn (headerIn h)))
+  unfolding mpuAfter orElse assetOfPlace
+  last-is noPayload = either (p .«mpu_seen») (λ t. rw t) (λ f. rw f)
+  last-is (payload h) = refl
+
+  abbrev rangeThen : MaybeHeader → Option (ℕ × ℕ)
+  rangeThen h = rangeAfter (newMpu (assetOfPlace p b .mpu) (mpuIn (headerIn h))) (assetOfPlace p b .range) (mpuIn (headerIn h))
+
+  first-is : (h : MaybeHeader) → firstMpu p h ≡ firstIn (rangeThen h)
+  unfolding firstMpu newMpu rangeAfter assetOfPlace
+  first-is noPayload = either (p .«mpu_seen») (λ t. rw t) (λ f. rw f)
+  first-is (payload h) =
+      either (p .«mpu_seen»)
+      (λ t. either (eqb (h .«mpu_sequence_number») (p .mpu)) (λ x. rw (t, x)) (λ x. rw (t, x)))
+      (λ f. rw f)
+
+  tied-is : (h : MaybeHeader) → rangeThen h ≡ rangeFor (mpuAfter (assetOfPlace p b .mpu) (mpuIn (headerIn h))) (firstIn (rangeThen h))
+  unfolding mpuAfter newMpu rangeAfter assetOfPlace
+  tied-is noPayload = either (p .«mpu_seen») (λ t. rw t) (λ f. rw f)
+  tied-is (payload h) =
+      either (p .«mpu_seen»)
+      (λ t.
+      either (eqb (h .«mpu_sequence_number») (p .mpu))
+      (λ x. let e : p .mpu ≡ h .«mpu_sequence_number» = sym (eqb-true (h .«mpu_sequence_number») (p .mpu) x) in
+      rw (t, x) (λ i. some (p .«first_mpu», e i)))
+      (λ x. rw (t, x)))
+      (λ f. rw f)
+
+completes-is : (h : MaybeHeader) → completesIn h ≡ completes (headerIn h)
+completes-is noPayload = refl
+completes-is (payload h) = refl
+
+dropped-of : (p : Media) (b : Bytes) → assetOfPlace p b .dropped ≡ p .stats .«mfus_dropped»
+unfolding assetOfPlace
+dropped-of p b = refl
+
+after-dropped : (a : Asset) (m : MediaPacket) → assetAfter a m .dropped ≡ unitsDo m (noted a m) (readable m) .dropped
+unfolding assetAfter
+after-dropped a m = refl
+
+-- ---- the place
+
+module _ (id : ℕ) (p : Media) (b : Bytes) (m : MediaPacket) (long : p .held ≡ true → length b ≡ p .object .length)
+    (h : MaybeHeader) (eh : m .header ≡ headerIn h) where
+  abbrev before : Asset
+  before = assetOfPlace p b
+
+  pub tied-after : Tied (assetAfter before m)
+  unfolding assetAfter noted
+  tied-after =
+      let k = units-keep m (readable m) (noted before m) in
+      subst (λ (x : Asset). Tied x) (sym k)
+      (subst
+      (λ (o : Option PayloadHeader).
+      rangeAfter (newMpu (before .mpu) (mpuIn o)) (before .range) (mpuIn o)
+      ≡ rangeFor (mpuAfter (before .mpu) (mpuIn o)) (firstIn (rangeAfter (newMpu (before .mpu) (mpuIn o)) (before .range) (mpuIn o))))
+      (sym eh) (tied-is p b h))
+
+  module _ (bad : Bool) (eb : bad ≡ malformedPayload m) (t : Survey)
+      (w : Told m (startOf p (m .number)) (noted before m) t (readable m)) where
+    mfus-after : p .stats .mfus + t .records ≡ assetAfter before m .mfus
+    unfolding assetAfter noted assetOfPlace
+    mfus-after = let z = start-zero p b m long .0 in omega (arith, w .mfus, z)
+
+    dropped-after : p .stats .«mfus_dropped» + t .drops ≡ assetAfter before m .dropped
+    dropped-after =
+        let d = start-drops p b m long in
+        let e : before .dropped ≡ p .stats .«mfus_dropped» = dropped-of p b in
+        let x : assetAfter before m .dropped ≡ unitsDo m (noted before m) (readable m) .dropped = after-dropped before m in
+        omega (arith, w .drops, d, e, x)
+
+    pub place-told : placeAfter id p (m .number) (m .scrambled) h bad t ≡ placeFor id (assetAfter before m)
+    unfolding placeAfter statsAfter summed addsOf placeFor assetAfter noted assetOfPlace isSome orElse
+    place-told =
+        let k = units-keep m (readable m) (noted before m) in
+        let e0 : seenMpu p h ≡ isSome (mpuAfter (before .mpu) (mpuIn (m .header))) =
+        seen-is p b h ∙ ap (λ (o : Option PayloadHeader). isSome (mpuAfter (before .mpu) (mpuIn o))) (sym eh) in
+        let e1 : lastMpu p h ≡ orElse 0 (mpuAfter (before .mpu) (mpuIn (m .header))) =
+        last-is p b h ∙ ap (λ (o : Option PayloadHeader). orElse 0 (mpuAfter (before .mpu) (mpuIn o))) (sym eh) in
+        let e2 : firstMpu p h ≡ firstIn (rangeAfter (newMpu (before .mpu) (mpuIn (m .header))) (before .range) (mpuIn (m .header))) =
+        first-is p b h ∙ ap (λ (o : Option PayloadHeader). firstIn (rangeAfter (newMpu (before .mpu) (mpuIn o)) (before .range) (mpuIn o))) (sym eh) in
+        let e3 : newIn p h ≡ newMpu (before .mpu) (mpuIn (m .header)) =
+        new-is p b h ∙ ap (λ (o : Option PayloadHeader). newMpu (before .mpu) (mpuIn o)) (sym eh) in
+        let e4 : jumpIn p h ≡ jumped (before .mpu) (mpuIn (m .header)) =
+        jump-is p b h ∙ ap (λ (o : Option PayloadHeader). jumped (before .mpu) (mpuIn o)) (sym eh) in
+        let e5 : completesIn h ≡ completes (m .header) = completes-is h ∙ ap completes (sym eh) in
+        let e6 = lost-is p b (m .number) in
+        let e7 = mfus-after in
+        let e8 = dropped-after in
+        subst (λ (x : Asset). placeAfter id p (m .number) (m .scrambled) h bad t ≡ placeFor id x) (sym k)
+        (λ i.
+        record {
+          «packet_id» = id;
+          seen = true;
+          sequence = m .number;
+          «mpu_seen» = e0 i;
+          mpu = e1 i;
+          «first_mpu» = e2 i;
+          held = w .held i;
+          object = w .object i;
+          stats =
+              record {
+                packets = p .stats .packets + 1;
+                «packets_lost» = p .stats .«packets_lost» + e6 i;
+                «scrambled_packets» = p .stats .«scrambled_packets» + one (m .scrambled);
+                mfus = e7 i;
+                «scrambled_mfus» = p .stats .«scrambled_mfus» + one (m .scrambled && e5 i);
+                «mfus_dropped» = e8 i;
+                mpus = p .stats .mpus + one (e3 i);
+                «mpu_sequence_jumps» = p .stats .«mpu_sequence_jumps» + one (e4 i);
+                malformed = p .stats .malformed + one (eb i);
+              };
+        })

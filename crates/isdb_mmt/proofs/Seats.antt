@@ -1,0 +1,125 @@
+-- Seats as they were found, the entries of places one by one, and those of media ids. Assumes nothing.
+use Prim.Native.Nat.{ℕ, zero, suc, _+_, _≤_, _<_}
+use mathlib.Core.Path.{_≡_, refl, sym, ap, _∙_}
+use mathlib.Core.Bool.{Bool, true, false}
+use mathlib.Core.Option.{Option, none, some}
+use mathlib.Core.List.{List, [], _∷_, map}
+use native.Mathlib.Nat.{add-zero}
+use native.Mathlib.Omega.{arith}
+use lib.Dec.{ltb}
+use lib.ListN.{length, getD, set}
+use borrow.Author.Tests.{ltb-true, ltb-false}
+use Rattle.isdb_tlv.specs.Bytes.{be}
+use Rattle.isdb_tlv.proofs.Guards.{either}
+use Rattle.isdb_mmt.specs.Objects.{Asset}
+use Rattle.isdb_mmt.specs.Lent.{placesFrom, namesFrom, foundFrom, seatAfter, seatOf, every, indexed}
+use Rattle.isdb_mmt.specs.Layout.{mediaPlaces, mediaSize}
+use Rattle.isdb_mmt.specs.Session.{Session, limitsOf, usedOf, mediaPlaceOf}
+use Rattle.isdb_mmt.specs.Check.{mediaIn}
+use Rattle.isdb_mmt.specs.View.{assetEntry}
+use Rattle.isdb_mmt.specs.declared.decoder.place.Found.{Found}
+use Rattle.isdb_mmt.specs.declared.decoder.place.Found.the-variants.{At, Nothing}
+use Rattle.isdb_mmt.specs.declared.decoder.place.Seat.the-variants.{Old, New, Full}
+use Rattle.isdb_mmt.specs.declared.decoder.media.Media.{Media}
+use Rattle.isdb_mmt.proofs.Lent.{names-of, length-places}
+use Rattle.isdb_mmt.proofs.Names.{clash}
+use Rattle.isdb_mmt.proofs.Sessions.{named}
+use Rattle.isdb_mmt.proofs.Views.{keys, keys-indexed, indexed-same}
+
+-- ---- seats, back
+
+pub seat-was-old : (names : List ℕ) (limit x i : ℕ) → seatOf names limit x ≡ Old i → foundFrom 0 names x ≡ At i
+unfolding seatOf
+seat-was-old names limit x i e = go (foundFrom 0 names x) e
+  where
+    go : (f : Found) → seatAfter (length names) limit f ≡ Old i → f ≡ At i
+    go (At j) d = cc
+    go Nothing d =
+        either (ltb (length names) limit) (λ t. let z : _≡_ {A = ℕ} 0 1 = cc (rw t at d) in absurd (omega arith))
+        (λ t. let z : _≡_ {A = ℕ} 0 1 = cc (rw t at d) in absurd (omega arith))
+
+pub seat-was-new : (names : List ℕ) (limit x i : ℕ) → seatOf names limit x ≡ New i → (foundFrom 0 names x ≡ Nothing) × ((i ≡ length names) × (i < limit))
+unfolding seatOf
+seat-was-new names limit x i e = go (foundFrom 0 names x) e
+  where
+    go : (f : Found) → seatAfter (length names) limit f ≡ New i → (f ≡ Nothing) × ((i ≡ length names) × (i < limit))
+    go (At j) d = let z : _≡_ {A = ℕ} 0 1 = cc in absurd (omega arith)
+    go Nothing d =
+        either (ltb (length names) limit)
+        (λ t. let q : i ≡ length names = cc (rw t at d) in (refl, (q, omega (arith, ltb-true (length names) limit t))))
+        (λ t. let z : _≡_ {A = ℕ} 0 1 = cc (rw t at d) in absurd (omega arith))
+
+pub seat-was-full : (names : List ℕ) (limit x : ℕ) → seatOf names limit x ≡ Full → (foundFrom 0 names x ≡ Nothing) × (limit ≤ length names)
+unfolding seatOf
+seat-was-full names limit x e = go (foundFrom 0 names x) e
+  where
+    go : (f : Found) → seatAfter (length names) limit f ≡ Full → (f ≡ Nothing) × (limit ≤ length names)
+    go (At j) d = let z : _≡_ {A = ℕ} 0 1 = cc in absurd (omega arith)
+    go Nothing d =
+        either (ltb (length names) limit)
+        (λ t. let z : _≡_ {A = ℕ} 0 1 = cc (rw t at d) in absurd (omega arith))
+        (λ t. (refl, ltb-false (length names) limit t))
+
+-- ---- the entries of places
+
+pub length-map : {A B : Type 0} (f : A → B) (xs : List A) → length (map f xs) ≡ length xs
+length-map f [] = refl
+length-map f (x ∷ xs) = ap suc (length-map f xs)
+
+pub length-media : (l : List ℕ) → length (mediaIn l) ≡ usedOf l .«media_ids»
+unfolding mediaIn
+length-media l = length-map mediaPlaceOf (placesFrom (usedOf l .«media_ids») mediaSize mediaPlaces l) ∙ length-places mediaSize (usedOf l .«media_ids») mediaPlaces l
+
+pub length-indexed : {A B : Type 0} (g : ℕ → A → B) (k : ℕ) (xs : List A) → length (indexed g k xs) ≡ length xs
+unfolding indexed
+length-indexed g k [] = refl
+length-indexed g k (x ∷ xs) = ap suc (length-indexed g (k + 1) xs)
+
+place-names : (ps : List (List ℕ)) → map (λ (m : Media). m .«packet_id») (map mediaPlaceOf ps) ≡ map (λ p. be 4 p 0) ps
+unfolding mediaPlaceOf
+place-names [] = refl
+place-names (p ∷ ps) = ap (λ (r : List ℕ). be 4 p 0 ∷ r) (place-names ps)
+
+abbrev pub entries : Session → List (ℕ × Asset)
+entries s = indexed (assetEntry (limitsOf (s .state)) s) 0 (mediaIn (s .state))
+
+pub entry-names : (s : Session) → keys (entries s) ≡ namesFrom (usedOf (s .state) .«media_ids») mediaSize mediaPlaces (s .state)
+entry-names s =
+    keys-indexed (assetEntry (limitsOf (s .state)) s) (λ (m : Media). m .«packet_id») (λ i x. refl) (mediaIn (s .state)) 0
+    ∙ ap (map (λ (m : Media). m .«packet_id»)) (sym (named .media (s .state)))
+    ∙ place-names (placesFrom (usedOf (s .state) .«media_ids») mediaSize mediaPlaces (s .state))
+    ∙ names-of mediaSize (omega arith) (usedOf (s .state) .«media_ids») mediaPlaces (s .state)
+
+pub every-at : {A : Type 0} (f : A → Bool) (d : A) (xs : List A) (j : ℕ) → every f xs ≡ true → j < length xs → f (getD xs j d) ≡ true
+unfolding every
+every-at f d [] j e h = absurd (omega arith)
+every-at f d (x ∷ xs) zero e h = either (f x) (λ t. t) (λ t. clash false (rw t at e) refl)
+every-at f d (x ∷ xs) (suc j) e h =
+    either (f x) (λ t. every-at f d xs j (rw t at e) (omega arith)) (λ t. clash false (rw t at e) refl)
+
+pub getD-indexed : {A B : Type 0} (g : ℕ → A → B) (xs : List A) (k i : ℕ) (d : A) (e : B) → i < length xs → getD (indexed g k xs) i e ≡ g (k + i) (getD xs i d)
+unfolding indexed
+getD-indexed g [] k i d e h = absurd (omega arith)
+getD-indexed g (x ∷ xs) k zero d e h = rw (add-zero k)
+getD-indexed g (x ∷ xs) k (suc i) d e h =
+    let z : k + 1 + i ≡ k + suc i = omega arith in
+    rw z at (getD-indexed g xs (k + 1) i d e (omega arith))
+
+pub set-indexed : {A B : Type 0} (g h : ℕ → A → B) (d : A) (xs : List A) (k i : ℕ) (v : B)
+    → ((j : ℕ) → j < length xs → (j ≡ i → ⊥) → g (k + j) (getD xs j d) ≡ h (k + j) (getD xs j d))
+    → set (indexed g k xs) i v ≡ set (indexed h k xs) i v
+unfolding indexed
+set-indexed g h d [] k i v f = refl
+set-indexed {A} {B} g h d (x ∷ xs) k zero v f =
+    ap (λ (r : List B). v ∷ r)
+    (indexed-same g h d xs (k + 1)
+    (λ j b. let e : k + suc j ≡ k + 1 + j = omega arith in rw e at (f (suc j) (omega arith) (λ z. omega arith))))
+set-indexed g h d (x ∷ xs) k (suc i) v f =
+    let e0 : g k x ≡ h k x = rw (add-zero k) at (f 0 (omega arith) (λ z. omega arith)) in
+    let e1 : set (indexed g (k + 1) xs) i v ≡ set (indexed h (k + 1) xs) i v =
+    set-indexed g h d xs (k + 1) i v
+    (λ j b n. let e : k + suc j ≡ k + 1 + j = omega arith in rw e at (f (suc j) (omega arith) (λ z. n (omega arith)))) in
+    cc
+
+pub none-some : {A : Type 0} (h : A) → none ≡ some h → ⊥
+none-some h e = let z : _≡_ {A = ℕ} 0 1 = cc in omega arith

@@ -1,0 +1,277 @@
+-- A session whose view is ready, and whose stored lengths are those of the bytes that stand there, passes question 5. Assumes
+-- nothing.
+use Prim.Native.Nat.{ℕ, zero, suc, _+_, _-_, _*_, _≤_, _<_}
+use mathlib.Core.Path.{_≡_, refl, ap, _∙_}
+use mathlib.Core.Bool.{Bool, true, false}
+use mathlib.Core.List.{List, [], _∷_, _++_, map}
+use native.Mathlib.Omega.{arith}
+use lib.ListN.{length, getD, set, drop, length-take, length-drop}
+use native.Mathlib.Nat.{add-zero, mul-le-mul-right}
+use borrow.Author.Tests.{le-leb, leb-true}
+use Rattle.isdb_tlv.specs.Bytes.{be}
+use Rattle.isdb_mmt.specs.Packet.{Bytes}
+use Rattle.isdb_mmt.specs.Objects.{Mfu}
+use Rattle.isdb_mmt.specs.Joins.{Join}
+use Rattle.isdb_mmt.specs.Needs.{heldLength}
+use Rattle.isdb_mmt.specs.Lent.{part, placesFrom, namesFrom, every, indexed}
+use Rattle.isdb_mmt.specs.Limits.{asked}
+use Rattle.isdb_mmt.specs.Layout.{mostCount, mediaPlaces, mediaSize, controlPlaces, controlSize, sectionPlaces, sectionSize}
+use Rattle.isdb_mmt.specs.Session.{Session, limitsOf, usedOf, latestOf, countersOf, mediaPlaceOf, controlPlaceOf, sectionPlaceOf}
+use Rattle.isdb_mmt.specs.Check.{countFits, lengthFits, mediaSound, controlSound, sectionSound, mediaIn, controlsIn, sectionsIn, sound, lengthsOf}
+use Rattle.isdb_mmt.specs.View.{given, mfuOf, assetOfPlace, controlStateOf, assetEntry, controlEntry, sectionEntry, viewBy, view}
+use Rattle.isdb_mmt.specs.declared.decoder.limits.Limits.{Limits}
+use Rattle.isdb_mmt.specs.declared.decoder.media.Media.{Media}
+use Rattle.isdb_mmt.specs.declared.decoder.control.Control.{Control}
+use Rattle.isdb_mmt.specs.declared.decoder.section.KeptSection.{KeptSection}
+use Rattle.isdb_mmt.proofs.Names.{clash}
+use Rattle.isdb_mmt.proofs.Lent.{names-of, length-places}
+use Rattle.isdb_mmt.proofs.Views.{keys, keys-indexed}
+use Rattle.isdb_mmt.proofs.Limits.{passed}
+use Rattle.isdb_mmt.proofs.Checks.{media-is, control-is, is-sound, sound-session}
+use Rattle.isdb_mmt.proofs.Guards.{was-both}
+use Rattle.isdb_mmt.proofs.Every.{Every}
+use Rattle.isdb_mmt.proofs.Fits.{AssetFits}
+use Rattle.isdb_mmt.proofs.Stores.{Whole, KeptFits}
+use Rattle.isdb_mmt.proofs.Ready.{JoinFits, ControlFits, Ready}
+
+-- of each place with its index
+module _ {A : Type 0} (E : ℕ → A → Type 0) where
+  abbrev pub Placed : ℕ → List A → Type 0
+  Placed i [] = Unit {0}
+  Placed i (x ∷ xs) = E i x × Placed (i + 1) xs
+
+-- what is there stands within its buffer: facts of stored lengths and of the buffers' lengths alone
+abbrev pub mediaThere : Limits → Session → ℕ → Media → Type 0
+mediaThere l s i m = m .held ≡ true → i * l .«mfu_area» + m .object .length ≤ length (s .objects)
+
+abbrev pub controlThere : Limits → Session → ℕ → Control → Type 0
+controlThere l s i c =
+    (c .joining ≡ true → i * l .«message_area» + c .length ≤ length (s .messages))
+    × (c .mpt ≡ true → (l .sections + i) * l .«table_area» + c .«mpt_length» ≤ length (s .tables))
+
+abbrev pub sectionThere : Limits → Session → ℕ → KeptSection → Type 0
+sectionThere l s i x = i * l .«table_area» + x .length ≤ length (s .tables)
+
+pub record Exact (l : Limits) (s : Session) : Type 0 where
+  pub media : Placed (mediaThere l s) 0 (mediaIn (s .state))
+  pub controls : Placed (controlThere l s) 0 (controlsIn (s .state))
+  pub sections : Placed (sectionThere l s) 0 (sectionsIn (s .state))
+  pub plt : latestOf (s .state) .plt ≡ true
+      → (l .sections + l .«control_ids») * l .«table_area» + latestOf (s .state) .«plt_length» ≤ length (s .tables)
+  pub tot : latestOf (s .state) .tot ≡ true
+      → (l .sections + l .«control_ids» + 1) * l .«table_area» + latestOf (s .state) .«tot_length» ≤ length (s .tables)
+
+-- what stands within a buffer has its length
+part-length : (at n : ℕ) (b : Bytes) → at + n ≤ length b → length (part at n b) ≡ n
+part-length at n b h = omega (arith, length-take n (drop at b), length-drop at b)
+
+-- one place stored anew, and one place more
+module _ {A : Type 0} (E : ℕ → A → Type 0) where
+  pub placed-set : (xs : List A) (k i : ℕ) (a : A) → E (k + i) a → Placed E k xs → Placed E k (set xs i a)
+  placed-set [] k i a e h = h
+  placed-set (x ∷ xs) k zero a e h = (rw add-zero at e, h .1)
+  placed-set (x ∷ xs) k (suc i) a e h =
+      let q : k + suc i ≡ k + 1 + i = omega arith in (h .0, placed-set xs (k + 1) i a (rw q at e) (h .1))
+
+  pub placed-snoc : (xs : List A) (k : ℕ) (a : A) → E (k + length xs) a → Placed E k xs → Placed E k (xs ++ (a ∷ []))
+  placed-snoc [] k a e h = (rw add-zero at e, tt)
+  placed-snoc (x ∷ xs) k a e h =
+      let q : k + suc (length xs) ≡ k + 1 + length xs = omega arith in (h .0, placed-snoc xs (k + 1) a (rw q at e) (h .1))
+
+-- ---- lists of places
+
+every-is : {A B : Type 0} (g : ℕ → A → ℕ × B) (f : A → Bool) (P : ℕ → B → Type 0) (E : ℕ → A → Type 0)
+    → ((i : ℕ) (x : A) → P (g i x .0) (g i x .1) → E i x → f x ≡ true)
+    → (xs : List A) (i : ℕ) → Every P (indexed g i xs) → Placed E i xs → every f xs ≡ true
+unfolding indexed every
+every-is g f P E h [] i a b = refl
+every-is g f P E h (x ∷ xs) i a b = rw (h i x (a .0) (b .0), every-is g f P E h xs (i + 1) (a .1) (b .1))
+
+length-indexed : {A B : Type 0} (g : ℕ → A → B) (xs : List A) (i : ℕ) → length (indexed g i xs) ≡ length xs
+unfolding indexed
+length-indexed g [] i = refl
+length-indexed g (x ∷ xs) i = ap suc (length-indexed g xs (i + 1))
+
+length-mapped : {A B : Type 0} (f : A → B) (xs : List A) → length (map f xs) ≡ length xs
+length-mapped f [] = refl
+length-mapped f (x ∷ xs) = ap suc (length-mapped f xs)
+
+module _ {A B : Type 0} (of : Bytes → A) (name : A → ℕ) (g : ℕ → A → ℕ × B) (size at n : ℕ) (l : Bytes) where
+  pub length-view : length (indexed g 0 (map of (placesFrom n size at l))) ≡ n
+  length-view = length-indexed g (map of (placesFrom n size at l)) 0 ∙ length-mapped of (placesFrom n size at l) ∙ length-places size n at l
+
+  map-names : ((p : Bytes) → name (of p) ≡ be 4 p 0) → (ps : List Bytes) → map name (map of ps) ≡ map (λ p. be 4 p 0) ps
+  map-names f [] = refl
+  map-names f (p ∷ ps) = rw (f p, map-names f ps)
+
+  names-view : 4 ≤ size → ((i : ℕ) (x : A) → g i x .0 ≡ name x) → ((p : Bytes) → name (of p) ≡ be 4 p 0)
+      → keys (indexed g 0 (map of (placesFrom n size at l))) ≡ namesFrom n size at l
+  names-view h f e =
+      keys-indexed g name f (map of (placesFrom n size at l)) 0 ∙ map-names e (placesFrom n size at l) ∙ names-of size h n at l
+
+-- ---- one place
+
+held-length : (b : Bool) (u : Mfu) (area : ℕ) → heldLength (given b u) ≤ area → b ≡ true → length (u .bytes) ≤ area
+held-length true u area h e = h
+held-length false u area h e = clash false e refl
+
+join-length : (b : Bool) (j : Join) (area : ℕ) → JoinFits area (given b j) → b ≡ true → length (j .bytes) ≤ area
+join-length true j area h e = h .0
+join-length false j area h e = clash false e refl
+
+whole-length : (f : Bytes → Bool) (area : ℕ) (b : Bool) (x : Bytes) → Whole f area (given b x) → b ≡ true → length x ≤ area
+whole-length f area true x h e = h .0
+whole-length f area false x h e = clash false e refl
+
+module _ (l : Limits) (s : Session) (n : ℕ) (big : n ≤ mostCount) where
+  media-sound : (i : ℕ) (m : Media) → AssetFits (l .«mfu_area») n (assetEntry l s i m .1) → mediaThere l s i m → mediaSound l m ≡ true
+  unfolding assetOfPlace every mfuOf
+  media-sound i m h e =
+      media-is l m
+      (λ t.
+      let k = held-length (m .held) (mfuOf (m .object) (part (i * l .«mfu_area») (m .object .length) (s .objects))) (l .«mfu_area») (h .held) t in
+      omega (arith, part-length (i * l .«mfu_area») (m .object .length) (s .objects) (e t)))
+      (simp (
+        le-leb (m .stats .packets) mostCount (omega (arith, h .packets)),
+        le-leb (m .stats .«packets_lost») mostCount (omega (arith, h .lost)),
+        le-leb (m .stats .«scrambled_packets») mostCount (omega (arith, h .scrambled)),
+        le-leb (m .stats .mfus) mostCount (omega (arith, h .mfus)),
+        le-leb (m .stats .«scrambled_mfus») mostCount (omega (arith, h .scrambledMfus)),
+        le-leb (m .stats .«mfus_dropped») mostCount (omega (arith, h .dropped)),
+        le-leb (m .stats .mpus) mostCount (omega (arith, h .mpus)),
+        le-leb (m .stats .«mpu_sequence_jumps») mostCount (omega (arith, h .jumps)),
+        le-leb (m .stats .malformed) mostCount (omega (arith, h .malformed)),
+      ))
+
+  control-sound : (i : ℕ) (c : Control) → ControlFits l (controlEntry l s i c .1) → controlThere l s i c → controlSound l c ≡ true
+  unfolding controlStateOf
+  control-sound i c h e =
+      control-is l c
+      (λ t. let k = join-length (c .joining) _ (l .«message_area») (h .joins) t in omega (arith, part-length (i * l .«message_area») (c .length) (s .messages) (e .0 t)))
+      (λ t. let k = whole-length _ (l .«table_area») (c .mpt) _ (h .mpt) t in omega (arith, part-length ((l .sections + i) * l .«table_area») (c .«mpt_length») (s .tables) (e .1 t)))
+
+  section-sound : (i : ℕ) (x : KeptSection) → KeptFits (l .«table_area») (x .key) (sectionEntry l s i x .1) → sectionThere l s i x → sectionSound l x ≡ true
+  section-sound i x h e =
+      le-leb (x .length) (l .«table_area») (omega (arith, h .fits, part-length (i * l .«table_area») (x .length) (s .tables) e))
+
+counts-fit : (n : ℕ) → n ≤ mostCount → (xs : List ℕ) → ((i : ℕ) → getD xs i 0 ≤ n) → every countFits xs ≡ true
+unfolding every
+counts-fit n big [] h = refl
+counts-fit n big (x ∷ xs) h = rw (le-leb x mostCount (omega (arith, h 0)), counts-fit n big xs (λ i. h (suc i)))
+
+four : (a b c d : ℕ) → a ≤ mostCount → b ≤ mostCount → c ≤ mostCount → d ≤ mostCount
+    → every countFits (a ∷ b ∷ c ∷ d ∷ []) ≡ true
+unfolding every
+four a b c d p q r s = simp (le-leb a _ p, le-leb b _ q, le-leb c _ r, le-leb d _ s)
+
+eight : (a b c d e f g h : ℕ) → a ≤ mostCount → b ≤ mostCount → c ≤ mostCount → d ≤ mostCount
+    → e ≤ mostCount → f ≤ mostCount → g ≤ mostCount → h ≤ mostCount
+    → every countFits (a ∷ b ∷ c ∷ d ∷ e ∷ f ∷ g ∷ h ∷ []) ≡ true
+unfolding every
+eight a b c d e f g h p q r s t u v w =
+    simp (le-leb a _ p, le-leb b _ q, le-leb c _ r, le-leb d _ s, le-leb e _ t, le-leb f _ u, le-leb g _ v, le-leb h _ w)
+
+media-name : (p : Bytes) → mediaPlaceOf p .«packet_id» ≡ be 4 p 0
+unfolding mediaPlaceOf
+media-name p = refl
+
+control-name : (p : Bytes) → controlPlaceOf p .«packet_id» ≡ be 4 p 0
+unfolding controlPlaceOf
+control-name p = refl
+
+section-name : (p : Bytes) → sectionPlaceOf p .key ≡ be 4 p 0
+unfolding sectionPlaceOf
+section-name p = refl
+
+-- ---- the session
+
+pub is-ready : (s : Session) (n : ℕ) → asked (limitsOf (s .state)) (lengthsOf s) ≡ 0 → Exact (limitsOf (s .state)) s
+    → Ready (limitsOf (s .state)) n (view s) → sound s ≡ true
+unfolding sound view viewBy mediaIn controlsIn sectionsIn
+is-ready s n a e h =
+    let l = limitsOf (s .state) in
+    let u = usedOf (s .state) in
+    let p = passed l (lengthsOf s) a in
+    let big : n ≤ mostCount = omega (arith, h .counts, h .packets, p .packets) in
+    let c = h .counters in
+    let x = countersOf (s .state) in
+    let m1 = length-view mediaPlaceOf (λ m. m .«packet_id») (assetEntry l s) mediaSize mediaPlaces (u .«media_ids») (s .state) in
+    let m2 = length-view controlPlaceOf (λ m. m .«packet_id») (controlEntry l s) controlSize controlPlaces (u .«control_ids») (s .state) in
+    let m3 = length-view sectionPlaceOf (λ m. m .key) (sectionEntry l s) sectionSize sectionPlaces (u .sections) (s .state) in
+    is-sound (s .state) (s .others) (lengthsOf s)
+    (record {
+      limits = a;
+      there =
+          record {
+            long = p .state;
+            media = omega (arith, m1, h .media, p .ranges);
+            controls = omega (arith, m2, h .lines, p .ranges);
+            sections = omega (arith, m3, h .sections, p .ranges);
+          };
+      media = omega (arith, m1, h .media);
+      controls = omega (arith, m2, h .lines);
+      sections = omega (arith, m3, h .sections);
+      plt = λ t. let k = whole-length _ (l .«table_area») (latestOf (s .state) .plt) _ (h .store .plt) t in
+          omega (arith, part-length ((l .sections + l .«control_ids») * l .«table_area») (latestOf (s .state) .«plt_length») (s .tables) (e .plt t));
+      tot = λ t. let k = whole-length _ (l .«table_area») (latestOf (s .state) .tot) _ (h .store .tot) t in
+          omega (arith, part-length ((l .sections + l .«control_ids» + 1) * l .«table_area») (latestOf (s .state) .«tot_length») (s .tables) (e .tot t));
+      packets = four (x .«tlv_packets») (x .«ip_errors») (x .«non_mmtp») (x .ntp) (omega (arith, c .tlvPackets)) (omega (arith, c .ipErrors)) (omega (arith, c .nonMmtps)) (omega (arith, c .ntps));
+      tables =
+          eight (x .tables) (x .«crc_errors») (x .malformed) (x .«version_changes») (x .«orphan_fragments») (x .oversize) (x .«message_malformed») (x .«split_errors»)
+          (omega (arith, c .tables)) (omega (arith, c .crcErrors)) (omega (arith, c .malformed)) (omega (arith, c .versionChanges))
+          (omega (arith, c .orphans)) (omega (arith, c .oversizes)) (omega (arith, c .messageMalformed)) (omega (arith, c .splitErrors));
+      counts = counts-fit n big (s .others) (h .store .others);
+      objects = every-is (assetEntry l s) (mediaSound l) _ (mediaThere l s) (λ i m f t. media-sound l s n big i m f t) (mediaIn (s .state)) 0 (h .assets) (e .media);
+      messages = every-is (controlEntry l s) (controlSound l) _ (controlThere l s) (λ i m f t. control-sound l s n big i m f t) (controlsIn (s .state)) 0 (h .controls) (e .controls);
+      kept = every-is (sectionEntry l s) (sectionSound l) _ (sectionThere l s) (λ i m f t. section-sound l s n big i m f t) (sectionsIn (s .state)) 0 (h .store .kept) (e .sections);
+      mediaNames = rw (names-view mediaPlaceOf (λ m. m .«packet_id») (assetEntry l s) mediaSize mediaPlaces (u .«media_ids») (s .state) (omega arith) (λ i m. refl) (media-name)) at (h .mediaNames);
+      controlNames = rw (names-view controlPlaceOf (λ m. m .«packet_id») (controlEntry l s) controlSize controlPlaces (u .«control_ids») (s .state) (omega arith) (λ i m. refl) (control-name)) at (h .controlNames);
+      keys = rw (names-view sectionPlaceOf (λ m. m .key) (sectionEntry l s) sectionSize sectionPlaces (u .sections) (s .state) (omega arith) (λ i m. refl) (section-name)) at (h .store .names);
+    })
+
+-- ---- a session that passes question 5 has what it says: nothing is to be shown of places that a push leaves
+
+row-in : (i k n area m : ℕ) → n ≤ area → i < k → k * area ≤ m → i * area + n ≤ m
+row-in i k n area m h b w = let q : (i + 1) * area ≤ k * area = mul-le-mul-right area (omega arith) in omega arith
+
+fits-was : (b : Bool) (n area : ℕ) → lengthFits b n area ≡ true → b ≡ true → n ≤ area
+fits-was true n area e t = leb-true n area e
+fits-was false n area e t = clash false t refl
+
+placed-all : {A : Type 0} (f : A → Bool) (E : ℕ → A → Type 0) (most : ℕ) → ((i : ℕ) (x : A) → i < most → f x ≡ true → E i x)
+    → (xs : List A) (k : ℕ) → k + length xs ≤ most → every f xs ≡ true → Placed E k xs
+unfolding every
+placed-all f E most h [] k b e = tt
+placed-all f E most h (x ∷ xs) k b e =
+    let q = was-both (f x) (every f xs) e in
+    (h k x (omega arith) (q .0), placed-all f E most h xs (k + 1) (omega arith) (q .1))
+
+pub exact-was : (s : Session) → sound s ≡ true → Exact (limitsOf (s .state)) s
+unfolding mediaSound controlSound mediaIn controlsIn sectionsIn
+exact-was s e =
+    let l = limitsOf (s .state) in
+    let u = usedOf (s .state) in
+    let q = sound-session s e in
+    let p = passed l (lengthsOf s) (q .limits) in
+    let m1 = length-mapped mediaPlaceOf (placesFrom (u .«media_ids») mediaSize mediaPlaces (s .state)) ∙ length-places mediaSize (u .«media_ids») mediaPlaces (s .state) in
+    let m2 = length-mapped controlPlaceOf (placesFrom (u .«control_ids») controlSize controlPlaces (s .state)) ∙ length-places controlSize (u .«control_ids») controlPlaces (s .state) in
+    let m3 = length-mapped sectionPlaceOf (placesFrom (u .sections) sectionSize sectionPlaces (s .state)) ∙ length-places sectionSize (u .sections) sectionPlaces (s .state) in
+    record {
+      media =
+          placed-all (mediaSound l) (mediaThere l s) (l .«media_ids»)
+          (λ i m b f t. row-in i (l .«media_ids») (m .object .length) (l .«mfu_area») (length (s .objects)) (fits-was (m .held) _ _ (was-both _ _ f .0) t) b (p .objects))
+          (mediaIn (s .state)) 0 (omega (arith, m1, q .media)) (q .objects);
+      controls =
+          placed-all (controlSound l) (controlThere l s) (l .«control_ids»)
+          (λ i c b f. (
+            (λ t. row-in i (l .«control_ids») (c .length) (l .«message_area») (length (s .messages)) (fits-was (c .joining) _ _ (was-both _ _ f .0) t) b (p .messages)),
+            (λ t. row-in (l .sections + i) (l .sections + l .«control_ids» + 2) (c .«mpt_length») (l .«table_area») (length (s .tables)) (fits-was (c .mpt) _ _ (was-both (lengthFits (c .joining) (c .length) (l .«message_area»)) _ f .1) t) (omega arith) (p .tables)),
+          ))
+          (controlsIn (s .state)) 0 (omega (arith, m2, q .controls)) (q .messages);
+      sections =
+          placed-all (sectionSound l) (sectionThere l s) (l .sections)
+          (λ i x b f. row-in i (l .sections + l .«control_ids» + 2) (x .length) (l .«table_area») (length (s .tables)) (leb-true _ _ f) (omega arith) (p .tables))
+          (sectionsIn (s .state)) 0 (omega (arith, m3, q .sections)) (q .kept);
+      plt = λ t. row-in (l .sections + l .«control_ids») (l .sections + l .«control_ids» + 2) _ (l .«table_area») (length (s .tables)) (q .plt t) (omega arith) (p .tables);
+      tot = λ t. row-in (l .sections + l .«control_ids» + 1) (l .sections + l .«control_ids» + 2) _ (l .«table_area») (length (s .tables)) (q .tot t) (omega arith) (p .tables);
+    }

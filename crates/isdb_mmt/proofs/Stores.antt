@@ -1,0 +1,299 @@
+-- What tables do to what is kept and counted: lengths within the table area, counts by the number of tables and of their descriptor
+-- loops, and what is kept parses. Assumes nothing.
+use Prim.Native.Nat.{ℕ, suc, _+_, _-_, _/_, _^_, _≤_}
+use mathlib.Core.Path.{_≡_, refl}
+use mathlib.Core.Bool.{Bool, true, false, not, cond, _&&_}
+use mathlib.Core.Option.{Option, none, some}
+use mathlib.Core.List.{List, [], _∷_, map}
+use native.Mathlib.Omega.{arith}
+use lib.ListN.{length, getD, set}
+use lib.Seq.{getD-set-same, getD-set-other, set-out}
+use lib.Dec.{eqb, leb, ltb}
+use borrow.Author.Tests.{eqb-true, eqb-false, ltb-true, ltb-false}
+use Rattle.isdb_tlv.specs.Bytes.{be}
+use Rattle.isdb_tlv.proofs.Guards.{cond-elim, either}
+use Rattle.isdb_mmt.specs.Packet.{Bytes}
+use Rattle.isdb_mmt.specs.Maps.{find, isSome}
+use Rattle.isdb_mmt.specs.Mpt.{mptOf}
+use Rattle.isdb_mmt.specs.Plt.{pltOf}
+use Rattle.isdb_mmt.specs.Tot.{totOf}
+use Rattle.isdb_mmt.specs.Lent.{distinct}
+use Rattle.isdb_mmt.specs.Octets.{Octets}
+use Rattle.isdb_mmt.specs.Kept.{Section, keyOf, sectionOf, parsesAs, Kept, otherVersion, keepIf, keep, Counters, Adds, adds, tabled, sectionAdds, Store, Table, emptyTable, mptTable, pltTable, totTable, cutSection, aSection, otherTable, mptParses, pltParses, totParses, longTable, tableById, tableRead, changes, tableAdds, latest, mptAfter, mptAfterAll, stored, storedAll, countedAll}
+use Rattle.isdb_mmt.specs.Needs.{tableArea, tablesNeed}
+use Rattle.isdb_mmt.specs.GivenTables.{controlTables}
+use Rattle.isdb_mmt.proofs.Views.{keys}
+use Rattle.isdb_mmt.proofs.Declared.{same-section, same-body, same-tot, same-mpt, same-plt}
+use Rattle.isdb_mmt.proofs.Every.{Every, every-put, distinct-put}
+use Rattle.isdb_mmt.proofs.Fits.{one-le}
+use Rattle.isdb_mmt.proofs.Amounts.{breaksOf, section-breaks, table-breaks, total}
+use Rattle.isdb_mmt.proofs.Brief.{AllOctets}
+
+-- ---- a table whose declared bytes parse where it did
+
+abbrev pub Sane : Table → Type 0
+Sane emptyTable = Unit {0}
+Sane (mptTable ok n b) = ok ≡ true → mptParses (mptOf b .mpt) ≡ true
+Sane (pltTable ok b) = ok ≡ true → pltParses (pltOf b) ≡ true
+Sane (totTable ok c n b) = ok ≡ true → totParses (totOf b .result) ≡ true
+Sane cutSection = Unit {0}
+Sane (aSection x) = x .headOk ≡ true → x .bodyOk ≡ true → parsesAs (x .key / 2 ^ 24) (x .bytes) ≡ true
+Sane (otherTable id) = Unit {0}
+
+abbrev pub AllSane : List Table → Type 0
+AllSane [] = Unit {0}
+AllSane (t ∷ ts) = Sane t × AllSane ts
+
+-- the id is the high byte of the key
+key-id : (b : Bytes) → Octets b → keyOf b / 2 ^ 24 ≡ getD b 0 0
+unfolding be
+key-id b o = omega (arith, o 3, o 4, o 6)
+
+pub section-sane : (b : Bytes) → Octets b → Sane (aSection (sectionOf b))
+unfolding sectionOf parsesAs
+section-sane b o h k = rw (key-id b o, same-section b, same-body b (getD b 0 0), h, k)
+
+pub table-sane : (b : Bytes) → Octets b → Sane (tableRead b)
+unfolding tableRead tableById
+table-sane b o =
+    let id = getD b 0 0 in
+    let long : Sane (longTable b) = cond-elim Sane (ltb (length b) 7) (λ e. tt) (λ e. section-sane b o) in
+    cond-elim Sane (eqb (length b) 0) (λ e. tt) (λ e.
+    cond-elim Sane (ltb id 0x11) (λ e. tt) (λ e.
+    cond-elim Sane (leb id 0x20) (λ e h. rw (same-mpt b) h) (λ e.
+    cond-elim Sane (eqb id 0x80) (λ e h. rw (same-plt b) h) (λ e.
+    cond-elim Sane (eqb id 0xA1) (λ e h. rw (same-tot b) h) (λ e.
+    cond-elim Sane (ltb id 0x8B) (λ e. tt) (λ e.
+    cond-elim Sane (leb id 0x9B) (λ e. long) (λ e.
+    cond-elim Sane (eqb id 0x9D) (λ e. long) (λ e.
+    cond-elim Sane (eqb id 0x9F) (λ e. long) (λ e.
+    cond-elim Sane (eqb id 0xA0) (λ e. long) (λ e. tt))))))))))
+
+pub tables-sane : (bs : List Bytes) → AllOctets bs → AllSane (map tableRead bs)
+tables-sane [] o = tt
+tables-sane (b ∷ bs) o = (table-sane b (o .0), tables-sane bs (o .1))
+
+pub control-sane : (bs : List Bytes) → AllOctets bs → AllSane (controlTables bs)
+control-sane [] o = tt
+control-sane (b ∷ bs) o = (section-sane b (o .0), control-sane bs (o .1))
+
+-- how many loops break in tables
+abbrev pub breaksIn : List Table → ℕ
+breaksIn [] = 0
+breaksIn (t ∷ ts) = breaksOf t + breaksIn ts
+
+pub breaks-read : (bs : List Bytes) → breaksIn (map tableRead bs) ≤ total bs
+breaks-read [] = omega arith
+breaks-read (b ∷ bs) = omega (arith, breaks-read bs, table-breaks b)
+
+pub breaks-control : (bs : List Bytes) → breaksIn (controlTables bs) ≤ total bs
+breaks-control [] = omega arith
+breaks-control (b ∷ bs) = omega (arith, breaks-control bs, section-breaks b)
+
+-- ---- what is kept
+
+-- a kept table, where there is one: it fits and parses
+abbrev pub Whole : (Bytes → Bool) → ℕ → Option Bytes → Type 0
+Whole parses area none = Unit {0}
+Whole parses area (some b) = (length b ≤ area) × (parses b ≡ true)
+
+abbrev pub mptGood : Bytes → Bool
+mptGood b = mptParses (mptOf b .mpt)
+
+abbrev pub pltGood : Bytes → Bool
+pltGood b = pltParses (pltOf b)
+
+abbrev pub totGood : Bytes → Bool
+totGood b = totParses (totOf b .result)
+
+whole-latest : (parses : Bytes → Bool) (area : ℕ) (ok : Bool) (o : Option Bytes) (b : Bytes) → Whole parses area o
+    → (ok ≡ true → parses b ≡ true) → cond ok (length b) 0 ≤ area → Whole parses area (latest ok o b)
+whole-latest parses area true o b h f l = (l, f refl)
+whole-latest parses area false o b h f l = h
+
+pub record KeptFits (area k : ℕ) (x : Kept) : Type 0 where
+  pub fits : length (x .bytes) ≤ area
+  pub parses : parsesAs (k / 2 ^ 24) (x .bytes) ≡ true
+
+pub record StoreFits (area n : ℕ) (s : Store) : Type 0 where
+  pub plt : Whole pltGood area (s .plt)
+  pub tot : Whole totGood area (s .tot)
+  pub kept : Every (KeptFits area) (s .kept)
+  pub others : (i : ℕ) → getD (s .others) i 0 ≤ n
+  pub names : distinct (keys (s .kept)) ≡ true
+
+pub store-more : (area n m : ℕ) (s : Store) → n ≤ m → StoreFits area n s → StoreFits area m s
+store-more area n m s l h =
+    record { plt = h .plt; tot = h .tot; kept = h .kept; others = λ i. omega (arith, h .others i); names = h .names }
+
+pub counted-one : (l : List ℕ) (id n : ℕ) → ((i : ℕ) → getD l i 0 ≤ n) → (i : ℕ) → getD (set l id (getD l id 0 + 1)) i 0 ≤ n + 1
+counted-one l id n h i =
+    either (ltb id (length l))
+    (λ e.
+    either (eqb i id)
+    (λ t. rw (eqb-true i id t, getD-set-same l id (getD l id 0 + 1) 0 (ltb-true id (length l) e)) (omega (arith, h id)))
+    (λ t. rw (getD-set-other l id i (getD l id 0 + 1) 0 (eqb-false i id t)) (omega (arith, h i))))
+    (λ e. rw (set-out l id (getD l id 0 + 1) (ltb-false id (length l) e)) (omega (arith, h i)))
+
+-- a section that is kept
+module _ (area : ℕ) (x : Section) (m : List (ℕ × Kept)) (f : Every (KeptFits area) m) (d : distinct (keys m) ≡ true) (q : Sane (aSection x)) where
+  record Same (r : List (ℕ × Kept)) : Type 0 where
+    all : Every (KeptFits area) r
+    names : distinct (keys r) ≡ true
+
+  kept-if : (h n b : Bool) → x .headOk ≡ h → x .bodyOk ≡ b → cond (h && (n && b)) (length (x .bytes)) 0 ≤ area → Same (cond h (keepIf n b x m) m)
+  unfolding keepIf
+  kept-if true true true e k l =
+      record {
+        all = every-put (KeptFits area) (x .key) _ (record { fits = l; parses = q e k }) m f;
+        names = distinct-put (x .key) _ m d;
+      }
+  kept-if true true false e k l = record { all = f; names = d }
+  kept-if true false b e k l = record { all = f; names = d }
+  kept-if false n b e k l = record { all = f; names = d }
+
+pub store-fits : (area n : ℕ) (s : Store) (t : Table) → StoreFits area n s → Sane t → tableArea s t ≤ area → StoreFits area (n + 1) (stored s t)
+unfolding stored tableArea keep
+store-fits area n s emptyTable h q l = store-more area n (n + 1) s (omega arith) h
+store-fits area n s (mptTable ok k b) h q l = store-more area n (n + 1) s (omega arith) h
+store-fits area n s (pltTable ok b) h q l =
+    record {
+      plt = whole-latest pltGood area ok (s .plt) b (h .plt) q l;
+      tot = h .tot;
+      kept = h .kept;
+      others = λ i. omega (arith, h .others i);
+      names = h .names;
+    }
+store-fits area n s (totTable ok c k b) h q l =
+    record {
+      plt = h .plt;
+      tot = whole-latest totGood area ok (s .tot) b (h .tot) q l;
+      kept = h .kept;
+      others = λ i. omega (arith, h .others i);
+      names = h .names;
+    }
+store-fits area n s cutSection h q l = store-more area n (n + 1) s (omega arith) h
+store-fits area n s (aSection x) h q l =
+    let r = kept-if area x (s .kept) (h .kept) (h .names) q (x .headOk) (otherVersion (find (x .key) (s .kept)) (x .version)) (x .bodyOk) refl refl l in
+    record { plt = h .plt; tot = h .tot; kept = r .all; others = λ i. omega (arith, h .others i); names = r .names }
+store-fits area n s (otherTable id) h q l =
+    record { plt = h .plt; tot = h .tot; kept = h .kept; others = counted-one (s .others) id n (h .others); names = h .names }
+
+pub stores-fit : (area : ℕ) (ts : List Table) (n : ℕ) (s : Store) → StoreFits area n s → AllSane ts → tablesNeed s ts ≤ area
+    → StoreFits area (n + length ts) (storedAll s ts)
+unfolding storedAll tablesNeed
+stores-fit area [] n s h q l = store-more area n (n + 0) s (omega arith) h
+stores-fit area (t ∷ ts) n s h q l =
+    store-more area (n + 1 + length ts) (n + suc (length ts)) (storedAll (stored s t) ts) (omega arith)
+    (stores-fit area ts (n + 1) (stored s t) (store-fits area n s t h (q .0) (omega arith)) (q .1) (omega arith))
+
+-- the MPT of a control id
+mpt-fits : (area : ℕ) (m : Option Bytes) (s : Store) (t : Table) → Whole mptGood area m → Sane t → tableArea s t ≤ area → Whole mptGood area (mptAfter m t)
+unfolding mptAfter tableArea
+mpt-fits area m s emptyTable h q l = h
+mpt-fits area m s (mptTable ok k b) h q l = whole-latest mptGood area ok m b h q l
+mpt-fits area m s (pltTable ok b) h q l = h
+mpt-fits area m s (totTable ok c k b) h q l = h
+mpt-fits area m s cutSection h q l = h
+mpt-fits area m s (aSection x) h q l = h
+mpt-fits area m s (otherTable id) h q l = h
+
+pub mpts-fit : (area : ℕ) (ts : List Table) (m : Option Bytes) (s : Store) → Whole mptGood area m → AllSane ts → tablesNeed s ts ≤ area
+    → Whole mptGood area (mptAfterAll m ts)
+unfolding mptAfterAll tablesNeed
+mpts-fit area [] m s h q l = h
+mpts-fit area (t ∷ ts) m s h q l =
+    mpts-fit area ts (mptAfter m t) (stored s t) (mpt-fits area m s t h (q .0) (omega arith)) (q .1) (omega arith)
+
+-- ---- what is counted
+
+-- counts of packets and messages, of tables, of descriptor loops
+pub record CountersFit (p t b : ℕ) (c : Counters) : Type 0 where
+  pub tlvPackets : c .tlvPackets ≤ p
+  pub ipErrors : c .ipErrors ≤ p
+  pub nonMmtps : c .nonMmtps ≤ p
+  pub ntps : c .ntps ≤ p
+  pub tables : c .tables ≤ t
+  pub crcErrors : c .crcErrors ≤ t
+  pub malformed : c .malformed ≤ t
+  pub versionChanges : c .versionChanges ≤ t
+  pub orphans : c .orphans ≤ p
+  pub oversizes : c .oversizes ≤ p
+  pub messageMalformed : c .messageMalformed ≤ p
+  pub splitErrors : c .splitErrors ≤ b
+
+pub counters-more : (p t b p′ t′ b′ : ℕ) (c : Counters) → p ≤ p′ → t ≤ t′ → b ≤ b′ → CountersFit p t b c → CountersFit p′ t′ b′ c
+counters-more p t b p′ t′ b′ c x y z h =
+    record {
+      tlvPackets = omega (arith, h .tlvPackets);
+      ipErrors = omega (arith, h .ipErrors);
+      nonMmtps = omega (arith, h .nonMmtps);
+      ntps = omega (arith, h .ntps);
+      tables = omega (arith, h .tables);
+      crcErrors = omega (arith, h .crcErrors);
+      malformed = omega (arith, h .malformed);
+      versionChanges = omega (arith, h .versionChanges);
+      orphans = omega (arith, h .orphans);
+      oversizes = omega (arith, h .oversizes);
+      messageMalformed = omega (arith, h .messageMalformed);
+      splitErrors = omega (arith, h .splitErrors);
+    }
+
+record Few (n : ℕ) (x : Adds) : Type 0 where
+  crcErrors : x .crcErrors ≤ 1
+  malformed : x .malformed ≤ 1
+  versionChanges : x .versionChanges ≤ 1
+  breaks : x .breaks ≤ n
+
+few : (n c m v b : ℕ) → c ≤ 1 → m ≤ 1 → v ≤ 1 → b ≤ n → Few n (adds c m v b)
+few n c m v b x y z w = record { crcErrors = x; malformed = y; versionChanges = z; breaks = w }
+
+few-section : (x : Section) (k : Option Kept) → Few (x .breaks) (sectionAdds x k)
+unfolding sectionAdds
+few-section x k =
+    let P : Adds → Type 0 = Few (x .breaks) in
+    cond-elim P (not (x .headOk)) (λ e. few (x .breaks) _ _ 0 0 (one-le (x .crcBad)) (one-le (not (x .crcBad))) (omega arith) (omega arith)) (λ e.
+    cond-elim P (not (otherVersion k (x .version))) (λ e. few (x .breaks) 0 0 0 0 (omega arith) (omega arith) (omega arith) (omega arith)) (λ e.
+    few (x .breaks) 0 _ _ (x .breaks) (omega arith) (one-le (not (x .bodyOk))) (one-le (isSome k)) (omega arith)))
+
+few-adds : (m : Option Bytes) (s : Store) (t : Table) → Few (breaksOf t) (tableAdds m s t)
+unfolding tableAdds
+few-adds m s emptyTable = few 0 0 0 0 0 (omega arith) (omega arith) (omega arith) (omega arith)
+few-adds m s (mptTable ok n b) = few n 0 _ _ n (omega arith) (one-le (not ok)) (one-le (ok && changes m b)) (omega arith)
+few-adds m s (pltTable ok b) = few 0 0 _ _ 0 (omega arith) (one-le (not ok)) (one-le (ok && changes (s .plt) b)) (omega arith)
+few-adds m s (totTable ok c n b) = few n _ _ 0 n (one-le c) (one-le (not ok && not c)) (omega arith) (omega arith)
+few-adds m s cutSection = few 0 0 1 0 0 (omega arith) (omega arith) (omega arith) (omega arith)
+few-adds m s (aSection x) = few-section x (find (x .key) (s .kept))
+few-adds m s (otherTable id) = few 0 0 0 0 0 (omega arith) (omega arith) (omega arith) (omega arith)
+
+tabled-fits : (p t b n : ℕ) (c : Counters) (x : Adds) → CountersFit p t b c → Few n x → CountersFit p (t + 1) (b + n) (tabled c x)
+unfolding tabled
+tabled-fits p t b n c x h f =
+    record {
+      tlvPackets = h .tlvPackets;
+      ipErrors = h .ipErrors;
+      nonMmtps = h .nonMmtps;
+      ntps = h .ntps;
+      tables = omega (arith, h .tables);
+      crcErrors = omega (arith, h .crcErrors, f .crcErrors);
+      malformed = omega (arith, h .malformed, f .malformed);
+      versionChanges = omega (arith, h .versionChanges, f .versionChanges);
+      orphans = h .orphans;
+      oversizes = h .oversizes;
+      messageMalformed = h .messageMalformed;
+      splitErrors = omega (arith, h .splitErrors, f .breaks);
+    }
+
+pub counted-fit : (ts : List Table) (p t b : ℕ) (m : Option Bytes) (s : Store) (c : Counters) → CountersFit p t b c
+    → CountersFit p (t + length ts) (b + breaksIn ts) (countedAll m s c ts)
+unfolding countedAll
+counted-fit [] p t b m s c h = counters-more p t b p (t + 0) (b + 0) c (omega arith) (omega arith) (omega arith) h
+counted-fit (x ∷ ts) p t b m s c h =
+    counters-more p (t + 1 + length ts) (b + breaksOf x + breaksIn ts) p (t + suc (length ts)) (b + (breaksOf x + breaksIn ts)) _ (omega arith) (omega arith) (omega arith)
+    (counted-fit ts p (t + 1) (b + breaksOf x) (mptAfter m x) (stored s x) (tabled c (tableAdds m s x)) (tabled-fits p t b (breaksOf x) c _ h (few-adds m s x)))
+
+-- tables leave the count of packets
+pub counted-packets : (ts : List Table) (m : Option Bytes) (s : Store) (c : Counters) → countedAll m s c ts .tlvPackets ≡ c .tlvPackets
+unfolding countedAll tabled
+counted-packets [] m s c = refl
+counted-packets (x ∷ ts) m s c = counted-packets ts (mptAfter m x) (stored s x) (tabled c (tableAdds m s x))

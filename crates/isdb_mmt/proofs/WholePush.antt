@@ -1,0 +1,124 @@
+-- A message packet with which a message is whole: what is asked and left is the model's. Assumes nothing.
+use Prim.Native.Nat.{ℕ, zero, suc, _+_, _-_, _*_, _≤_, _<_, max}
+use mathlib.Core.Path.{_≡_, refl, sym, ap, _∙_, subst}
+use mathlib.Core.Bool.{Bool, true, false, not, cond}
+use mathlib.Core.Option.{Option, none, some}
+use mathlib.Core.List.{List, [], _∷_, _++_, map}
+use native.Mathlib.Omega.{arith}
+use native.Mathlib.Nat.{add-zero, zero-add, mul-le-mul-right}
+use lib.Dec.{eqb, ltb}
+use lib.ListN.{length, getD, take, drop, replicate, length-replicate, length-take, length-drop, length-append}
+use mir.Syntax.{w8, w32, w64}
+use mir.Val.{Fits}
+use borrow.Author.Tests.{eq-eqb, ne-eqb, lt-ltb, le-ltb, eqb-true, eqb-false, ltb-true, ltb-false}
+use Rattle.isdb_tlv.specs.Fields.{written}
+use Rattle.isdb_tlv.specs.Guards.{if_then_else_, _<?_, _=?_}
+use Rattle.isdb_tlv.proofs.Guards.{either}
+use Rattle.isdb_tlv.proofs.Fields.{length-written}
+use Rattle.isdb_mmt.specs.Layout.{mostSections, mostControlIds, mostMessageArea, mostTableArea, mostCount, tableIds, usedPlace, latestPlace, countersPlace, controlPlaces, controlSize, sectionPlaces, sectionSize, stateSize}
+use Rattle.isdb_mmt.specs.Packet.{Bytes, Ctl, message}
+use Rattle.isdb_mmt.specs.Lent.{part, over}
+use Rattle.isdb_mmt.specs.Session.{Session, limitsOf, usedOf, usedFields, countersOf, countersFields, controlFields, latestFields}
+use Rattle.isdb_mmt.specs.MediaPush.{withUsed}
+use Rattle.isdb_mmt.specs.Lines.{withLine, withCounts}
+use Rattle.isdb_mmt.specs.Verdict.{indexSize}
+use Rattle.isdb_mmt.specs.Dry.{Walked, CanWalk}
+use Rattle.isdb_mmt.specs.Start.{recentAt, goingIn, tablesAsk, countersWith, latestWith, CanGo}
+use Rattle.isdb_mmt.specs.Joins.{Join, cutOf}
+use Rattle.isdb_mmt.specs.Kept.{tableRead}
+use Rattle.isdb_mmt.specs.Placed.{joinOf, placedCut}
+use Rattle.isdb_mmt.specs.declared.decoder.verdict.Recent.{Recent}
+use Rattle.isdb_mmt.specs.WholeMessage.{isLast, beforeBy, longBy, aggregatedBy, joinBy, heldIn, goingFrom, WalkedWhole, CanWalkWhole, wholeAsk, usedWhole, placeWhole, stateLeft, CanLeaveState}
+use Rattle.isdb_mmt.specs.declared.decoder.limits.Limits.{Limits}
+use Rattle.isdb_mmt.specs.declared.decoder.counts.Counters.{Counters}
+use Rattle.isdb_mmt.specs.declared.decoder.head.Used.{Used}
+use Rattle.isdb_mmt.specs.declared.decoder.head.Latest.{Latest}
+use Rattle.isdb_mmt.specs.declared.decoder.control.Control.{Control}
+use Rattle.isdb_mmt.specs.declared.decoder.walk.Going.{Going}
+use Rattle.isdb_mmt.proofs.Lent.{length-over}
+
+-- ---- the questions
+
+module _ (l : Limits) (area : ℕ) (g : Going) (n : ℕ) (en : n ≡ tablesAsk l g) where
+  pub whole-eight : n ≡ 8 → 8 ≡ wholeAsk l area g
+  unfolding wholeAsk
+  whole-eight e = rw (← en, eq-eqb n 8 e)
+
+  pub whole-nine : (n ≡ 8 → ⊥) → l .«message_area» < area → 9 ≡ wholeAsk l area g
+  unfolding wholeAsk
+  whole-nine e h = rw (← en, ne-eqb n 8 e, lt-ltb (l .«message_area») area h)
+
+  pub whole-else : (n ≡ 8 → ⊥) → area ≤ l .«message_area» → n ≡ wholeAsk l area g
+  unfolding wholeAsk
+  whole-else e h = rw (← en, ne-eqb n 8 e, le-ltb (l .«message_area») area h)
+
+-- ---- the state
+
+module _ (state ix : List ℕ) (i k : ℕ) (g : Going) (can : CanLeaveState state ix i k g) (u : Used) (eu : u ≡ usedOf state) where
+  pub used-adds : Fits w32 (u .«control_ids» + k)
+  used-adds = rw eu (omega (arith, can .few, can .new))
+
+  module _ (d : Control) (s1 : List ℕ) (e1 : s1 ≡ withLine i d (usedWhole u k (g .used)) state) (rows : List ℕ) (er : rows ≡ take (sectionSize * g .used) ix) where
+    line-length : length s1 ≡ length state
+    line-length =
+        let a : length (written (controlFields d)) ≡ 21 = length-written (controlFields d) in
+        let b : length (written (usedFields (usedWhole u k (g .used)))) ≡ 12 = length-written (usedFields (usedWhole u k (g .used))) in
+        let x : List ℕ = over (controlPlaces + controlSize * i) (written (controlFields d)) state in
+        let p : length x ≡ length state = length-over (controlPlaces + controlSize * i) (written (controlFields d)) state (omega (arith, can .long, can .place)) in
+        rw e1 (length-over usedPlace (written (usedFields (usedWhole u k (g .used)))) x (omega (arith, can .long)) ∙ p)
+
+    rows-short : sectionPlaces + length rows ≤ length state
+    rows-short = rw er (omega (arith, length-take (sectionSize * g .used) ix, can .long, can .sections))
+
+    pub rows-fit : sectionPlaces + length rows ≤ length s1
+    rows-fit = omega (arith, rows-short, line-length)
+
+    module _ (s2 : List ℕ) (e2 : s2 ≡ over sectionPlaces rows s1) where
+      pub rows-long : stateSize ≤ length s2
+      rows-long = rw e2 (omega (arith, length-over sectionPlaces rows s1 rows-fit, line-length, can .long))
+
+      pub state-done : (cs c : Counters) → c ≡ countersWith cs g → (x : Latest) → x ≡ latestWith g → (s3 : List ℕ) → s3 ≡ withCounts c x s2
+          → s3 ≡ stateLeft i k d cs g ix state
+      state-done cs c ec x ex s3 e3 = e3 ∙ rw (ec, ex, e2, er, e1, eu)
+
+-- ---- the walk
+
+module _ (state others joined tables ix log mine seam : List ℕ) (i : ℕ) (c : Control) (last : Bool) (cs : Counters) (b : Bytes)
+    (can : CanWalkWhole state others joined tables ix log mine seam i c last cs b) (l : Limits) (el : l ≡ limitsOf state) where
+  pub walk-adds : Fits w64 (l .sections + i)
+  walk-adds = rw el (omega (arith, can .go .few, can .place))
+
+  pub walk-recent : (l .sections + i + 1) * l .«table_area» ≤ length tables
+  walk-recent =
+      let x : Limits = limitsOf state in
+      let q : (x .sections + i + 1) * x .«table_area» ≤ (x .sections + x .«control_ids» + 2) * x .«table_area» =
+      mul-le-mul-right (x .«table_area») (omega (arith, can .place)) in
+      rw el (omega (arith, can .go .room))
+
+  pub walk-before : (i + 1) * l .«message_area» ≤ length joined
+  walk-before = rw el (can .room)
+
+  module _ (ix₁ log₁ mine₁ : List ℕ) (ei : ix₁ ≡ part sectionPlaces indexSize state) (eg₁ : log₁ ≡ replicate (length log) 0) (em : mine₁ ≡ others) (mpt : Recent)
+      (ep : mpt ≡ recentAt tables ((l .sections + i) * l .«table_area») (c .mpt) (c .«mpt_length»)) (g : Going) (eg : g ≡ goingIn state tables cs mpt) (a : Bytes)
+      (ea : a ≡ beforeBy last (part (i * l .«message_area») (c .length) joined)) (d : Bytes) (ed : d ≡ drop 2 b) where
+    log-is : log₁ ≡ replicate mostSections 0
+    log-is = eg₁ ∙ ap (λ n. replicate {A = ℕ} n 0) (can .copies .logLong)
+
+    going-is : g ≡ goingFrom state tables cs i c
+    going-is =
+        eg
+        ∙ ap (λ (z : Recent). goingIn state tables cs z)
+        (ep ∙ ap (λ (z : Limits). recentAt tables ((z .sections + i) * z .«table_area») (c .mpt) (c .«mpt_length»)) el)
+
+    bytes-are : a ++ d ≡ joinBy last c (heldIn state joined i c) b .bytes
+    bytes-are =
+        ap (λ (z : Bytes). z ++ d) (ea ∙ ap (λ (z : Limits). beforeBy last (part (i * z .«message_area») (c .length) joined)) el)
+        ∙ ap (λ (z : Bytes). beforeBy last (heldIn state joined i c) ++ z) ed
+
+    pub walk-can : CanWalk ix₁ log₁ mine₁ seam g (a ++ d) 0 mostCount
+    walk-can = rw (ei, log-is, em, going-is, bytes-are) (can .walk)
+
+    pub walk-done : (long : Bool) → long ≡ longBy last c b → (aggregated : Bool) → aggregated ≡ aggregatedBy last c b → (r : Going) (ix₂ log₂ mine₂ : List ℕ)
+        → Walked tableRead ix₁ log₁ mine₁ g (placedCut (joinOf long aggregated (a ++ d))) (length (a ++ d) + 1) (cutOf (joinOf long aggregated (a ++ d)) .malformed) r ix₂ log₂ mine₂
+        → WalkedWhole state others tables i c cs (joinBy last c (heldIn state joined i c) b) r ix₂ log₂ mine₂
+    walk-done long e1 aggregated e2 r ix₂ log₂ mine₂ w = rw (ei, log-is, em, going-is, bytes-are, e1, e2) at w

@@ -1,0 +1,14 @@
+use mathlib.Core.Path.{refl}
+use Rattle.isdb_mmt.specs.Survey.{unitObject}
+use borrow.Author.Needs.{needs}
+use Rattle.isdb_mmt.proofs.decoder.reassembler.unit_object.Statement.{statement}
+use Rattle.isdb_mmt.proofs.decoder.reassembler.unit_object.Tie as tie
+
+returns : tie.Need-returns
+unfolding unitObject
+returns c = rw (c .item-or .ensures, c .before .has-item .ensures, c .before .before .has-header .ensures, c .before .before .before .header-or .ensures) refl
+
+pub unit-object-spec : {M : Type 1} → statement M
+unit-object-spec =
+    tie.close
+    (tie.spec (λ c κs. search needs) (λ c κs. search needs) (λ c κs. search needs) (λ c κs. search needs) returns)

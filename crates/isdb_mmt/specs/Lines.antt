@@ -1,0 +1,129 @@
+-- A message packet at the place of its id: which place, and what is asked and left where no message is whole with it. One law says
+-- that it is what the model asks and leaves (proofs/Lines).
+use Prim.Native.Nat.{ℕ, _+_, _*_, _≤_, _<_}
+use mathlib.Core.Path.{_≡_}
+use mathlib.Core.Bool.{Bool, false}
+use mathlib.Core.List.{List}
+use lib.ListN.{length}
+use Rattle.isdb_tlv.specs.Guards.{if_then_else_, _<?_}
+use Rattle.isdb_tlv.specs.Fields.{written}
+use Rattle.isdb_mmt.specs.Packet.{Bytes, Ctl}
+use Rattle.isdb_mmt.specs.Lent.{over}
+use Rattle.isdb_mmt.specs.Layout.{latestPlace, countersPlace, controlPlaces, controlSize, mostControlIds, mostMessageArea, stateSize}
+use Rattle.isdb_mmt.specs.Session.{Session, limitsOf, usedOf, latestOf, latestFields, countersOf, countersFields, controlFields, controlAt}
+use Rattle.isdb_mmt.specs.Check.{PlacesThere, Sound, lengthsOf}
+use Rattle.isdb_mmt.specs.MediaPush.{withUsed}
+use Rattle.isdb_mmt.specs.Leaves.{controlSeat}
+use Rattle.isdb_mmt.specs.Push.{mostBytes}
+use Rattle.isdb_mmt.specs.Fragments.{fateOf, joinedBy, controlWith, laidBy, areaBy, completes, fragmentCounted, CanCount}
+use Rattle.isdb_mmt.specs.declared.decoder.counts.Counters.{Counters}
+use Rattle.isdb_mmt.specs.declared.decoder.head.Used.{Used}
+use Rattle.isdb_mmt.specs.declared.decoder.head.Latest.{Latest}
+use Rattle.isdb_mmt.specs.declared.decoder.control.Control.{Control}
+use Rattle.isdb_mmt.specs.declared.decoder.messages.Fate.{Fate}
+use Rattle.isdb_mmt.specs.declared.decoder.messages.Meeting.{Meeting}
+use Rattle.isdb_mmt.specs.declared.decoder.place.Seat.{Seat}
+use Rattle.isdb_mmt.specs.declared.decoder.place.Seat.the-variants.{Old, New, Full}
+
+abbrev pub ctl : ℕ → ℕ → Bytes → Ctl
+ctl id n b = record { id = id; number = n; payload = b }
+
+-- ---- the place
+
+abbrev pub blankPlace : Control
+blankPlace =
+    record {
+      «packet_id» = 0;
+      seen = false;
+      sequence = 0;
+      joining = false;
+      «long_length» = false;
+      aggregated = false;
+      length = 0;
+      mpt = false;
+      «mpt_length» = 0;
+    }
+
+-- an id without a place has a blank one
+unfoldable pub placeIn : List ℕ → Seat → Control
+placeIn l (Old i) = controlAt l i
+placeIn l (New i) = blankPlace
+placeIn l Full = blankPlace
+
+abbrev pub SeatThere : Seat → Type 0
+SeatThere (Old i) = i < mostControlIds
+SeatThere (New i) = Unit {0}
+SeatThere Full = Unit {0}
+
+-- ---- what is stored; the length of what is absent is 0
+
+abbrev pub lengthIf : Bool → ℕ → ℕ
+lengthIf there n = if there then n else 0
+
+abbrev pub tidyLatest : Latest → Latest
+tidyLatest x =
+    record {
+      plt = x .plt;
+      «plt_length» = lengthIf (x .plt) (x .«plt_length»);
+      tot = x .tot;
+      «tot_length» = lengthIf (x .tot) (x .«tot_length»);
+    }
+
+abbrev pub withMore : ℕ → Used → Used
+withMore k u = record { «media_ids» = u .«media_ids»; «control_ids» = u .«control_ids» + k; sections = u .sections }
+
+-- the place, and the places in use
+abbrev pub withLine : ℕ → Control → Used → List ℕ → List ℕ
+withLine i c u l = withUsed u (over (controlPlaces + controlSize * i) (written (controlFields c)) l)
+
+-- counters, then PLT and TOT
+abbrev pub withCounts : Counters → Latest → List ℕ → List ℕ
+withCounts k x l = over latestPlace (written (latestFields x)) (over countersPlace (written (countersFields k)) l)
+
+-- ---- a fragment at the place `i`; `k` is 1 where it is a new one
+
+abbrev pub placeNext : ℕ → ℕ → Control → Fate → Bytes → Control
+placeNext id n c f b = controlWith id n (joinedBy f c b) (c .mpt) (lengthIf (c .mpt) (c .«mpt_length»))
+
+unfoldable pub stateNext : ℕ → ℕ → Control → Fate → List ℕ → List ℕ
+stateNext i k d f l = withCounts (fragmentCounted f (countersOf l)) (tidyLatest (latestOf l)) (withLine i d (withMore k (usedOf l)) l)
+
+pub record CanStoreLine (l : List ℕ) (i k : ℕ) : Type 0 where
+  pub long : stateSize ≤ length l
+  pub place : i < mostControlIds
+  pub new : k ≤ 1
+  pub used : usedOf l .«control_ids» ≤ mostControlIds
+  pub counts : CanCount (countersOf l)
+
+pub record CanJoinAt (l m : List ℕ) (i k : ℕ) (b : Bytes) : Type 0 where
+  pub stores : CanStoreLine l i k
+  pub short : length b ≤ mostBytes
+  pub area : limitsOf l .«message_area» ≤ mostMessageArea
+  pub room : (i + 1) * limitsOf l .«message_area» ≤ length m
+
+pub record JoinedAt (l m : List ℕ) (i k id n : ℕ) (b : Bytes) (c : Control) (f : Fate) (r : ℕ) (l′ m′ : List ℕ) : Type 0 where
+  pub number : r ≡ (if limitsOf l .«message_area» <? areaBy f c b then 9 else 0)
+  pub same : (r ≡ 0 → ⊥) → (l′ ≡ l) × (m′ ≡ m)
+  pub state : r ≡ 0 → l′ ≡ stateNext i k (placeNext id n c f b) f l
+  pub messages : r ≡ 0 → m′ ≡ laidBy f (i * limitsOf l .«message_area») c b m
+
+-- ---- what a message packet meets: the seat of its id, its place, and what becomes of its fragment
+
+unfoldable pub meetingOf : List ℕ → Ctl → Meeting
+meetingOf l x =
+    record {
+      seat = controlSeat l (x .id);
+      place = placeIn l (controlSeat l (x .id));
+      fate = fateOf (placeIn l (controlSeat l (x .id))) (x .number) (x .payload);
+    }
+
+pub record CanMeet (l : List ℕ) (b : Bytes) : Type 0 where
+  pub there : PlacesThere l
+  pub short : length b ≤ mostBytes
+
+-- no message is whole with it
+pub record CanJoin (s : Session) (x : Ctl) (y : Meeting) : Type 0 where
+  pub session : Sound (s .state) (s .others) (lengthsOf s)
+  pub short : length (x .payload) ≤ mostBytes
+  pub meets : y ≡ meetingOf (s .state) x
+  pub divided : completes (y .fate) ≡ false

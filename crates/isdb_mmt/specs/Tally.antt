@@ -1,0 +1,27 @@
+-- What tables leave, on one record: the MPT of their control id, all else that is kept, the counters, and the longest table that
+-- is kept on the way. The model's folds are its fields.
+use Prim.Native.Nat.{ℕ, max}
+use mathlib.Core.Option.{Option}
+use mathlib.Core.List.{List, [], _∷_}
+use Rattle.isdb_mmt.specs.Packet.{Bytes}
+use Rattle.isdb_mmt.specs.Kept.{Counters, Store, Table, tabled, tableAdds, mptAfter, stored}
+use Rattle.isdb_mmt.specs.Needs.{tableArea}
+
+pub record Tally : Type 0 where
+  pub mpt : Option Bytes
+  pub store : Store
+  pub counters : Counters
+  pub longest : ℕ
+
+abbrev pub taken : Tally → Table → Tally
+taken w t =
+    record {
+      mpt = mptAfter (w .mpt) t;
+      store = stored (w .store) t;
+      counters = tabled (w .counters) (tableAdds (w .mpt) (w .store) t);
+      longest = max (w .longest) (tableArea (w .store) t);
+    }
+
+unfoldable pub takenAll : Tally → List Table → Tally
+takenAll w [] = w
+takenAll w (t ∷ ts) = takenAll (taken w t) ts

@@ -1,0 +1,130 @@
+-- A message packet with which a message is whole: the message in two pieces, the walk over its tables, what is asked and left.
+use Prim.Native.Nat.{ℕ, zero, suc, _+_, _*_, _≤_, _<_}
+use mathlib.Core.Path.{_≡_}
+use mathlib.Core.Bool.{Bool, true, false}
+use mathlib.Core.List.{List, [], _++_}
+use lib.ListN.{length, take, drop, replicate}
+use Rattle.isdb_tlv.specs.Guards.{if_then_else_, _<?_, _=?_}
+use Rattle.isdb_mmt.specs.Layout.{mostSections, mostControlIds, mostMessageArea, mostTableArea, mostCount, tableIds, sectionPlaces, sectionSize, stateSize}
+use Rattle.isdb_mmt.specs.Packet.{Bytes, Ctl}
+use Rattle.isdb_mmt.specs.Joins.{Join, cutOf}
+use Rattle.isdb_mmt.specs.Kept.{tableRead}
+use Rattle.isdb_mmt.specs.Lent.{part, over}
+use Rattle.isdb_mmt.specs.Session.{Session, limitsOf, usedOf, countersOf}
+use Rattle.isdb_mmt.specs.Check.{lengthsOf, Sound}
+use Rattle.isdb_mmt.specs.Push.{mostBytes}
+use Rattle.isdb_mmt.specs.Fragments.{noneJoined, flagsIn, controlWith, completes}
+use Rattle.isdb_mmt.specs.Lines.{withLine, withCounts, meetingOf}
+use Rattle.isdb_mmt.specs.Verdict.{indexSize}
+use Rattle.isdb_mmt.specs.Placed.{joinOf, placedCut}
+use Rattle.isdb_mmt.specs.Dry.{Walked, CanWalk}
+use Rattle.isdb_mmt.specs.Start.{recentAt, goingIn, recentLength, latestWith, countersWith, tablesAsk, CanGo, CopiesLent}
+use Rattle.isdb_mmt.specs.declared.decoder.limits.Limits.{Limits}
+use Rattle.isdb_mmt.specs.declared.decoder.counts.Counters.{Counters}
+use Rattle.isdb_mmt.specs.declared.decoder.head.Used.{Used}
+use Rattle.isdb_mmt.specs.declared.decoder.control.Control.{Control}
+use Rattle.isdb_mmt.specs.declared.decoder.messages.Fate.{Fate}
+use Rattle.isdb_mmt.specs.declared.decoder.messages.Fate.the-variants.{Short, Undivided, First, Orphan, Oversize, Grown, Whole}
+use Rattle.isdb_mmt.specs.declared.decoder.messages.Meeting.{Meeting}
+use Rattle.isdb_mmt.specs.declared.decoder.place.Seat.{Seat}
+use Rattle.isdb_mmt.specs.declared.decoder.place.Seat.the-variants.{Old, New, Full}
+use Rattle.isdb_mmt.specs.declared.decoder.walk.Going.{Going}
+
+-- ---- the message: what was joined before, where it is the last fragment, and the packet's data
+
+abbrev pub isLast : Fate → Bool
+isLast Short = false
+isLast Undivided = false
+isLast First = false
+isLast Orphan = false
+isLast Oversize = false
+isLast Grown = false
+isLast Whole = true
+
+abbrev pub beforeBy : Bool → Bytes → Bytes
+beforeBy last m = if last then m else []
+
+-- its flags are those of its first fragment
+abbrev pub longBy : Bool → Control → Bytes → Bool
+longBy last c b = if last then c .«long_length» else flagsIn b .«long_length»
+
+abbrev pub aggregatedBy : Bool → Control → Bytes → Bool
+aggregatedBy last c b = if last then c .aggregated else flagsIn b .aggregated
+
+abbrev pub joinBy : Bool → Control → Bytes → Bytes → Join
+joinBy last c m b = joinOf (longBy last c b) (aggregatedBy last c b) (beforeBy last m ++ drop 2 b)
+
+-- ---- the walk
+
+-- the message that the area `i` holds
+abbrev pub heldIn : List ℕ → List ℕ → ℕ → Control → Bytes
+heldIn state messages i c = part (i * limitsOf state .«message_area») (c .length) messages
+
+abbrev pub goingFrom : List ℕ → List ℕ → Counters → ℕ → Control → Going
+goingFrom state t cs i c =
+    goingIn state t cs (recentAt t ((limitsOf state .sections + i) * limitsOf state .«table_area») (c .mpt) (c .«mpt_length»))
+
+abbrev pub WalkedWhole : List ℕ → List ℕ → List ℕ → ℕ → Control → Counters → Join → Going → List ℕ → List ℕ → List ℕ → Type 0
+WalkedWhole state others t i c cs j r ix log mine =
+    Walked tableRead (part sectionPlaces indexSize state) (replicate mostSections 0) others (goingFrom state t cs i c) (placedCut j) (length (j .bytes) + 1)
+    (cutOf j .malformed) r ix log mine
+
+pub record CanWalkWhole (state others messages t ix log mine seam : List ℕ) (i : ℕ) (c : Control) (last : Bool) (cs : Counters) (b : Bytes) : Type 0 where
+  pub go : CanGo state t
+  pub copies : CopiesLent ix log mine
+  pub counts : length mine ≡ length others
+  pub long : stateSize ≤ length state
+  pub place : i < limitsOf state .«control_ids»
+  pub room : (i + 1) * limitsOf state .«message_area» ≤ length messages
+  pub area : limitsOf state .«message_area» ≤ mostMessageArea
+  pub walk : CanWalk (part sectionPlaces indexSize state) (replicate mostSections 0) others seam (goingFrom state t cs i c) (joinBy last c (heldIn state messages i c) b .bytes) 0 mostCount
+
+-- ---- what is asked: places, then the message's area, then the tables'
+
+unfoldable pub wholeAsk : Limits → ℕ → Going → ℕ
+wholeAsk l area g =
+    if tablesAsk l g =? 8 then 8
+    else if l .«message_area» <? area then 9
+    else tablesAsk l g
+
+-- ---- what is left
+
+abbrev pub usedWhole : Used → ℕ → ℕ → Used
+usedWhole u k n = record { «media_ids» = u .«media_ids»; «control_ids» = u .«control_ids» + k; sections = n }
+
+abbrev pub placeWhole : ℕ → ℕ → Going → Control
+placeWhole id n g = controlWith id n noneJoined (g .mpt .there) (recentLength (g .mpt))
+
+abbrev pub stateLeft : ℕ → ℕ → Control → Counters → Going → List ℕ → List ℕ → List ℕ
+stateLeft i k d cs g ix state =
+    withCounts (countersWith cs g) (latestWith g)
+    (over sectionPlaces (take (sectionSize * g .used) ix) (withLine i d (usedWhole (usedOf state) k (g .used)) state))
+
+pub record CanLeaveState (state ix : List ℕ) (i k : ℕ) (g : Going) : Type 0 where
+  pub long : stateSize ≤ length state
+  pub indexLong : length ix ≡ indexSize
+  pub place : i < mostControlIds
+  pub few : usedOf state .«control_ids» ≤ mostControlIds
+  pub new : k ≤ 1
+  pub sections : g .used ≤ mostSections
+
+-- ---- a packet
+
+pub record CanPushWhole (s : Session) (x : Ctl) (y : Meeting) : Type 0 where
+  pub session : Sound (s .state) (s .others) (lengthsOf s)
+  pub othersLong : length (s .others) ≡ tableIds
+  pub short : length (x .payload) ≤ mostBytes
+  pub meets : y ≡ meetingOf (s .state) x
+  pub whole : completes (y .fate) ≡ true
+
+-- at the place `i` of its id; `k` is 1 where it is a new one
+abbrev pub seatAt : ℕ → ℕ → Seat
+seatAt i zero = Old i
+seatAt i (suc k) = New i
+
+pub record CanPushAt (s : Session) (x : Ctl) (y : Meeting) (i k : ℕ) (ix log mine seam : List ℕ) : Type 0 where
+  pub packet : CanPushWhole s x y
+  pub seat : y .seat ≡ seatAt i k
+  pub few : k ≤ 1
+  pub copies : CopiesLent ix log mine
+  pub seamLong : length seam ≡ mostTableArea
