@@ -1,5 +1,7 @@
 // The time of a push on plain media packets: 1,400 bytes of data each, one whole unit, 8 ids in turn. Best of 25 rounds of 80,000
-// packets, with no section kept and with 300; tests/oracle/push/src/bin/rate.rs has the same packets for the Rust.
+// packets, with no section kept and with 300; tests/oracle/push/src/bin/rate.rs has the same packets for the Rust. Then how much of its
+// stack a push takes, by a thread whose stack is filled first: of a media packet, a control packet and a message of a table.
+#include <pthread.h>
 #include <stdint.h>
 #include <stdio.h>
 #include <stdlib.h>
@@ -57,6 +59,41 @@ static void rounds(int sections) {
     printf("push, %3d sections kept: %.1f ns a packet (%llu data bytes)\n", sections, best * 1e9, (unsigned long long)bytes);
 }
 
+enum { STACK = 1 << 20 };
+static const uint8_t *packet;
+static size_t packet_len;
+static uint8_t packet_kind;
+
+static void *nothing(void *x) { return x; }
+
+static void *once(void *x) {
+    bench_push(state, STATE, others, objects, OBJECTS, messages, MESSAGES, tables, TABLES, packet_kind, packet, packet_len, rows, ROWS, out, OUT);
+    return x;
+}
+
+static size_t touched(void *(*f)(void *)) {
+    static _Alignas(4096) uint8_t stack[STACK];
+    pthread_attr_t a;
+    pthread_t t;
+    size_t i = 0;
+    memset(stack, 0xA5, STACK);
+    if (pthread_attr_init(&a) || pthread_attr_setstack(&a, stack, STACK) || pthread_create(&t, &a, f, 0) || pthread_join(t, 0)) exit(3);
+    while (i < STACK && stack[i] == 0xA5) i++;
+    return STACK - i;
+}
+
+static void stack_of(const char *what, uint8_t kind, const uint8_t *b, size_t n) {
+    packet_kind = kind;
+    packet = b;
+    packet_len = n;
+    printf("stack, %s: %zu bytes\n", what, touched(once) - touched(nothing));
+}
+
+// an MPT of no asset in a PA message, which is whole in its packet
+static const uint8_t mpt[] = {0, 0x10, 0x61, 0, 2, 0x80, 1, 0, 0, 0, 0, 0, 0, 0, 1, 0, 0, 0, 0, 0, 0, 0, 0, 12,
+                              0, 0x20, 3, 0, 7, 0xFD, 2, 0, 0x65, 0, 0, 0};
+static const uint8_t signal[] = {0x40, 0xF0, 0x09, 0, 4, 0xC7, 0, 0, 1, 2, 3, 4};
+
 int main(void) {
     objects = calloc(1, OBJECTS);
     messages = calloc(1, MESSAGES);
@@ -68,5 +105,8 @@ int main(void) {
     data[22] = 7;
     rounds(0);
     rounds(300);
+    stack_of("media packet", 3, data, N);
+    stack_of("control packet", 0xFE, signal, sizeof signal);
+    stack_of("message", 3, mpt, sizeof mpt);
     return 0;
 }
