@@ -47,6 +47,7 @@ pub mod Octets
 pub mod MediaPush
 pub mod Leaves
 pub mod Push
+pub mod Readings
 pub mod PushCases
 pub mod Placing
 pub mod Survey

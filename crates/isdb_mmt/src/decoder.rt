@@ -28,6 +28,7 @@ mod push_control;
 mod push_media;
 mod push_message;
 mod reassembler;
+pub mod readings;
 pub mod records;
 mod route;
 mod section;
