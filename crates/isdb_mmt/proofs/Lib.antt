@@ -49,6 +49,9 @@ pub mod RecordRows
 pub mod Stores
 pub mod Ready
 pub mod Stays
+pub mod Lasting
+pub mod Said
+pub mod Calls
 pub mod Room
 pub mod Outs
 pub mod PlaceFits

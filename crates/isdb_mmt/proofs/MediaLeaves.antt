@@ -262,7 +262,7 @@ module _ (s : Session) (ok : Sound (s .state) (s .others) (lengthsOf s)) (id : �
   abbrev objectsAfter : ℕ → List ℕ
   objectsAfter i = heldOver (i * area) (a .held) (s .objects)
 
-  in-objects : (i : ℕ) → i < limitsOf st .«media_ids» → (i + 1) * area ≤ length (s .objects)
+  pub in-objects : (i : ℕ) → i < limitsOf st .«media_ids» → (i + 1) * area ≤ length (s .objects)
   in-objects i h =
       let p = passed (limitsOf st) (lengthsOf s) (ok .limits) in
       let k : (i + 1) * area ≤ limitsOf st .«media_ids» * area = mul-le-mul-right area (omega arith) in
@@ -316,10 +316,10 @@ module _ (s : Session) (ok : Sound (s .state) (s .others) (lengthsOf s)) (id : �
         let z : i - 0 ≡ i = omega arith in
         rw z at (stands (entries s) id 0 i e .1)
 
-    within-old : i < usedOf st .«media_ids»
+    pub within-old : i < usedOf st .«media_ids»
     within-old = omega (arith, found-old .within, length-indexed (assetEntry (limitsOf st) s) 0 (mediaIn st), length-media st)
 
-    keeps-old : Keeps st stateOld
+    pub keeps-old : Keeps st stateOld
     keeps-old =
         let e : length (written (mediaFields place)) ≡ 120 = length-written (mediaFields place) in
         let u : i < 64 = omega (arith, within-old, ok .there .media) in
@@ -328,7 +328,7 @@ module _ (s : Session) (ok : Sound (s .state) (s .others) (lengthsOf s)) (id : �
         used-apart (184 + 120 * i) (written (mediaFields place)) st (inl (omega arith)) (omega arith) in
         keeps-on k (keeps-packets (withPlace i id a st) (omega (arith, k .long)) (rw q (ok .there .controls)) (rw q (ok .there .sections)) packetsNow)
 
-    media-old : mediaIn stateOld ≡ set (mediaIn st) i place
+    pub media-old : mediaIn stateOld ≡ set (mediaIn st) i place
     media-old =
         let e : length (written (mediaFields place)) ≡ 120 = length-written (mediaFields place) in
         let u : i < 64 = omega (arith, within-old, ok .there .media) in
@@ -378,7 +378,7 @@ module _ (s : Session) (ok : Sound (s .state) (s .others) (lengthsOf s)) (id : �
       pub put-last : put id a (entries s) ≡ entries s ++ ((id, a) ∷ [])
       pub unknown : find id (entries s) ≡ none
 
-    new-facts : NewFacts
+    pub new-facts : NewFacts
     unfolding mediaSeat
     new-facts =
         let w = seat-was-new (namesFrom (usedOf st .«media_ids») 120 184 st) (limitsOf st .«media_ids») id i seat in
@@ -412,7 +412,7 @@ module _ (s : Session) (ok : Sound (s .state) (s .others) (lengthsOf s)) (id : �
     used-new : usedOf (withUsed usedNow (withPlace i id a st)) ≡ usedNow
     used-new = used-back usedNow (withPlace i id a st) used-fits (omega (arith, length-place))
 
-    keeps-new : Keeps st stateNew
+    pub keeps-new : Keeps st stateNew
     keeps-new =
         let e : length (written (mediaFields place)) ≡ 120 = length-written (mediaFields place) in
         let u = new-facts .small in
@@ -424,7 +424,7 @@ module _ (s : Session) (ok : Sound (s .state) (s .others) (lengthsOf s)) (id : �
         let k3 = keeps-packets (withUsed usedNow (withPlace i id a st)) (omega (arith, length-used)) (rw used-new (t .controls)) (rw used-new (t .sections)) packetsNow in
         keeps-on (keeps-on k1 k2) k3
 
-    media-new : mediaIn stateNew ≡ mediaIn st ++ (place ∷ [])
+    pub media-new : mediaIn stateNew ≡ mediaIn st ++ (place ∷ [])
     media-new =
         let f = new-facts in
         let bs : List ℕ = written (field 8 packetsNow ∷ []) in
@@ -703,7 +703,7 @@ tied-after a m t = tied-units m (readable m) (noted a m) (tied-noted a m t)
 module _ (s : Session) (ok : Sound (s .state) (s .others) (lengthsOf s)) (m : MediaPacket)
     (places : usedOf (s .state) .«media_ids» + needs (view s) (mediaPacket m) .mediaIds ≤ limitsOf (s .state) .«media_ids»)
     (object : needs (view s) (mediaPacket m) .object ≤ limitsOf (s .state) .«mfu_area») where
-  seat-free : mediaSeat (s .state) (m .id) ≡ Full → ⊥
+  pub seat-free : mediaSeat (s .state) (m .id) ≡ Full → ⊥
   unfolding mediaSeat needs pushed view viewBy
   seat-free e =
       let st = s .state in
@@ -723,13 +723,13 @@ module _ (s : Session) (ok : Sound (s .state) (s .others) (lengthsOf s)) (m : Me
       go (New i) e = before-new s ok (m .id) i e
       go Full e = absurd (seat-free e)
 
-  held-room : heldLength (assetNext s m .held) ≤ limitsOf (s .state) .«mfu_area»
+  pub held-room : heldLength (assetNext s m .held) ≤ limitsOf (s .state) .«mfu_area»
   unfolding assetNext assetAfter needs
   held-room =
       let a = assetOf (m .id) (view s) in
       omega (arith, units-held m (readable m) (noted a m), noted-held a m, before-any .room, object)
 
-  tied-next : Tied (assetNext s m)
+  pub tied-next : Tied (assetNext s m)
   unfolding assetNext
   tied-next =
       let b = before-any in

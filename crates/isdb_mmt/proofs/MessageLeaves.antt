@@ -135,7 +135,7 @@ join-laid (some j) area i l h w =
     let e = part-over (i * area) (j .bytes) l (omega arith) in
     λ k. some (record { long = j .long; aggregated = j .aggregated; bytes = e k })
 
-joined-length : (o : Option Join) → tableLength (joinedIn o) ≡ joinLength o
+pub joined-length : (o : Option Join) → tableLength (joinedIn o) ≡ joinLength o
 joined-length none = refl
 joined-length (some j) = refl
 
@@ -154,12 +154,12 @@ module _ (s : Session) (ok : Sound (s .state) (s .others) (lengthsOf s)) where
   pub ranges : Passed l (lengthsOf s)
   ranges = passed l (lengthsOf s) (ok .limits)
 
-  in-tables : (k : ℕ) → k < l .sections + l .«control_ids» + 2 → (k + 1) * area ≤ length (s .tables)
+  pub in-tables : (k : ℕ) → k < l .sections + l .«control_ids» + 2 → (k + 1) * area ≤ length (s .tables)
   in-tables k h =
       let m : (k + 1) * area ≤ (l .sections + l .«control_ids» + 2) * area = mul-le-mul-right area (omega arith) in
       omega (arith, ranges .tables)
 
-  kept-within : (n : State) → TablesFit l n → (0 + length (n .store .kept)) * area ≤ length (s .tables)
+  pub kept-within : (n : State) → TablesFit l n → (0 + length (n .store .kept)) * area ≤ length (s .tables)
   kept-within n f =
       let m : (0 + length (n .store .kept)) * area ≤ (l .sections + l .«control_ids» + 2) * area = mul-le-mul-right area (omega (arith, f .sections)) in
       omega (arith, ranges .tables)
@@ -193,13 +193,13 @@ module _ (s : Session) (ok : Sound (s .state) (s .others) (lengthsOf s)) where
     unfolding view viewBy
     control-count = ap (λ (x : List (ℕ × ControlState)). length x) (sym ec) ∙ length-indexed (controlEntry l s) 0 (controlsIn st) ∙ length-controls st
 
-    media-same : mediaIn st′ ≡ mediaIn st
+    pub media-same : mediaIn st′ ≡ mediaIn st
     media-same =
         sym (named .media st′)
         ∙ kept-places n f st (ok .there .long) media (omega (arith, f .media, ranges .ranges .media)) media-count (omega arith) (omega arith)
         ∙ named .media st
 
-    controls-same : controlsIn st′ ≡ controlsIn st
+    pub controls-same : controlsIn st′ ≡ controlsIn st
     controls-same =
         sym (named .controls st′)
         ∙ kept-places n f st (ok .there .long) controls (omega (arith, f .controls, ranges .ranges .controls)) control-count (omega arith) (omega arith)
@@ -281,22 +281,22 @@ module _ (s : Session) (ok : Sound (s .state) (s .others) (lengthsOf s)) where
     abbrev s2 : Session
     s2 = lent st2 (n .store .others) (s .objects) messages2 t3
 
-    few : i < mostControlIds
+    pub few : i < mostControlIds
     few = omega (arith, free, ranges .ranges .controls)
 
-    length-place : length (written (controlFields (controlFor id c))) ≡ 21
+    pub length-place : length (written (controlFields (controlFor id c))) ≡ 21
     length-place = length-written (controlFields (controlFor id c))
 
-    length-1 : length st1 ≡ length st
+    pub length-1 : length st1 ≡ length st
     length-1 = length-over (controlPlaces + controlSize * i) (written (controlFields (controlFor id c))) st (omega (arith, few, length-place, ok .there .long))
 
-    long-1 : stateSize ≤ length st1
+    pub long-1 : stateSize ≤ length st1
     long-1 = omega (arith, length-1, ok .there .long)
 
     used-1 : usedOf st1 ≡ usedOf st
     used-1 = used-apart (controlPlaces + controlSize * i) (written (controlFields (controlFor id c))) st (inl (omega arith)) (omega (arith, few, length-place, ok .there .long))
 
-    long-t : stateSize ≤ length (stateOfTables n st1)
+    pub long-t : stateSize ≤ length (stateOfTables n st1)
     long-t =
         let r = ranges .ranges in
         omega (arith, long-1, length-tables l n (r .media .1) (r .controls .1) (r .sections .1) f st1 long-1)
@@ -310,7 +310,7 @@ module _ (s : Session) (ok : Sound (s .state) (s .others) (lengthsOf s)) where
         ap (λ (x : List (ℕ × Asset)). length x) (sym ea) ∙ length-indexed (assetEntry l s) 0 (mediaIn st) ∙ length-media st
         ∙ ap (λ (x : Used). x .«media_ids») (sym used-1)
 
-    media-2 : mediaIn st2 ≡ mediaIn st
+    pub media-2 : mediaIn st2 ≡ mediaIn st
     media-2 =
         let r = ranges .ranges in
         let k : length (n .assets) ≤ mostMediaIds = omega (arith, f .media, r .media) in
@@ -327,7 +327,7 @@ module _ (s : Session) (ok : Sound (s .state) (s .others) (lengthsOf s)) where
         let k : length (n .controls) ≤ mostControlIds = omega (arith, f .controls, r .controls) in
         places-latest (n .store) area (r .table .1) (f .plt) (f .tot) (stateOfTables n st1) long-t controls (rw used-t k) (omega arith)
 
-    sections-t2 : sectionsIn st2 ≡ map keptPlace (n .store .kept)
+    pub sections-t2 : sectionsIn st2 ≡ map keptPlace (n .store .kept)
     sections-t2 =
         let r = ranges .ranges in
         let k : length (n .store .kept) ≤ mostSections = omega (arith, f .sections, r .sections) in
@@ -338,22 +338,22 @@ module _ (s : Session) (ok : Sound (s .state) (s .others) (lengthsOf s)) where
 
     -- ---- areas
 
-    len0 : length t0 ≡ length (s .tables)
+    pub len0 : length t0 ≡ length (s .tables)
     len0 = length-kept area (n .store .kept) 0 (s .tables) (f .kept) (kept-within n f)
 
     in0 : (k : ℕ) → k < l .sections + l .«control_ids» + 2 → (k + 1) * area ≤ length t0
     in0 k h = omega (arith, in-tables k h, len0)
 
-    len1 : length t1 ≡ length t0
+    pub len1 : length t1 ≡ length t0
     len1 = length-laid area (n .store .plt) t0 (l .sections + l .«control_ids») (f .plt) (in0 _ (omega arith))
 
     in1 : (k : ℕ) → k < l .sections + l .«control_ids» + 2 → (k + 1) * area ≤ length t1
     in1 k h = omega (arith, in0 k h, len1)
 
-    len2 : length t2 ≡ length t1
+    pub len2 : length t2 ≡ length t1
     len2 = length-laid area (n .store .tot) t1 (l .sections + l .«control_ids» + 1) (f .tot) (in1 _ (omega arith))
 
-    in2 : (k : ℕ) → k < l .sections + l .«control_ids» + 2 → (k + 1) * area ≤ length t2
+    pub in2 : (k : ℕ) → k < l .sections + l .«control_ids» + 2 → (k + 1) * area ≤ length t2
     in2 k h = omega (arith, in1 k h, len2)
 
     -- another area than that of this id's MPT; than PLT's and TOT's too
@@ -394,7 +394,7 @@ module _ (s : Session) (ok : Sound (s .state) (s .others) (lengthsOf s)) where
 
     -- ---- entries
 
-    in-messages : (i + 1) * l .«message_area» ≤ length (s .messages)
+    pub in-messages : (i + 1) * l .«message_area» ≤ length (s .messages)
     in-messages =
         let m : (i + 1) * l .«message_area» ≤ l .«control_ids» * l .«message_area» = mul-le-mul-right (l .«message_area») (omega arith) in
         omega (arith, ranges .messages)
@@ -453,60 +453,77 @@ module _ (s : Session) (ok : Sound (s .state) (s .others) (lengthsOf s)) where
         }
 
     -- ---- a place that is there
-    pub message-old : controlSeat st id ≡ Old i → Says s s2 n
-    unfolding controlSeat
-    message-old seat =
-        let e : foundFrom 0 (keys (controlEntries s)) id ≡ At i =
-        ap (λ (ns : List ℕ). foundFrom 0 ns id) (control-names s)
-        ∙ seat-was-old (namesFrom (usedOf st .«control_ids») controlSize controlPlaces st) (l .«control_ids») id i seat in
-        let z : i - 0 ≡ i = omega arith in
-        let w : Stands (controlEntries s) id i = rw z at (stands (controlEntries s) id 0 i e .1) in
-        let lu : length (controlEntries s) ≡ usedOf st .«control_ids» = length-indexed (controlEntry l s) 0 (controlsIn st) ∙ length-controls st in
-        let u : i < usedOf st .«control_ids» = omega (arith, w .within, lu) in
-        let k : length (n .controls) ≤ mostControlIds = omega (arith, f .controls, ranges .ranges .controls) in
-        let cn : length (n .controls) ≡ usedOf st1 .«control_ids» =
-        ap (λ (x : List (ℕ × ControlState)). length x) (sym ec ∙ w .stored c) ∙ length-set (controlEntries s) i (id, c) ∙ lu
-        ∙ ap (λ (x : Used). x .«control_ids») (sym used-1) in
-        let ci : controlsIn st2 ≡ set (controlsIn st) i (controlFor id c) =
-        sym (named .controls st2) ∙ controls-2
-        ∙ kept-places n f st1 long-1 controls k cn (omega arith) (omega arith)
-        ∙ place-set controls st (ok .there .long) (controlFor id c) fits i u few
-        ∙ ap (λ (x : List Control). set x i (controlFor id c)) (named .controls st) in
-        message-says
-        (ap (indexed (controlEntry l s2) 0) ci
-        ∙ indexed-set (controlEntry l s2) (controlsIn st) 0 i (controlFor id c)
-        ∙ set-indexed (controlEntry l s2) (controlEntry l s) (controlFor id c) (controlsIn st) 0 i (controlEntry l s2 (0 + i) (controlFor id c))
-        (λ j b ne. other-entry j b ne)
-        ∙ ap (λ (x : ℕ × ControlState). set (controlEntries s) i x) own-entry
-        ∙ sym (w .stored c))
+    module _ (seat : controlSeat st id ≡ Old i) where
+      stands-old : Stands (controlEntries s) id i
+      unfolding controlSeat
+      stands-old =
+          let e : foundFrom 0 (keys (controlEntries s)) id ≡ At i =
+          ap (λ (ns : List ℕ). foundFrom 0 ns id) (control-names s)
+          ∙ seat-was-old (namesFrom (usedOf st .«control_ids») controlSize controlPlaces st) (l .«control_ids») id i seat in
+          let z : i - 0 ≡ i = omega arith in
+          rw z at (stands (controlEntries s) id 0 i e .1)
+
+      pub controls-old : controlsIn st2 ≡ set (controlsIn st) i (controlFor id c)
+      controls-old =
+          let w = stands-old in
+          let lu : length (controlEntries s) ≡ usedOf st .«control_ids» = length-indexed (controlEntry l s) 0 (controlsIn st) ∙ length-controls st in
+          let u : i < usedOf st .«control_ids» = omega (arith, w .within, lu) in
+          let k : length (n .controls) ≤ mostControlIds = omega (arith, f .controls, ranges .ranges .controls) in
+          let cn : length (n .controls) ≡ usedOf st1 .«control_ids» =
+          ap (λ (x : List (ℕ × ControlState)). length x) (sym ec ∙ w .stored c) ∙ length-set (controlEntries s) i (id, c) ∙ lu
+          ∙ ap (λ (x : Used). x .«control_ids») (sym used-1) in
+          sym (named .controls st2) ∙ controls-2
+          ∙ kept-places n f st1 long-1 controls k cn (omega arith) (omega arith)
+          ∙ place-set controls st (ok .there .long) (controlFor id c) fits i u few
+          ∙ ap (λ (x : List Control). set x i (controlFor id c)) (named .controls st)
+
+      pub message-old : Says s s2 n
+      message-old =
+          message-says
+          (ap (indexed (controlEntry l s2) 0) controls-old
+          ∙ indexed-set (controlEntry l s2) (controlsIn st) 0 i (controlFor id c)
+          ∙ set-indexed (controlEntry l s2) (controlEntry l s) (controlFor id c) (controlsIn st) 0 i (controlEntry l s2 (0 + i) (controlFor id c))
+          (λ j b ne. other-entry j b ne)
+          ∙ ap (λ (x : ℕ × ControlState). set (controlEntries s) i x) own-entry
+          ∙ sym (stands-old .stored c))
 
     -- ---- a new place
-    pub message-new : controlSeat st id ≡ New i → Says s s2 n
-    unfolding controlSeat
-    message-new seat =
-        let w = seat-was-new (namesFrom (usedOf st .«control_ids») controlSize controlPlaces st) (l .«control_ids») id i seat in
-        let e : foundFrom 0 (keys (controlEntries s)) id ≡ Nothing =
-        ap (λ (ns : List ℕ). foundFrom 0 ns id) (control-names s) ∙ w .0 in
-        let a = absent (controlEntries s) id 0 e .1 c in
-        let is : i ≡ usedOf st .«control_ids» = w .1 .0 ∙ length-names controlSize (usedOf st .«control_ids») controlPlaces st in
-        let lu : length (controlEntries s) ≡ usedOf st .«control_ids» = length-indexed (controlEntry l s) 0 (controlsIn st) ∙ length-controls st in
-        let cn : length (n .controls) ≡ suc (usedOf st .«control_ids») =
-        ap (λ (x : List (ℕ × ControlState)). length x) (sym ec ∙ a) ∙ length-append (controlEntries s) ((id, c) ∷ []) ∙ (omega (arith, lu)) in
-        let k : length (n .controls) ≤ mostControlIds = omega (arith, f .controls, ranges .ranges .controls) in
-        let r = ranges .ranges in
-        let uf = used-fits l n (r .media .1) (r .controls .1) (r .sections .1) f st1 long-1 in
-        let ci : controlsIn st2 ≡ controlsIn st ++ (controlFor id c ∷ []) =
-        sym (named .controls st2) ∙ controls-2
-        ∙ others-tables l n (r .media .1) (r .controls .1) (r .sections .1) f st1 long-1 controls k (omega arith) (omega arith)
-        ∙ ap (λ m. inUse controls (withUsed (usedFor n) (withControl m id c st))) is
-        ∙ place-new controls st (ok .there .long) (controlFor id c) fits (usedFor n) cn uf (omega (arith, is, few))
-        ∙ ap (λ (x : List Control). x ++ (controlFor id c ∷ [])) (named .controls st) in
-        let nl : length (controlsIn st) ≡ i = length-controls st ∙ sym is in
-        message-says
-        (ap (indexed (controlEntry l s2) 0) ci
-        ∙ indexed-snoc (controlEntry l s2) (controlsIn st) 0 (controlFor id c)
-        ∙ ap (λ (es : List (ℕ × ControlState)). es ++ (controlEntry l s2 (0 + length (controlsIn st)) (controlFor id c) ∷ []))
-        (indexed-same (controlEntry l s2) (controlEntry l s) (controlFor id c) (controlsIn st) 0 (λ j b. other-entry j b (λ q. omega (arith, nl))))
-        ∙ ap (λ (x : ℕ × ControlState). controlEntries s ++ (x ∷ []))
-        (ap (λ m. controlEntry l s2 (0 + m) (controlFor id c)) nl ∙ own-entry)
-        ∙ sym a)
+    module _ (seat : controlSeat st id ≡ New i) where
+      is-last : (i ≡ usedOf st .«control_ids») × (put id c (controlEntries s) ≡ controlEntries s ++ ((id, c) ∷ []))
+      unfolding controlSeat
+      is-last =
+          let w = seat-was-new (namesFrom (usedOf st .«control_ids») controlSize controlPlaces st) (l .«control_ids») id i seat in
+          let e : foundFrom 0 (keys (controlEntries s)) id ≡ Nothing =
+          ap (λ (ns : List ℕ). foundFrom 0 ns id) (control-names s) ∙ w .0 in (
+            w .1 .0 ∙ length-names controlSize (usedOf st .«control_ids») controlPlaces st,
+            absent (controlEntries s) id 0 e .1 c,
+          )
+
+      pub controls-new : controlsIn st2 ≡ controlsIn st ++ (controlFor id c ∷ [])
+      controls-new =
+          let is = is-last .0 in
+          let lu : length (controlEntries s) ≡ usedOf st .«control_ids» = length-indexed (controlEntry l s) 0 (controlsIn st) ∙ length-controls st in
+          let cn : length (n .controls) ≡ suc (usedOf st .«control_ids») =
+          ap (λ (x : List (ℕ × ControlState)). length x) (sym ec ∙ is-last .1) ∙ length-append (controlEntries s) ((id, c) ∷ []) ∙ (omega (arith, lu)) in
+          let k : length (n .controls) ≤ mostControlIds = omega (arith, f .controls, ranges .ranges .controls) in
+          let r = ranges .ranges in
+          let uf = used-fits l n (r .media .1) (r .controls .1) (r .sections .1) f st1 long-1 in
+          sym (named .controls st2) ∙ controls-2
+          ∙ others-tables l n (r .media .1) (r .controls .1) (r .sections .1) f st1 long-1 controls k (omega arith) (omega arith)
+          ∙ ap (λ m. inUse controls (withUsed (usedFor n) (withControl m id c st))) is
+          ∙ place-new controls st (ok .there .long) (controlFor id c) fits (usedFor n) cn uf (omega (arith, is, few))
+          ∙ ap (λ (x : List Control). x ++ (controlFor id c ∷ [])) (named .controls st)
+
+      pub all-before : length (controlsIn st) ≡ i
+      all-before = length-controls st ∙ sym (is-last .0)
+
+      pub message-new : Says s s2 n
+      message-new =
+          message-says
+          (ap (indexed (controlEntry l s2) 0) controls-new
+          ∙ indexed-snoc (controlEntry l s2) (controlsIn st) 0 (controlFor id c)
+          ∙ ap (λ (es : List (ℕ × ControlState)). es ++ (controlEntry l s2 (0 + length (controlsIn st)) (controlFor id c) ∷ []))
+          (indexed-same (controlEntry l s2) (controlEntry l s) (controlFor id c) (controlsIn st) 0 (λ j b. other-entry j b (λ q. omega (arith, all-before))))
+          ∙ ap (λ (x : ℕ × ControlState). controlEntries s ++ (x ∷ []))
+          (ap (λ m. controlEntry l s2 (0 + m) (controlFor id c)) all-before ∙ own-entry)
+          ∙ sym (is-last .1))

@@ -215,11 +215,11 @@ module _ (s : Session) (ok : Sound (s .state) (s .others) (lengthsOf s)) where
     abbrev n : State
     n = pushed (view s) (message c)
 
-    own : put (c .id) (controlOf (c .id) n) (controlEntries s) ≡ n .controls
+    pub own : put (c .id) (controlOf (c .id) n) (controlEntries s) ≡ n .controls
     unfolding pushed controlOf orElse view viewBy
     own = rw (find-put (c .id) _ (controlEntries s))
 
-    seat-free : controlSeat st (c .id) ≡ Full → ⊥
+    pub seat-free : controlSeat st (c .id) ≡ Full → ⊥
     unfolding controlSeat needs
     seat-free e =
         let w = seat-was-full (namesFrom (usedOf st .«control_ids») controlSize controlPlaces st) (l .«control_ids») (c .id) e in
@@ -231,7 +231,7 @@ module _ (s : Session) (ok : Sound (s .state) (s .others) (lengthsOf s)) where
         length-names controlSize (usedOf st .«control_ids») controlPlaces st in
         omega (arith, yes .controls, k, w .1, m, seen-controls s)
 
-    old-free : (i : ℕ) → controlSeat st (c .id) ≡ Old i → i < l .«control_ids»
+    pub old-free : (i : ℕ) → controlSeat st (c .id) ≡ Old i → i < l .«control_ids»
     unfolding controlSeat
     old-free i e =
         let q : foundFrom 0 (keys (controlEntries s)) (c .id) ≡ At i =
@@ -240,7 +240,7 @@ module _ (s : Session) (ok : Sound (s .state) (s .others) (lengthsOf s)) where
         let w = stands (controlEntries s) (c .id) 0 i q in
         omega (arith, w .0, w .1 .within, length-indexed (controlEntry l s) 0 (controlsIn st), length-controls st, ok .controls)
 
-    new-free : (i : ℕ) → controlSeat st (c .id) ≡ New i → i < l .«control_ids»
+    pub new-free : (i : ℕ) → controlSeat st (c .id) ≡ New i → i < l .«control_ids»
     unfolding controlSeat
     new-free i e = seat-was-new (namesFrom (usedOf st .«control_ids») controlSize controlPlaces st) (l .«control_ids») (c .id) i e .1 .1
 
@@ -255,12 +255,12 @@ module _ (s : Session) (ok : Sound (s .state) (s .others) (lengthsOf s)) where
     at-seat Full e = absurd (seat-free e)
 
   -- ---- a control packet has no PLT and no TOT
-  sections-plt : (bs : List Bytes) (x : Store) → storedAll x (controlTables bs) .plt ≡ x .plt
+  pub sections-plt : (bs : List Bytes) (x : Store) → storedAll x (controlTables bs) .plt ≡ x .plt
   unfolding storedAll stored
   sections-plt [] x = refl
   sections-plt (b ∷ bs) x = sections-plt bs (stored x (aSection (sectionOf b)))
 
-  sections-tot : (bs : List Bytes) (x : Store) → storedAll x (controlTables bs) .tot ≡ x .tot
+  pub sections-tot : (bs : List Bytes) (x : Store) → storedAll x (controlTables bs) .tot ≡ x .tot
   unfolding storedAll stored
   sections-tot [] x = refl
   sections-tot (b ∷ bs) x = sections-tot bs (stored x (aSection (sectionOf b)))

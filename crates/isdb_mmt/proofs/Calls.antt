@@ -1,0 +1,383 @@
+-- The claim over lists of calls: refusals change nothing, what is accepted and handed out is a run of the model, the session stays one
+-- that passes question 5, and what it keeps parses. Assumes nothing.
+use Prim.Native.Nat.{ℕ, zero, suc, _+_, _*_, _/_, _^_, _≤_, _<_}
+use mathlib.Core.Path.{_≡_, refl, sym, ap, _∙_}
+use mathlib.Core.Bool.{Bool, true, false, not, cond}
+use mathlib.Core.Option.{Option, none, some}
+use mathlib.Core.List.{List, [], _∷_, _++_}
+use native.Mathlib.Omega.{arith}
+use lib.ListN.{length}
+use lib.Dec.{eqb}
+use borrow.Author.Tests.{eqb-true, eqb-false}
+use Rattle.isdb_tlv.proofs.Guards.{either}
+use Rattle.isdb_mmt.specs.Packet.{Bytes, Packet}
+use Rattle.isdb_mmt.specs.Part.{partOf}
+use Rattle.isdb_mmt.specs.Maps.{find, orElse}
+use Rattle.isdb_mmt.specs.Objects.{Rec}
+use Rattle.isdb_mmt.specs.Joins.{idle}
+use Rattle.isdb_mmt.specs.Kept.{Kept, Section, parsesAs}
+use Rattle.isdb_mmt.specs.Lent.{placesFrom}
+use Rattle.isdb_mmt.specs.Mpt.{mptOf, serviceId, assetsFrom}
+use Rattle.isdb_mmt.specs.Model.{State, Control as ControlState, idleControl, controlOf as controlIn, opened, pushed, gives}
+use Rattle.isdb_mmt.specs.Needs.{needs}
+use Rattle.isdb_mmt.specs.Book.{wellFormed, FirstOfLastRun}
+use Rattle.isdb_mmt.specs.Demand.{pushAll, giveAll, EverySmall, Keeps, never, keeps, Holds}
+use Rattle.isdb_mmt.specs.Limits.{asked}
+use Rattle.isdb_mmt.specs.Layout.{mediaPlaces, mediaSize, controlPlaces, controlSize, sectionPlaces, sectionSize}
+use Rattle.isdb_mmt.specs.Session.{Session, limitsOf, usedOf, latestOf, timeOf, mediaAt, controlAt, sectionAt, mediaPlaceOf, controlPlaceOf, sectionPlaceOf}
+use Rattle.isdb_mmt.specs.Check.{mediaIn, controlsIn, sectionsIn, lengthsOf, sound}
+use Rattle.isdb_mmt.specs.View.{given, controlStateOf, assetEntry, controlEntry, sectionEntry, viewBy, view}
+use Rattle.isdb_mmt.specs.Opening.{openedSession}
+use Rattle.isdb_mmt.specs.Octets.{Octets, Lent}
+use Rattle.isdb_mmt.specs.Records.{readRows}
+use Rattle.isdb_mmt.specs.Leaves.{packetLeaves}
+use Rattle.isdb_mmt.specs.Push.{Input, packetOf, asks, Taken, Pushed, handed as handedBy}
+use Rattle.isdb_mmt.specs.Readings.{mediaFound, controlFound, sectionFound, countersRead, timeRead, countRead, nextMediaRead, nextControlRead, nextKeyRead, nameTold, leastFrom, mediaRead, mediaIf, heldRead, heldIf, heldAt, controlRead, controlIf, sectionPart, mptPart, mptAt, pltPart, totPart, tableIf, sectionRead, mptRead, pltRead, totRead, tableIdOf, firstCarried, carried, assetIn, assetIf, assetAmong, assetRead, timeNumber, nameNumber, mediaNumber, heldNumber, controlNumber, tableNumber, assetNumber, timeAt, controlNames, mediaNames, keysIn, ascending, mostName}
+use Rattle.isdb_mmt.specs.Calls.{keptAt, keptIn, droppedIn, lostIn, heldIn, Reading, counters, time, count, nextMedia, nextControl, nextKey, mediaOf, held, controlOf, mpt, plt, tot, section, assetOf, readingNumber, Call, push, read, Reply, Decoder, after, pushes, accepted, handed, AllBytes, leavesOf, replied, replyOf, decoder, Determined, PushDetermined, Told, nothing, bytes, toldBy, Tells, none-kept, kept, After, Demand3}
+use Rattle.isdb_mmt.specs.declared.part.Part.{Part}
+use Rattle.isdb_mmt.specs.declared.maybe.MaybeU32.{MaybeU32}
+use Rattle.isdb_mmt.specs.declared.maybe.MaybeU32.the-variants.{None as noU32, Some as someU32}
+use Rattle.isdb_mmt.specs.declared.maybe.MaybeU16.{MaybeU16}
+use Rattle.isdb_mmt.specs.declared.table.mpt.Asset.{Asset}
+use Rattle.isdb_mmt.specs.declared.table.mpt.MaybeMpt.{MaybeMpt}
+use Rattle.isdb_mmt.specs.declared.table.mpt.MaybeMpt.the-variants.{None as noMpt, Some as someMpt}
+use Rattle.isdb_mmt.specs.Kept.{mptParses}
+use Rattle.isdb_mmt.specs.declared.decoder.place.Found.{Found}
+use Rattle.isdb_mmt.specs.declared.decoder.place.Found.the-variants.{At, Nothing}
+use Rattle.isdb_mmt.specs.declared.decoder.limits.Limits.{Limits}
+use Rattle.isdb_mmt.specs.declared.decoder.head.Time.{Time}
+use Rattle.isdb_mmt.specs.declared.decoder.media.Media.{Media}
+use Rattle.isdb_mmt.specs.declared.decoder.control.Control.{Control}
+use Rattle.isdb_mmt.specs.declared.decoder.section.KeptSection.{KeptSection}
+use Rattle.isdb_mmt.specs.declared.decoder.readings.AssetReading.{AssetReading}
+use Rattle.isdb_mmt.proofs.Names.{clash}
+use Rattle.isdb_mmt.proofs.Every.{Every, every-found}
+use Rattle.isdb_mmt.proofs.Fits.{mostAdded}
+use Rattle.isdb_mmt.proofs.Stores.{Whole, KeptFits, mptGood, pltGood, totGood}
+use Rattle.isdb_mmt.proofs.Brief.{plain-of, lent-opened}
+use Rattle.isdb_mmt.proofs.Ready.{Ready, Takes, ControlFits, ready-push, ready-opened}
+use Rattle.isdb_mmt.proofs.Stays.{Exact, is-ready, length-view}
+use Rattle.isdb_mmt.proofs.Lasting.{Lasts, lasting, packet-lasts}
+use Rattle.isdb_mmt.proofs.Checks.{sound-session}
+use Rattle.isdb_mmt.proofs.Opening.{opening}
+use Rattle.isdb_mmt.proofs.Smallness.{small-of}
+use Rattle.isdb_mmt.proofs.PacketLeaves.{taken}
+use Rattle.isdb_mmt.proofs.Accepted.{stores-of, push-moved, push-lent, push-gave}
+use Rattle.isdb_mmt.proofs.Said.{mediaEntry, controlAtPlace, keptEntry, control-found, dropped-said, lost-said, held-said, kept-said}
+use Rattle.isdb_mmt.proofs.Demand.{demand}
+
+-- ---- a push, accepted or not
+
+module _ (s : Session) (x : Input) where
+  reply-number : replyOf s x .number ≡ asks s x
+  unfolding replyOf
+  reply-number = either (eqb (asks s x) 0) (λ t. rw t (sym (eqb-true (asks s x) 0 t))) (λ f. rw f)
+
+  leaves-taken : eqb (asks s x) 0 ≡ true → leavesOf s x ≡ packetLeaves s (packetOf x)
+  unfolding leavesOf
+  leaves-taken t = rw t
+
+  leaves-same : eqb (asks s x) 0 ≡ false → leavesOf s x ≡ s
+  unfolding leavesOf
+  leaves-same f = rw f
+
+  abbrev readBack : List Rec
+  readBack = readRows (replyOf s x .records) (replyOf s x .rows) (replyOf s x .out)
+
+  reply-gave : eqb (asks s x) 0 ≡ true → readBack ≡ handedBy s x
+  unfolding replyOf handedBy
+  reply-gave t = rw t
+
+  reply-none : eqb (asks s x) 0 ≡ false → readBack ≡ []
+  unfolding replyOf readRows placesFrom
+  reply-none f = rw f
+
+-- ---- lists of calls, whatever `Good` is: it stays shut while they are gone through
+
+pub record Steps (Good : Session → Type 0) : Type 0 where
+  pub moved : (s : Session) (x : Input) → Good s → Octets (x .bytes) → asks s x ≡ 0 → view (packetLeaves s (packetOf x)) ≡ pushed (view s) (packetOf x)
+  pub gave : (s : Session) (x : Input) → Good s → Octets (x .bytes) → asks s x ≡ 0 → handedBy s x ≡ gives (view s) (packetOf x)
+  pub stays : (s : Session) (x : Input) → Good s → Octets (x .bytes) → asks s x ≡ 0 → Good (packetLeaves s (packetOf x))
+
+module _ (Good : Session → Type 0) (r : Steps Good) where
+  -- from `s` the calls came to `s′` and handed out `hs`, and `ps` are the packets accepted
+  pub record Ran (s s′ : Session) (hs : List Rec) (ps : List Packet) : Type 0 where
+    pub comes : view s′ ≡ pushAll (view s) ps
+    pub hands : hs ≡ giveAll (view s) ps
+    pub small : EverySmall ps
+    pub good : Good s′
+
+  -- one push, by whether it is accepted
+  one-taken : (s s′ : Session) (x : Input) (hs : List Rec) (ps : List Packet) → asks s x ≡ 0 → Good s → Octets (x .bytes)
+      → Ran (packetLeaves s (packetOf x)) s′ hs ps → Ran s s′ (handedBy s x ++ hs) (packetOf x ∷ ps)
+  unfolding pushAll giveAll
+  one-taken s s′ x hs ps e g o y =
+      let q = taken s x e in
+      let m = r .moved s x g o e in
+      record {
+        comes = rw m at (y .comes);
+        hands = rw (r .gave s x g o e, ← m, y .hands);
+        small = (small-of (x .kind) (x .bytes) (omega (arith, q .short)), y .small);
+        good = y .good;
+      }
+
+  pub ran : (s : Session) (cs : List Call) → Good s → AllBytes cs
+      → Ran s (after decoder s cs) (handed (pushes decoder s cs)) (accepted (pushes decoder s cs))
+  unfolding after pushes accepted handed pushAll giveAll
+  ran s [] g a = record { comes = refl; hands = refl; small = tt; good = g }
+  ran s (read k ∷ cs) g a = ran s cs g a
+  ran s (push x ∷ cs) g a =
+      either (eqb (asks s x) 0)
+      (λ t.
+      let e = eqb-true (asks s x) 0 t in
+      rw (reply-number s x, t, leaves-taken s x t, reply-gave s x t)
+      (one-taken s (after decoder (packetLeaves s (packetOf x)) cs) x (handed (pushes decoder (packetLeaves s (packetOf x)) cs))
+      (accepted (pushes decoder (packetLeaves s (packetOf x)) cs)) e g (a .0)
+      (ran (packetLeaves s (packetOf x)) cs (r .stays s x g (a .0) e) (a .1))))
+      (λ f. rw (reply-number s x, f, leaves-same s x f, reply-none s x f) (ran s cs g (a .1)))
+
+  -- ids and keys, from a session that is the model's opened state
+  pub holds-after : (pass : Bool) (s : Session) (cs : List Call) → view s ≡ opened pass → Good s → AllBytes cs
+      → Holds (droppedIn (after decoder s cs)) (lostIn (after decoder s cs)) (heldIn (after decoder s cs)) (keptIn (after decoder s cs))
+      (handed (pushes decoder s cs)) (accepted (pushes decoder s cs))
+  holds-after pass s cs o g a =
+      let y = ran s cs g a in
+      let ps = accepted (pushes decoder s cs) in
+      let c : view (after decoder s cs) ≡ pushAll (opened pass) ps = rw o at (y .comes) in
+      let h : handed (pushes decoder s cs) ≡ giveAll (opened pass) ps = rw o at (y .hands) in
+      let d = demand pass ps (y .small) in
+      record {
+        ids = λ i. rw (dropped-said (after decoder s cs) i, lost-said (after decoder s cs) i, held-said (after decoder s cs) i, c, h) (d .ids i);
+        keys = λ k. rw (kept-said (after decoder s cs) k, c) (d .keys k);
+      }
+
+-- ---- what no call breaks
+
+pub record Good (s : Session) : Type 0 where
+  pub lent : Lent s
+  pub limits : asked (limitsOf (s .state)) (lengthsOf s) ≡ 0
+  pub session : sound s ≡ true
+  pub bound : ℕ
+  pub ready : Ready (limitsOf (s .state)) bound (view s)
+
+-- the questions, of the view
+takes : (s : Session) (x : Input) → Taken s x → Takes (limitsOf (s .state)) (view s) (packetOf x)
+unfolding view viewBy mediaIn controlsIn sectionsIn
+takes s x q =
+    let l = limitsOf (s .state) in
+    let u = usedOf (s .state) in
+    let m1 = length-view mediaPlaceOf (λ m. m .«packet_id») (assetEntry l s) mediaSize mediaPlaces (u .«media_ids») (s .state) in
+    let m2 = length-view controlPlaceOf (λ m. m .«packet_id») (controlEntry l s) controlSize controlPlaces (u .«control_ids») (s .state) in
+    let m3 = length-view sectionPlaceOf (λ m. m .key) (sectionEntry l s) sectionSize sectionPlaces (u .sections) (s .state) in
+    record {
+      packets = q .packets;
+      media = omega (arith, m1, q .fits .media);
+      lines = omega (arith, m2, q .fits .controls);
+      sections = omega (arith, m3, q .fits .sections);
+      object = q .fits .object;
+      message = q .fits .message;
+      table = q .fits .table;
+    }
+
+same-lengths : (s s′ : Session) → Lasts s s′ → lengthsOf s′ ≡ lengthsOf s
+same-lengths s s′ h = λ i. record { state = h .state i; objects = h .objects i; messages = h .messages i; tables = h .tables i }
+
+stays : (s : Session) (x : Input) → Good s → Octets (x .bytes) → asks s x ≡ 0 → Good (packetLeaves s (packetOf x))
+stays s x g o e =
+    let q = taken s x e in
+    let ok = sound-session s (q .session) in
+    let s′ = packetLeaves s (packetOf x) in
+    let st = stores-of s ok (g .lent) (x .kind) (x .bytes) (q .short) o (length (x .rows)) (length (x .out)) (q .fits) (packetOf x) refl in
+    let t : Lasts s s′ = packet-lasts s ok (packetOf x) (length (x .rows)) (length (x .out)) (q .fits) st in
+    let a : asked (limitsOf (s′ .state)) (lengthsOf s′) ≡ 0 = rw (t .limits, same-lengths s s′ t) (g .limits) in
+    let p = plain-of (x .kind) (x .bytes) (omega (arith, q .short)) o in
+    let y = ready-push (limitsOf (s .state)) (g .bound) (view s) (g .ready) (packetOf x) p (takes s x q) in
+    let z : Ready (limitsOf (s′ .state)) (g .bound + mostAdded) (view s′) = rw (t .limits, push-moved s (g .lent) x o e) y in
+    record {
+      lent = push-lent s (g .lent) x o e;
+      limits = a;
+      session = is-ready s′ (g .bound + mostAdded) a (lasting s ok s′ t) z;
+      bound = g .bound + mostAdded;
+      ready = z;
+    }
+
+steps : Steps Good
+steps =
+    record {
+      moved = λ s x g o e. push-moved s (g .lent) x o e;
+      gave = λ s x g o e. push-gave s (g .lent) x o e;
+      stays = λ s x g o e. stays s x g o e;
+    }
+
+-- ---- readings: what is kept parses
+
+abbrev Sure : (Bytes → Bool) → Bytes → Option Part → Type 0
+Sure parses t none = Unit {0}
+Sure parses t (some p) = parses (partOf t p) ≡ true
+
+table-zero : (parses : Bytes → Bool) (t : Bytes) (o : Option Part) → Sure parses t o → tableNumber (tableIf parses t o) ≡ 0
+table-zero parses t none h = refl
+table-zero parses t (some p) h = rw h
+
+abbrev Parsing : (Bytes → Bool) → Option Kept → Type 0
+Parsing parses none = Unit {0}
+Parsing parses (some x) = parses (x .bytes) ≡ true
+
+kept-parses : (area k : ℕ) (m : List (ℕ × Kept)) → Every (KeptFits area) m → Parsing (parsesAs (tableIdOf k)) (find k m)
+unfolding find
+kept-parses area k [] h = tt
+kept-parses area k (e ∷ m) h =
+    either (eqb k (e .0)) (λ t. let x = h .0 .parses in rw (t, eqb-true k (e .0) t) x) (λ f. rw f (kept-parses area k m (h .1)))
+
+abbrev keptTold : Option Kept → Told
+keptTold none = nothing
+keptTold (some x) = bytes (x .bytes)
+
+tells : (o : Option Kept) (xs : List Section) → Keeps o xs → Tells (keptTold o) xs
+tells _ _ never = none-kept
+tells _ _ (keeps x f) = kept x f
+
+module _ (s : Session) (e : sound s ≡ true) (n : ℕ) (z : Ready (limitsOf (s .state)) n (view s)) where
+  abbrev l : Limits
+  l = limitsOf (s .state)
+
+  section-parses : (k : ℕ) → Parsing (parsesAs (tableIdOf k)) (keptIn s k)
+  section-parses k = rw (kept-said s k) (kept-parses (l .«table_area») k (view s .store .kept) (z .store .kept))
+
+  section-told : (parses : Bytes → Bool) (f : Found) → Parsing parses (keptAt s f) → toldBy (s .tables) (tableIf parses (s .tables) (sectionPart s f)) ≡ keptTold (keptAt s f)
+  section-told parses Nothing h = refl
+  section-told parses (At i) h = rw h
+
+  pub section-tells : (k : ℕ) → toldBy (s .tables) (sectionRead s k) ≡ keptTold (keptIn s k)
+  unfolding sectionRead keptIn
+  section-tells k = rw e (section-told (parsesAs (tableIdOf k)) (sectionFound s k) (section-parses k))
+
+  section-sure : (parses : Bytes → Bool) (f : Found) → Parsing parses (keptAt s f) → Sure parses (s .tables) (sectionPart s f)
+  section-sure parses Nothing h = tt
+  section-sure parses (At i) h = h
+
+  given-sure : (parses : Bytes → Bool) (area : ℕ) (b : Bool) (p : Part) → Whole parses area (given b (partOf (s .tables) p)) → Sure parses (s .tables) (given b p)
+  given-sure parses area true p h = h .1
+  given-sure parses area false p h = tt
+
+  idle-whole : ControlFits l idleControl
+  unfolding idleControl idle
+  idle-whole = record { joins = tt; mpt = tt }
+
+  mpt-whole : (id : ℕ) → Whole mptGood (l .«table_area») (orElse idleControl (controlAtPlace s (controlFound s id)) .mpt)
+  mpt-whole id =
+      rw (control-found s id) at (every-found (λ i c. ControlFits l c) idleControl id idle-whole (view s .controls) (z .controls) .mpt)
+
+  mpt-sure : (f : Found) → Whole mptGood (l .«table_area») (orElse idleControl (controlAtPlace s f) .mpt) → Sure mptGood (s .tables) (mptPart s f)
+  unfolding controlStateOf orElse idleControl
+  mpt-sure Nothing h = tt
+  mpt-sure (At i) h =
+      given-sure mptGood (l .«table_area») (controlAt (s .state) i .mpt)
+      (record { start = (l .sections + i) * l .«table_area»; length = controlAt (s .state) i .«mpt_length» }) h
+
+  -- ---- the asset of a packet id
+
+  carried-zero : (id : ℕ) (m : Part) (v : MaybeU16) (o : Option Asset) (rest : AssetReading) → assetNumber rest ≡ 0 → assetNumber (carried id m v o rest) ≡ 0
+  carried-zero id m v none rest h = h
+  carried-zero id m v (some a) rest h = refl
+
+  in-zero : (p id : ℕ) (m : Part) (b : Bytes) (t : MaybeMpt) (rest : AssetReading) → mptParses t ≡ true → assetNumber rest ≡ 0
+      → assetNumber (assetIn p id m b t rest) ≡ 0
+  in-zero p id m b noMpt rest k h = clash false k refl
+  in-zero p id m b (someMpt t) rest k h =
+      carried-zero id m (serviceId b (t .«package_id»)) (firstCarried p b (assetsFrom (t .assets) b (t .start) .found)) rest h
+
+  if-zero : (p id : ℕ) (o : Option Part) (rest : AssetReading) → Sure mptGood (s .tables) o → assetNumber rest ≡ 0 → assetNumber (assetIf p (s .tables) id o rest) ≡ 0
+  if-zero p id none rest k h = h
+  if-zero p id (some m) rest k h = in-zero p id m (partOf (s .tables) m) (mptOf (partOf (s .tables) m) .mpt) rest k h
+
+  among-zero : (p : ℕ) (ids : List ℕ) → assetNumber (assetAmong s p ids) ≡ 0
+  unfolding assetAmong
+  among-zero p [] = refl
+  among-zero p (id ∷ ids) =
+      if-zero p id (mptPart s (controlFound s id)) (assetAmong s p ids) (mpt-sure (controlFound s id) (mpt-whole id)) (among-zero p ids)
+
+  -- ---- the others
+
+  time-zero : (t : Time) → timeNumber (timeAt t) ≡ 0
+  time-zero t = either (t .seen) (λ q. rw q) (λ q. rw q)
+
+  name-zero : (x : MaybeU32) → nameNumber (nameTold x) ≡ 0
+  name-zero noU32 = refl
+  name-zero (someU32 x) = refl
+
+  media-zero : (f : Found) → mediaNumber (mediaIf s f) ≡ 0
+  media-zero Nothing = refl
+  media-zero (At i) = refl
+
+  object-zero : (i : ℕ) (m : Media) → heldNumber (heldAt l i m) ≡ 0
+  object-zero i m = either (m .held) (λ q. rw q) (λ q. rw q)
+
+  held-zero : (f : Found) → heldNumber (heldIf s f) ≡ 0
+  held-zero Nothing = refl
+  held-zero (At i) = object-zero i (mediaAt (s .state) i)
+
+  control-zero : (f : Found) → controlNumber (controlIf s f) ≡ 0
+  control-zero Nothing = refl
+  control-zero (At i) = refl
+
+  pub reading-zero : (r : Reading) → readingNumber s r ≡ 0
+  unfolding readingNumber countersRead timeRead countRead nextMediaRead nextControlRead nextKeyRead mediaRead heldRead controlRead sectionRead mptRead pltRead totRead assetRead view viewBy keptIn
+  reading-zero counters = rw e
+  reading-zero time = rw e (time-zero (timeOf (s .state)))
+  reading-zero (count id) = rw e
+  reading-zero (nextMedia a) = rw e (name-zero (leastFrom noU32 a mostName (mediaNames s)))
+  reading-zero (nextControl a) = rw e (name-zero (leastFrom noU32 a mostName (controlNames s)))
+  reading-zero (nextKey a b) = rw e (name-zero (leastFrom noU32 a b (keysIn s)))
+  reading-zero (mediaOf id) = rw e (media-zero (mediaFound s id))
+  reading-zero (held id) = rw e (held-zero (mediaFound s id))
+  reading-zero (controlOf id) = rw e (control-zero (controlFound s id))
+  reading-zero (mpt id) = rw e (table-zero mptGood (s .tables) (mptPart s (controlFound s id)) (mpt-sure (controlFound s id) (mpt-whole id)))
+  reading-zero plt = rw e (table-zero pltGood (s .tables) (pltPart s) (given-sure pltGood (l .«table_area») (latestOf (s .state) .plt) _ (z .store .plt)))
+  reading-zero tot = rw e (table-zero totGood (s .tables) (totPart s) (given-sure totGood (l .«table_area») (latestOf (s .state) .tot) _ (z .store .tot)))
+  reading-zero (section k) =
+      rw e (table-zero (parsesAs (tableIdOf k)) (s .tables) (sectionPart s (sectionFound s k)) (section-sure (parsesAs (tableIdOf k)) (sectionFound s k) (section-parses k)))
+  reading-zero (assetOf p) = rw e (among-zero p (ascending (controlNames s)))
+
+-- ---- demand 3
+
+pub demand-3 : Demand3 decoder
+demand-3 l s a o cs b =
+    let f = opening l s a in
+    let s0 = openedSession l s in
+    let g : Good s0 =
+    record {
+      lent = lent-opened l s o;
+      limits = sound-session s0 (f .session) .limits;
+      session = f .session;
+      bound = 0;
+      ready = rw (f .state) (ready-opened (limitsOf (s0 .state)) (l .«pass_scrambled»));
+    } in
+    let y = ran Good steps s0 cs g b in
+    let s′ = after decoder s0 cs in
+    let h = holds-after Good steps (l .«pass_scrambled») s0 cs (f .state) g b in
+    record {
+      holds = h;
+      reads = λ k. rw (section-tells s′ (y .good .session) (y .good .bound) (y .good .ready) k) (tells (keptIn s′ k) (wellFormed k (accepted (pushes decoder s0 cs))) (h .keys k));
+      session = y .good .session;
+      readings = reading-zero s′ (y .good .session) (y .good .bound) (y .good .ready);
+    }
+
+-- ---- what the contract of a push says fixes it
+
+pub push-determined : PushDetermined
+unfolding leavesOf replyOf
+push-determined s x r records n s′ rows out p =
+    either (eqb (asks s x) 0)
+    (λ t.
+    let z : r ≡ 0 = p .number ∙ eqb-true (asks s x) 0 t in
+    record {
+      leaves = rw t (p .session z);
+      replies = rw t (λ i. record { number = z i; records = p .counts z .0 i; bytes = p .counts z .1 i; rows = p .rowsAre z i; out = p .dataAre z i });
+    })
+    (λ f.
+    let z : r ≡ 0 → ⊥ = λ q. eqb-false (asks s x) 0 f (sym (p .number) ∙ q) in
+    record {
+      leaves = rw f (p .same z);
+      replies = rw f (λ i. record { number = p .number i; records = p .nothing z .0 i; bytes = p .nothing z .1 i; rows = p .kept z .0 i; out = p .kept z .1 i });
+    })
