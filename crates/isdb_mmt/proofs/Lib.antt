@@ -52,6 +52,7 @@ pub mod Stays
 pub mod Lasting
 pub mod Said
 pub mod Calls
+pub mod Useless
 pub mod Room
 pub mod Outs
 pub mod PlaceFits

@@ -49,6 +49,7 @@ pub mod Leaves
 pub mod Push
 pub mod Readings
 pub mod Calls
+pub mod Useless
 pub mod PushCases
 pub mod Placing
 pub mod Survey
