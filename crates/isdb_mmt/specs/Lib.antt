@@ -50,6 +50,7 @@ pub mod Push
 pub mod Readings
 pub mod Calls
 pub mod Useless
+pub mod ReadingCases
 pub mod PushCases
 pub mod Placing
 pub mod Survey
