@@ -8,3 +8,4 @@ pub mod Tables
 pub mod Session
 pub mod Feeds
 pub mod Pushes
+pub mod Readings

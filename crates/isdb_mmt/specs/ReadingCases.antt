@@ -19,13 +19,16 @@ use Rattle.isdb_mmt.specs.Readings.{mediaFound, controlFound, sectionFou
 use Rattle.isdb_mmt.specs.Calls.{Reading, counters, time, count, nextMedia, nextControl, nextKey, mediaOf, held, controlOf, plt, tot, section, assetOf, readingNumber, Told as TableTold, number as refused, nothing, bytes, toldBy}
 use Rattle.isdb_mmt.specs.Cases.{completeOf, headOf, compressed, payload, ab}
 use Rattle.isdb_mmt.specs.ControlCases.{fragment, firstPart, nit1, nitNext, mpt, tableMessage}
-use Rattle.isdb_mmt.specs.PushCases.{input, only, secondId, told as toldOfPushes}
+use Rattle.isdb_mmt.specs.PushCases.{input, only, ntp, plt as pltBytes, tot as totBytes, told as toldOfPushes}
 use Rattle.isdb_mmt.specs.declared.maybe.MaybeU16.the-variants.{Some as someU16}
 use Rattle.isdb_mmt.specs.declared.maybe.MaybeU32.the-variants.{None as noU32, Some as someU32}
 use Rattle.isdb_mmt.specs.declared.mpu.MaybeMfu.the-variants.{Some as someMfu}
 use Rattle.isdb_mmt.specs.declared.table.mpt.Asset.{Asset}
 use Rattle.isdb_mmt.specs.declared.decoder.limits.Limits.{Limits}
 use Rattle.isdb_mmt.specs.declared.decoder.counts.AssetStats.{AssetStats}
+use Rattle.isdb_mmt.specs.declared.decoder.counts.Counters.{Counters}
+use Rattle.isdb_mmt.specs.declared.decoder.readings.CountersReading.{CountersReading}
+use Rattle.isdb_mmt.specs.declared.decoder.readings.CountersReading.the-variants.{Counters as theCounters}
 use Rattle.isdb_mmt.specs.declared.decoder.readings.CountReading.{CountReading}
 use Rattle.isdb_mmt.specs.declared.decoder.readings.CountReading.the-variants.{Count}
 use Rattle.isdb_mmt.specs.declared.decoder.readings.TimeReading.{TimeReading}
@@ -72,6 +75,7 @@ damaged s = lent (s .state) (s .others) (s .objects) (s .messages) (replicate 19
 -- what is asked, and what is answered
 pub data Ask : Type 0 where
   numberOf : Session → Reading → Ask
+  countersIn : Session → Ask
   timeIn : Session → Ask
   countIn : Session → ℕ → Ask
   mediaFrom : Session → ℕ → Ask
@@ -88,6 +92,7 @@ pub data Ask : Type 0 where
 
 pub data Told : Type 0 where
   number : ℕ → Told
+  feed : CountersReading → Told
   timed : TimeReading → Told
   counted : CountReading → Told
   name : NameReading → Told
@@ -100,6 +105,7 @@ pub data Told : Type 0 where
 unfoldable pub told : Ask → Told
 unfolding toldOfPushes sized locationOf assetFields assetAt serviceId parsesAs mediaFound controlFound sectionFound countersRead timeRead countRead leastFrom ascendingFrom nextMediaRead nextControlRead nextKeyRead mediaRead heldRead controlRead sectionRead mptRead pltRead totRead firstCarried assetAmong assetRead readingNumber
 told (numberOf s r) = number (readingNumber s r)
+told (countersIn s) = feed (countersRead s)
 told (timeIn s) = timed (timeRead s)
 told (countIn s id) = counted (countRead s id)
 told (mediaFrom s a) = name (nextMediaRead s a)
@@ -115,25 +121,25 @@ told (totIn s) = table (toldBy (s .tables) (totRead s))
 told (assetIn s p) = asset (assetRead s p)
 
 -- a unit of F101h and one of F100h, whose object is held; both sections of a NIT, the later one first
-abbrev units : Session
+abbrev pub units : Session
 units = after (compressed 0x00 0x00 0xF101 5 (payload 22 0x2A (replicate 14 0x00 ++ ab)) ∷ headOf 5 ab ∷ [])
 
-abbrev nits : Session
+abbrev pub nits : Session
 nits = after ((0xFE, nitNext) ∷ (0xFE, nit1) ∷ [])
 
 -- an MPT of the service 65h with one asset, whose packet id is F100h
-abbrev assetMpt : Bytes
+abbrev pub assetMpt : Bytes
 assetMpt =
     0x20 ∷ 0x01 ∷ 0x00 ∷ 0x19 ∷ 0xFC ∷ 0x02 ∷ 0x00 ∷ 0x65 ∷ 0x00 ∷ 0x00 ∷ 0x01
     ∷ 0x00 ∷ 0x00 ∷ 0x00 ∷ 0x00 ∷ 0x00 ∷ 0x01 ∷ 0x41
     ∷ 0x68 ∷ 0x65 ∷ 0x76 ∷ 0x31 ∷ 0xFE ∷ 0x01 ∷ 0x00 ∷ 0xF1 ∷ 0x00 ∷ 0x00 ∷ 0x00 ∷ []
 
 -- in a message of the control id 8001h, behind an MPT without assets in one of 8000h
-abbrev mpts : Session
+abbrev pub mpts : Session
 mpts = after (fragment 0x00 (tableMessage 29 assetMpt) ∷ compressed 0x00 0x02 0x8000 5 (0x00 ∷ 0x00 ∷ tableMessage 9 mpt) ∷ [])
 
 -- one packet with one unit that begins an object, in MPU 7
-abbrev oneUnit : AssetStats
+abbrev pub oneUnit : AssetStats
 oneUnit =
     record {
       packets = 1;
@@ -147,10 +153,29 @@ oneUnit =
       malformed = 0;
     }
 
+-- so many packets and tables, and nothing else
+abbrev pub onlyCounted : ℕ → ℕ → Counters
+onlyCounted packets tables =
+    record {
+      «tlv_packets» = packets;
+      «ip_errors» = 0;
+      «non_mmtp» = 0;
+      ntp = 0;
+      tables = tables;
+      «crc_errors» = 0;
+      malformed = 0;
+      «version_changes» = 0;
+      «orphan_fragments» = 0;
+      oversize = 0;
+      «message_malformed» = 0;
+      «split_errors» = 0;
+    }
+
 abbrev cases : List (Case Ask Told)
 cases =
     -- nothing yet
-    (timeIn (after []) ⇒ timed noTime)
+    (countersIn (after []) ⇒ feed (theCounters (onlyCounted 0 0)))
+    ∷ (timeIn (after []) ⇒ timed noTime)
     ∷ (countIn (after []) 0x21 ⇒ counted (Count 0))
     ∷ (mediaFrom (after []) 0 ⇒ name noName)
     ∷ (mediaIn (after []) 0xF100 ⇒ media noMedia)
@@ -176,6 +201,10 @@ cases =
     ∷ (numberOf blank (section 0) ⇒ number 5)
     ∷ (numberOf blank (assetOf 0) ⇒ number 5)
     ∷ (numberOf (after []) counters ⇒ number 0)
+    -- counted
+    ∷ (countersIn nits ⇒ feed (theCounters (onlyCounted 2 2)))
+    ∷ (timeIn (after (ntp ∷ [])) ⇒ timed (Timestamp 0x0102030405060708))
+    ∷ (countIn (after (fragment 0x00 (tableMessage 1 (0x21 ∷ [])) ∷ [])) 0x21 ⇒ counted (Count 1))
     -- ids in ascending order, whichever came first
     ∷ (mediaFrom units 0 ⇒ name (Name 0xF100))
     ∷ (mediaFrom units 0xF100 ⇒ name (Name 0xF100))
@@ -210,6 +239,10 @@ cases =
     ∷ (sectionIn (damaged nits) 0x40000400 ⇒ table (refused 5))
     ∷ (sectionIn (damaged nits) 0x40000402 ⇒ table nothing)
     ∷ (numberOf (damaged nits) counters ⇒ number 0)
+    -- PLT and TOT
+    ∷ (pltIn (after (fragment 0x00 (tableMessage 6 pltBytes) ∷ [])) ⇒ table (bytes pltBytes))
+    ∷ (totIn (after (fragment 0x00 (tableMessage 14 totBytes) ∷ [])) ⇒ table (bytes totBytes))
+    ∷ (pltIn (damaged (after (fragment 0x00 (tableMessage 6 pltBytes) ∷ []))) ⇒ table (refused 5))
     -- the MPT of each control id, and the asset that a packet id carries
     ∷ (mptIn mpts 0x8000 ⇒ table (bytes mpt))
     ∷ (mptIn mpts 0x8001 ⇒ table (bytes assetMpt))

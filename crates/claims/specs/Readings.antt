@@ -1,0 +1,179 @@
+-- Readings of a session: what is answered after some packets.
+use mathlib.Core.Path.{_≡_, refl}
+use mathlib.Core.Bool.{true, false}
+use mathlib.Core.List.{List, [], _∷_, _++_}
+use Rattle.isdb_mmt.specs.Part.{part}
+use Rattle.isdb_mmt.specs.Cases.{ab}
+use Rattle.isdb_mmt.specs.ControlCases.{fragment, firstPart, tableMessage, nit1, nitNext, mpt}
+use Rattle.isdb_mmt.specs.PushCases.{ntp, plt, tot}
+use Rattle.isdb_mmt.specs.Calls.{nothing, number as refused, bytes}
+use Rattle.isdb_mmt.specs.ReadingCases.{told, countersIn, timeIn, countIn, mediaFrom, controlFrom, keyFrom, mediaIn, heldIn, controlIn, sectionIn, mptIn, pltIn, totIn, assetIn, feed, timed, counted, name, media, object, control, table, asset, after, damaged, units, nits, mpts, assetMpt, oneUnit, onlyCounted}
+use Rattle.isdb_mmt.specs.declared.maybe.MaybeU16.the-variants.{None as noU16, Some as someU16}
+use Rattle.isdb_mmt.specs.declared.maybe.MaybeU32.the-variants.{None as noU32, Some as someU32}
+use Rattle.isdb_mmt.specs.declared.mpu.MaybeMfu.the-variants.{None as noMfu, Some as someMfu}
+use Rattle.isdb_mmt.specs.declared.decoder.readings.CountersReading.the-variants.{Refused as countersRefused, Counters as theCounters}
+use Rattle.isdb_mmt.specs.declared.decoder.readings.TimeReading.the-variants.{Nothing as noTime, Timestamp}
+use Rattle.isdb_mmt.specs.declared.decoder.readings.CountReading.the-variants.{Count}
+use Rattle.isdb_mmt.specs.declared.decoder.readings.NameReading.the-variants.{Nothing as noName, Name}
+use Rattle.isdb_mmt.specs.declared.decoder.readings.MaybeRange.the-variants.{None as noRange, Some as someRange}
+use Rattle.isdb_mmt.specs.declared.decoder.readings.MediaReading.the-variants.{Nothing as noMedia, Media as theMedia}
+use Rattle.isdb_mmt.specs.declared.decoder.readings.HeldReading.the-variants.{NoId, Nothing as noObject, Object as theObject}
+use Rattle.isdb_mmt.specs.declared.decoder.readings.ControlReading.the-variants.{Nothing as noControl, Control as theControl}
+use Rattle.isdb_mmt.specs.declared.decoder.readings.AssetReading.the-variants.{Nothing as noAsset, Asset as theAsset}
+
+-- decoder::readings::counters, after two packets with a section each
+-- wrong: onlyCounted 2 2 => onlyCounted 1 1 (a packet late)
+-- wrong: onlyCounted 2 2 => onlyCounted 2 0 (tables that are kept are not counted)
+pub counters : told (countersIn nits) ≡ feed (theCounters (onlyCounted 2 2))
+unfolding told
+counters = refl
+
+-- decoder::readings::time, after an NTP packet
+-- wrong: Timestamp 0x0102030405060708 => Timestamp 0x0506070801020304 (the halves exchanged)
+-- wrong: Timestamp 0x0102030405060708 => noTime (none)
+pub time : told (timeIn (after (ntp ∷ []))) ≡ timed (Timestamp 0x0102030405060708)
+unfolding told
+time = refl
+
+-- decoder::readings::table_count, of an id that came once
+-- wrong: Count 1 => Count 0 (not counted)
+-- wrong: Count 1 => Count 2 (once as a table, once as one of its id)
+pub table-count : told (countIn (after (fragment 0x00 (tableMessage 1 (0x21 ∷ [])) ∷ [])) 0x21) ≡ counted (Count 1)
+unfolding told
+table-count = refl
+
+-- decoder::ids::next_media: the least id, though another came first
+-- wrong: Name 0xF100 => Name 0xF101 (the one that came first)
+-- wrong: Name 0xF100 => noName (none)
+pub next-media : told (mediaFrom units 0) ≡ name (Name 0xF100)
+unfolding told
+next-media = refl
+
+-- decoder::ids::next_media: from an id on, itself included
+-- wrong: Name 0xF101 => noName (only those behind it)
+-- wrong: Name 0xF101 => Name 0xF100 (the least of all)
+pub next-media-from : told (mediaFrom units 0xF101) ≡ name (Name 0xF101)
+unfolding told
+next-media-from = refl
+
+-- decoder::ids::next_control
+-- wrong: Name 0x8000 => Name 0x8001 (the one that came first)
+-- wrong: Name 0x8000 => noName (none)
+pub next-control : told (controlFrom mpts 0) ≡ name (Name 0x8000)
+unfolding told
+next-control = refl
+
+-- decoder::ids::next_key: of a table id that is not kept there is none, though other keys lie behind
+-- wrong: noName => Name 0x40000400 (the least from there on)
+-- wrong: noName => Name 0x40000401 (the largest)
+pub next-key : told (keyFrom nits 0x30000000 0x30FFFFFF) ≡ name noName
+unfolding told
+next-key = refl
+
+-- decoder::ids::next_key: the last one of a sort
+-- wrong: Name 0x40000401 => noName (the end of the range is left out)
+-- wrong: Name 0x40000401 => Name 0x40000400 (its start is passed over)
+pub next-key-last : told (keyFrom nits 0x40000401 0x40000401) ≡ name (Name 0x40000401)
+unfolding told
+next-key-last = refl
+
+-- decoder::ids::media, of an id that holds an object of two bytes
+-- wrong: held = someU32 2 => held = noU32 (nothing held)
+-- wrong: first = 7 => first = 0 (the range starts at 0)
+pub media-state : told (mediaIn units 0xF100)
+    ≡ media (theMedia (record { stats = oneUnit; sequence = someU32 5; «mpu_range» = someRange (record { first = 7; last = 7 }); held = someU32 2 }))
+unfolding told
+media-state = refl
+
+-- decoder::ids::held: the bytes lie in the area of the id's place, here the second
+-- wrong: bytes = part 2 2 => bytes = part 0 2 (the first area)
+-- wrong: bytes = part 2 2 => bytes = part 4 2 (areas counted from one)
+pub held-object : told (heldIn units 0xF100)
+    ≡ object (theObject (record {
+      «mpu_sequence_number» = 7;
+      rap = false;
+      mfu = someMfu (record { «movie_fragment_sequence_number» = 0; «sample_number» = 0; offset = 0; priority = 0; «dependency_counter» = 0 });
+      «item_id» = noU32;
+      bytes = part 2 2;
+    }))
+unfolding told
+held-object = refl
+
+-- decoder::ids::held, of an id that was never seen
+-- wrong: NoId => noObject (an id that holds nothing)
+-- wrong: NoId => theObject (record { «mpu_sequence_number» = 0; rap = false; mfu = noMfu; «item_id» = noU32; bytes = part 0 0 }) (an empty object)
+pub held-unknown : told (heldIn units 0xF102) ≡ object NoId
+unfolding told
+held-unknown = refl
+
+-- decoder::ids::control, of an id whose message is being joined
+-- wrong: joined = someU32 2 => joined = noU32 (nothing joined)
+-- wrong: joined = someU32 2 => joined = someU32 4 (with the two bytes before the message)
+pub control-state : told (controlIn (after (firstPart 5 ab ∷ [])) 0x8001) ≡ control (theControl (record { sequence = someU32 5; joined = someU32 2 }))
+unfolding told
+control-state = refl
+
+-- decoder::kept::section
+-- wrong: bytes nit1 => bytes nitNext (another key's)
+-- wrong: bytes nit1 => nothing (none always)
+pub section : told (sectionIn nits 0x40000400) ≡ table (bytes nit1)
+unfolding told
+section = refl
+
+-- decoder::kept::section, of a key that was never kept
+-- wrong: nothing => refused 5 (turned down)
+-- wrong: nothing => bytes [] (an empty table)
+pub section-none : told (sectionIn nits 0x40000402) ≡ table nothing
+unfolding told
+section-none = refl
+
+-- decoder::kept::section, of one whose bytes no longer parse
+-- wrong: refused 5 => nothing (none)
+-- wrong: refused 5 => bytes [] (an empty table)
+pub section-damaged : told (sectionIn (damaged nits) 0x40000400) ≡ table (refused 5)
+unfolding told
+section-damaged = refl
+
+-- decoder::kept::mpt: that of the control id
+-- wrong: bytes mpt => bytes assetMpt (the first that was kept)
+-- wrong: bytes mpt => nothing (none)
+pub mpt-of-id : told (mptIn mpts 0x8000) ≡ table (bytes mpt)
+unfolding told
+mpt-of-id = refl
+
+-- decoder::kept::plt
+-- wrong: bytes plt => bytes (plt ++ (0xFF ∷ 0xFF ∷ [])) (with the bytes behind it in its message)
+-- wrong: bytes plt => nothing (none)
+pub latest-plt : told (pltIn (after (fragment 0x00 (tableMessage 6 plt) ∷ []))) ≡ table (bytes plt)
+unfolding told
+latest-plt = refl
+
+-- decoder::kept::tot
+-- wrong: bytes tot => bytes (tot ++ (0xFF ∷ 0xFF ∷ [])) (with the bytes behind it in its message)
+-- wrong: bytes tot => nothing (none)
+pub latest-tot : told (totIn (after (fragment 0x00 (tableMessage 14 tot) ∷ []))) ≡ table (bytes tot)
+unfolding told
+latest-tot = refl
+
+-- decoder::kept::asset_of: an MPT without the packet id is passed over
+-- wrong: «control_id» = 0x8001 => «control_id» = 0x8000 (the MPT of the least control id)
+-- wrong: «service_id» = someU16 0x0065 => «service_id» = noU16 (no service)
+pub asset-of : told (assetIn mpts 0xF100)
+    ≡ asset (theAsset (record {
+      «control_id» = 0x8001;
+      mpt = part 64 29;
+      «service_id» = someU16 0x0065;
+      asset =
+          record {
+            «identifier_type» = 0;
+            «asset_id_scheme» = 0;
+            «asset_id» = part 17 1;
+            «asset_type» = 0x68657631;
+            «clock_relation» = false;
+            locations = 1;
+            «locations_start» = 24;
+            descriptors = part 29 0;
+          };
+    }))
+unfolding told
+asset-of = refl
