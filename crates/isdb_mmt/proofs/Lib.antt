@@ -98,3 +98,5 @@ pub mod Quiet
 pub mod LinePlaces
 pub mod Lines
 pub mod Pushing
+pub mod ReadSteps
+pub mod Least
