@@ -100,3 +100,4 @@ pub mod Lines
 pub mod Pushing
 pub mod ReadSteps
 pub mod Least
+pub mod Readings
