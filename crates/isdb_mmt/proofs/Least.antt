@@ -1,6 +1,6 @@
 -- The least of some names in a range: the scan, turn by turn, what it finds, and names one after the other. Assumes nothing.
 use Prim.Native.Nat.{ℕ, zero, suc, _+_, _-_, _≤_, _<_}
-use mathlib.Core.Path.{_≡_, refl, sym, _∙_, subst}
+use mathlib.Core.Path.{_≡_, refl, sym, ap, _∙_, subst}
 use mathlib.Core.Logic.{_⊎_, inl, inr, ⊎-elim}
 use mathlib.Core.Bool.{true, false}
 use mathlib.Core.List.{List, [], _∷_}
@@ -8,11 +8,11 @@ use native.Mathlib.Omega.{arith}
 use lib.Dec.{eqb, ltb, leb}
 use lib.Arith.{lt-of-le-ne}
 use lib.ListN.{length}
-use borrow.Author.Tests.{lt-ltb, le-ltb, le-leb, lt-leb, eq-eqb, ltb-true, ltb-false, leb-true, eqb-true, eqb-false}
+use borrow.Author.Tests.{lt-ltb, le-ltb, le-leb, lt-leb, eq-eqb, ltb-true, ltb-false, leb-true, leb-false, eqb-true, eqb-false}
 use Rattle.isdb_tlv.specs.Bytes.{be}
 use Rattle.isdb_tlv.specs.Guards.{if_then_else_, _<?_, _≤?_}
 use Rattle.isdb_tlv.proofs.Guards.{either}
-use Rattle.isdb_mmt.specs.Lent.{namesFrom, among}
+use Rattle.isdb_mmt.specs.Lent.{namesFrom, among, distinct}
 use Rattle.isdb_mmt.specs.Readings.{lesser, leastFrom, mostName, thenAbove, ascendingFrom, ascending}
 use Rattle.isdb_mmt.specs.ReadingLaws.{rises, InOrder, Least}
 use Rattle.isdb_mmt.specs.declared.maybe.MaybeU32.{MaybeU32}
@@ -140,6 +140,10 @@ unfoldable above : ℕ → List ℕ → ℕ
 above a [] = 0
 above a (y ∷ ys) = if a ≤? y then suc (above a ys) else above a ys
 
+later : (y z : ℕ) (ys : List ℕ) → among y ys ≡ true → among y (z ∷ ys) ≡ true
+unfolding among
+later y z ys m = either (eqb z y) (λ t. rw t) (λ f. rw f m)
+
 above-all : (a : ℕ) (ys : List ℕ) → above a ys ≤ length ys
 unfolding above
 above-all a [] = omega arith
@@ -175,6 +179,53 @@ above-less a x (y ∷ ys) m h =
     let q = above-less a x ys (rw f at m) h in
     either (leb (x + 1) y) (λ t. rw (t, le-leb a y (omega (arith, leb-true (x + 1) y t))) (omega arith))
     (λ g. either (leb a y) (λ t. rw (g, t) (omega arith)) (λ k. rw (g, k) q)))
+
+above-zero : (ys : List ℕ) → above 0 ys ≡ length ys
+unfolding above
+above-zero [] = refl
+above-zero (y ∷ ys) = rw (le-leb 0 y (omega arith)) (ap suc (above-zero ys))
+
+above-none : (a : ℕ) (ys : List ℕ) → ((y : ℕ) → among y ys ≡ true → a ≤ y → ⊥) → above a ys ≡ 0
+unfolding above among
+above-none a [] f = refl
+above-none a (y ∷ ys) f =
+    either (leb a y) (λ t. absurd (f y (rw (eq-eqb y y refl)) (leb-true a y t)))
+    (λ g. rw g (above-none a ys (λ z m. f z (later z y ys m))))
+
+-- none lies between
+above-same : (a b : ℕ) (ys : List ℕ) → a ≤ b → ((y : ℕ) → among y ys ≡ true → a ≤ y → b ≤ y) → above a ys ≡ above b ys
+unfolding above among
+above-same a b [] h f = refl
+above-same a b (y ∷ ys) h f =
+    let r = above-same a b ys h (λ z m. f z (later z y ys m)) in
+    either (leb a y) (λ t. rw (t, le-leb b y (f y (rw (eq-eqb y y refl)) (leb-true a y t))) (ap suc r))
+    (λ g. rw (g, lt-leb b y (omega (arith, leb-false a y g))) r)
+
+-- the least of names that stand once each is one of them
+above-step : (a x : ℕ) (ys : List ℕ) → distinct ys ≡ true → among x ys ≡ true → a ≤ x → ((y : ℕ) → among y ys ≡ true → a ≤ y → x ≤ y)
+    → above a ys ≡ suc (above (x + 1) ys)
+unfolding above among distinct
+above-step a x [] d m h f = clash false m refl
+above-step a x (y ∷ ys) d m h f =
+    either (among y ys) (λ t. clash false (rw t at d) refl)
+    (λ once.
+    either (eqb y x)
+    (λ t.
+    let e : y ≡ x = eqb-true y x t in
+    let r : above a ys ≡ above (x + 1) ys =
+    above-same a (x + 1) ys (omega arith)
+    (λ z k b.
+    let ne : x ≡ z → ⊥ = λ q. clash (among y ys) (subst (λ w. among w ys ≡ true) (sym (e ∙ q)) k) once in
+    let lt : x < z = lt-of-le-ne (f z (later z y ys k) b) ne in
+    omega arith) in
+    rw (le-leb a y (omega arith), lt-leb (x + 1) y (omega arith)) (ap suc r))
+    (λ g.
+    let r = above-step a x ys (rw once at d) (rw g at m) h (λ z k. f z (later z y ys k)) in
+    either (leb a y)
+    (λ t.
+    let lt : x < y = lt-of-le-ne (f y (rw (eq-eqb y y refl)) (leb-true a y t)) (λ q. eqb-false y x g (sym q)) in
+    rw (t, le-leb (x + 1) y (omega arith)) (ap suc r))
+    (λ k. rw (k, lt-leb (x + 1) y (omega (arith, leb-false a y k))) r)))
 
 module _ (names : List ℕ) where
   pub rising-from : (n a : ℕ) → rises a (ascendingFrom n a names) ≡ true
@@ -224,8 +275,25 @@ module _ (names : List ℕ) where
           let lt : x < y = lt-of-le-ne (l .least y m h k) (eqb-false x y g) in
           rw g (f (x + 1) (omega (arith, above-less a x names (l .one) (l .from))) (omega arith)))
 
-  pub in-order : ((y : ℕ) → among y names ≡ true → y ≤ mostName) → InOrder names (ascending names)
-  in-order small =
+  as-many : distinct names ≡ true → ((y : ℕ) → among y names ≡ true → y ≤ mostName) → (n a : ℕ) → above a names ≤ n
+      → length (ascendingFrom n a names) ≡ above a names
+  unfolding ascendingFrom
+  as-many d small zero a c = omega arith
+  as-many d small (suc n) a c = go (leastFrom noU32 a mostName names) refl (λ x. as-many d small n x)
+    where
+      go :
+          (r : MaybeU32)
+          → leastFrom noU32 a mostName names ≡ r
+          → ((x : ℕ) → above x names ≤ n → length (ascendingFrom n x names) ≡ above x names)
+          → length (thenAbove (λ x. ascendingFrom n x names) r) ≡ above a names
+      go noU32 e f = sym (above-none a names (λ y m h. least-nothing names a mostName e y m h (small y m)))
+      go (someU32 x) e f =
+          let l = least-is names a mostName x e in
+          let q = above-step a x names d (l .one) (l .from) (λ y m h. l .least y m h (small y m)) in
+          ap suc (f (x + 1) (omega arith)) ∙ sym q
+
+  pub in-order : distinct names ≡ true → ((y : ℕ) → among y names ≡ true → y ≤ mostName) → InOrder names (ascending names)
+  in-order d small =
       record {
         rising = rising-from (length names) 0;
         same =
@@ -233,4 +301,5 @@ module _ (names : List ℕ) where
             either (among x names)
             (λ t. comes (length names) 0 x (above-all 0 names) t (omega arith) (small x t) ∙ sym t)
             (λ f. either (among x (ascending names)) (λ t. clash (among x names) (one-of (length names) 0 x t) f) (λ g. g ∙ sym f));
+        many = as-many d small (length names) 0 (above-all 0 names) ∙ above-zero names;
       }

@@ -248,12 +248,13 @@ next-told s e names a b = rw e (next-by names a b (leastFrom noU32 a b names) re
 pub names-told : NamesAreTold
 unfolding view viewBy nextMediaRead nextControlRead nextKeyRead
 names-told s e o =
+    let ok = sound-session s e in
     let st = s .state in
     let u = usedOf st in
     record {
-      media = rw (entry-names s) (in-order (mediaNames s) (names-small st o mediaSize (u .«media_ids») mediaPlaces));
-      controls = rw (control-names s) (in-order (controlNames s) (names-small st o controlSize (u .«control_ids») controlPlaces));
-      keys = rw (key-names s) (in-order (keysIn s) (names-small st o sectionSize (u .sections) sectionPlaces));
+      media = rw (entry-names s) (in-order (mediaNames s) (ok .mediaNames) (names-small st o mediaSize (u .«media_ids») mediaPlaces));
+      controls = rw (control-names s) (in-order (controlNames s) (ok .controlNames) (names-small st o controlSize (u .«control_ids») controlPlaces));
+      keys = rw (key-names s) (in-order (keysIn s) (ok .keys) (names-small st o sectionSize (u .sections) sectionPlaces));
       nextMedia = λ a. rw (entry-names s) (next-told s e (mediaNames s) a mostName);
       nextControl = λ a. rw (control-names s) (next-told s e (controlNames s) a mostName);
       nextKey = λ a b. rw (key-names s) (next-told s e (keysIn s) a b);

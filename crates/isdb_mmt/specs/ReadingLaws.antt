@@ -164,6 +164,7 @@ rises a (x ∷ xs) = if a ≤? x then rises (x + 1) xs else false
 pub record InOrder (names ns : List ℕ) : Type 0 where
   pub rising : rises 0 ns ≡ true
   pub same : (x : ℕ) → among x ns ≡ among x names
+  pub many : length ns ≡ length names
 
 -- the least of some names from `a` to `b`
 pub record Least (names : List ℕ) (a b x : ℕ) : Type 0 where
