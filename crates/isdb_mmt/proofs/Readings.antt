@@ -234,12 +234,19 @@ same-name x y e = cc
 
 next-by : (names : List ℕ) (a b : ℕ) (r : MaybeU32) → leastFrom noU32 a b names ≡ r → NextTold names a b (nameTold r)
 next-by names a b noU32 d =
-    record { answered = λ n q. nothing-not n q; name = λ x q. nothing-no-name x q; nothing = λ q. least-nothing names a b d }
+    record {
+      answered = λ n q. nothing-not n q;
+      name = λ x q. nothing-no-name x q;
+      nothing = λ q. least-nothing names a b d;
+      empty = λ f. refl;
+    }
 next-by names a b (someU32 x) d =
+    let l = least-is names a b x d in
     record {
       answered = λ n q. name-not x n q;
-      name = λ y q. subst (λ z. Least names a b z) (same-name x y q) (least-is names a b x d);
+      name = λ y q. subst (λ z. Least names a b z) (same-name x y q) l;
       nothing = λ q. nothing-no-name x (sym q);
+      empty = λ f. absurd (f x (l .one) (l .from) (l .to));
     }
 
 next-told : (s : Session) → sound s ≡ true → (names : List ℕ) (a b : ℕ) → NextTold names a b (nameRead s names a b)

@@ -178,6 +178,7 @@ pub record NextTold (names : List ℕ) (a b : ℕ) (r : NameReading) : Type 0 wh
   pub answered : (n : ℕ) → r ≡ nameRefused n → ⊥
   pub name : (x : ℕ) → r ≡ Name x → Least names a b x
   pub nothing : r ≡ noName → (y : ℕ) → among y names ≡ true → a ≤ y → y ≤ b → ⊥
+  pub empty : ((y : ℕ) → among y names ≡ true → a ≤ y → y ≤ b → ⊥) → r ≡ noName
 
 pub record NamesTold (s : Session) : Type 0 where
   pub media : InOrder (namesIn (view s .assets)) (ascending (mediaNames s))
