@@ -102,3 +102,6 @@ pub mod Quiet
 pub mod LinePlaces
 pub mod Lines
 pub mod Pushing
+pub mod ReadSteps
+pub mod Least
+pub mod Readings

@@ -51,6 +51,7 @@ pub mod Readings
 pub mod Calls
 pub mod Useless
 pub mod ReadingCases
+pub mod ReadingLaws
 pub mod PushCases
 pub mod Placing
 pub mod Survey
