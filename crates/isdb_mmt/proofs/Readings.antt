@@ -35,6 +35,7 @@ use Rattle.isdb_mmt.specs.declared.decoder.section.KeptSection.{KeptSect
 use Rattle.isdb_mmt.specs.declared.decoder.readings.NameReading.the-variants.{Refused as nameRefused, Nothing as noName, Name}
 use Rattle.isdb_mmt.specs.declared.decoder.readings.MediaReading.the-variants.{Media as theMedia}
 use Rattle.isdb_mmt.specs.declared.decoder.readings.ControlReading.the-variants.{Control as theControl}
+use Rattle.isdb_mmt.proofs.Said.{mediaEntry, controlAtPlace, media-found, control-found}
 use Rattle.isdb_mmt.proofs.Lent.{names-of, length-names, length-places}
 use Rattle.isdb_mmt.proofs.Names.{clash}
 use Rattle.isdb_mmt.proofs.Views.{keys, keys-indexed, stands, absent}
@@ -60,31 +61,6 @@ time-told t = go (t .seen)
 pub counts-told : CountsAreTold
 unfolding countersRead timeRead countRead view viewBy
 counts-told s e = record { counters = rw e; time = rw e (time-told (timeOf (s .state))); tables = λ id. rw e }
-
--- ---- a name's place is its entry
-
-module _ {A B : Type 0} (g : ℕ → A → ℕ × B) (of : List ℕ → A) (size n at : ℕ) (l : List ℕ)
-    (k : keys (indexed g 0 (map of (placesFrom n size at l))) ≡ namesFrom n size at l) (id : ℕ) where
-  abbrev all : List (ℕ × B)
-  all = indexed g 0 (map of (placesFrom n size at l))
-
-  entry-found : (i : ℕ) → foundFrom 0 (namesFrom n size at l) id ≡ At i → (i < n) × (find id all ≡ some (g i (of (part (at + size * i) size l)) .1))
-  entry-found i e =
-      let q : foundFrom 0 (keys all) id ≡ At i = ap (λ (ns : List ℕ). foundFrom 0 ns id) k ∙ e in
-      let b : i < n = omega (arith, found-below (namesFrom n size at l) id 0 i e .1, length-names size n at l) in
-      let z : i - 0 ≡ i = omega arith in
-      let y : 0 + i ≡ i = omega arith in
-      let d : B = g 0 (of []) .1 in
-      let f : find id all ≡ some (getD all i (0, d) .1) = rw z at (stands all id 0 i q .1 .found d) in
-      let w : getD all i (0, d) ≡ g i (of (part (at + size * i) size l)) =
-      rw y at
-      (getD-indexed g (map of (placesFrom n size at l)) 0 i (of []) (0, d)
-      (omega (arith, length-map of (placesFrom n size at l), length-places size n at l)))
-      ∙ ap (g i) (getD-places of size (of []) l n i at b) in
-      (b, f ∙ ap (λ (x : ℕ × B). some (x .1)) w)
-
-  entry-missing : foundFrom 0 (namesFrom n size at l) id ≡ Nothing → find id all ≡ none
-  entry-missing e = absent all id 0 (ap (λ (ns : List ℕ). foundFrom 0 ns id) k ∙ e) .0
 
 -- ---- what is known of an id
 
@@ -148,20 +124,26 @@ module _ (s : Session) (e : sound s ≡ true) (id : ℕ) where
       (passed l (lengthsOf s) (ok .limits) .messages))
 
   asset-found : (i : ℕ) → foundFrom 0 (mediaNames s) id ≡ At i → (i < usedOf (s .state) .«media_ids») × (find id (entries s) ≡ some (assetEntry l s i (mediaAt (s .state) i) .1))
-  unfolding mediaIn
-  asset-found i d = entry-found (assetEntry l s) mediaPlaceOf mediaSize (usedOf (s .state) .«media_ids») mediaPlaces (s .state) (entry-names s) id i d
+  unfolding mediaFound view viewBy
+  asset-found i d = (
+    omega (arith, found-below (mediaNames s) id 0 i d .1, length-names mediaSize (usedOf (s .state) .«media_ids») mediaPlaces (s .state)),
+    media-found s id ∙ ap (mediaEntry s) d,
+  )
 
   asset-missing : foundFrom 0 (mediaNames s) id ≡ Nothing → find id (entries s) ≡ none
-  unfolding mediaIn
-  asset-missing d = entry-missing (assetEntry l s) mediaPlaceOf mediaSize (usedOf (s .state) .«media_ids») mediaPlaces (s .state) (entry-names s) id d
+  unfolding mediaFound view viewBy
+  asset-missing d = media-found s id ∙ ap (mediaEntry s) d
 
-  control-found : (i : ℕ) → foundFrom 0 (controlNames s) id ≡ At i → (i < usedOf (s .state) .«control_ids») × (find id (controlEntries s) ≡ some (controlEntry l s i (controlAt (s .state) i) .1))
-  unfolding controlsIn
-  control-found i d = entry-found (controlEntry l s) controlPlaceOf controlSize (usedOf (s .state) .«control_ids») controlPlaces (s .state) (control-names s) id i d
+  control-there : (i : ℕ) → foundFrom 0 (controlNames s) id ≡ At i → (i < usedOf (s .state) .«control_ids») × (find id (controlEntries s) ≡ some (controlEntry l s i (controlAt (s .state) i) .1))
+  unfolding controlFound view viewBy
+  control-there i d = (
+    omega (arith, found-below (controlNames s) id 0 i d .1, length-names controlSize (usedOf (s .state) .«control_ids») controlPlaces (s .state)),
+    control-found s id ∙ ap (controlAtPlace s) d,
+  )
 
   control-missing : foundFrom 0 (controlNames s) id ≡ Nothing → find id (controlEntries s) ≡ none
-  unfolding controlsIn
-  control-missing d = entry-missing (controlEntry l s) controlPlaceOf controlSize (usedOf (s .state) .«control_ids») controlPlaces (s .state) (control-names s) id d
+  unfolding controlFound view viewBy
+  control-missing d = control-found s id ∙ ap (controlAtPlace s) d
 
   media-by : (f : Found) → foundFrom 0 (mediaNames s) id ≡ f → mediaIf s f ≡ mediaTold (find id (entries s))
   media-by (At i) d =
@@ -175,7 +157,7 @@ module _ (s : Session) (e : sound s ≡ true) (id : ℕ) where
 
   control-by : (f : Found) → foundFrom 0 (controlNames s) id ≡ f → controlIf s f ≡ controlTold (find id (controlEntries s))
   control-by (At i) d =
-      let w = control-found i d in
+      let w = control-there i d in
       rw (w .1)
       (control-told-of (controlAt (s .state) i) (part (i * l .«message_area») (controlAt (s .state) i .length) (s .messages)) (tableAt l s (l .sections + i) (controlAt (s .state) i .«mpt_length»))
       (message-long i (w .0)))
