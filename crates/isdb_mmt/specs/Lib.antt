@@ -48,6 +48,7 @@ pub mod MediaPush
 pub mod Leaves
 pub mod Push
 pub mod Readings
+pub mod KeptParts
 pub mod PushCases
 pub mod Placing
 pub mod Survey

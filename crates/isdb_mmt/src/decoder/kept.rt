@@ -1,0 +1,179 @@
+// Readings of the kept tables: where their bytes lie in the lent tables.
+ghost use mathlib.Core.Path.{_≡_};
+ghost use Rattle.isdb_tlv.specs.Guards.{if_then_else_};
+ghost use Rattle.isdb_mmt.specs.Kept.{parsesAs, mptParses, pltParses, totParses};
+ghost use Rattle.isdb_mmt.specs.Mpt.{mptOf};
+ghost use Rattle.isdb_mmt.specs.Plt.{pltOf};
+ghost use Rattle.isdb_mmt.specs.Tot.{totOf};
+ghost use Rattle.isdb_mmt.specs.Session.{limitsOf, controlAt};
+ghost use Rattle.isdb_mmt.specs.Readings.{areaPart, mptAt, sectionFound, sectionPart, controlFound, mptPart, pltPart, totPart};
+ghost use Rattle.isdb_mmt.specs.KeptParts.{partGiven, stateOnly, Reachable, AnArea, MptReachable};
+use crate::decoder::control;
+use crate::decoder::head;
+use crate::decoder::layout::CONTROL_PLACES;
+use crate::decoder::layout::CONTROL_SIZE;
+use crate::decoder::layout::SECTION_PLACES;
+use crate::decoder::layout::SECTION_SIZE;
+use crate::decoder::limits::Limits;
+use crate::decoder::place;
+use crate::decoder::place::Found;
+use crate::decoder::readings::TableReading;
+use crate::decoder::section::load_section;
+use crate::decoder::verdict;
+use crate::part::Part;
+use crate::table::mpt;
+use crate::table::mpt::MaybeMpt;
+use crate::table::plt;
+use crate::table::plt::MaybePlt;
+use crate::table::section::LongSection;
+use crate::table::section::long_section;
+use crate::table::tot;
+use crate::table::tot::TotResult;
+
+// A part of the lent tables.
+pub(crate) enum MaybePart {
+    None,
+    Some(Part),
+}
+
+// Whether a section's header, its CRC and its body as the table of an id are good.
+fn parses_as(id: u8, b: &[u8]) -> bool
+    ensures { λ r. ⌜ r ≡ parsesAs id (now (b .entry)) ⌝ }
+{
+    match long_section(b) {
+        LongSection::Ok(h) => {
+            let body = h.body;
+            let x = verdict::body_read(id, h, body.of(b));
+            x.ok
+        }
+        LongSection::Err(e) => false,
+    }
+}
+
+fn mpt_parses(b: &[u8]) -> bool
+    ensures { λ r. ⌜ r ≡ mptParses (mptOf (now (b .entry)) .mpt) ⌝ }
+{
+    let x = mpt::parse(b);
+    let m = x.mpt;
+    match m {
+        MaybeMpt::None => false,
+        MaybeMpt::Some(t) => true,
+    }
+}
+
+fn plt_parses(b: &[u8]) -> bool
+    ensures { λ r. ⌜ r ≡ pltParses (pltOf (now (b .entry))) ⌝ }
+{
+    match plt::parse(b) {
+        MaybePlt::None => false,
+        MaybePlt::Some(t) => true,
+    }
+}
+
+fn tot_parses(b: &[u8]) -> bool
+    ensures { λ r. ⌜ r ≡ totParses (totOf (now (b .entry)) .result) ⌝ }
+{
+    let x = tot::parse(b);
+    let q = x.result;
+    match q {
+        TotResult::Ok(t) => true,
+        TotResult::Err(e) => false,
+    }
+}
+
+// The first n bytes of the table area i.
+fn area_part(l: Limits, i: usize, n: u32) -> Part
+    requires { ⌜ AnArea l i ⌝ }
+    ensures { λ r. ⌜ r ≡ areaPart l i n ⌝ }
+{
+    Part {
+        start: i * l.table_area as usize,
+        length: n as usize,
+    }
+}
+
+fn section_part(state: &[u8], key: u32) -> MaybePart
+    requires { ⌜ Reachable (now state) ⌝ }
+    ensures { λ r. ⌜ partGiven r ≡ sectionPart (stateOnly (now (state .entry))) (sectionFound (stateOnly (now (state .entry))) key) ⌝ }
+{
+    let u = head::load_used(state);
+    match place::find(
+        state,
+        SECTION_PLACES,
+        SECTION_SIZE,
+        u.sections as usize,
+        key,
+    ) {
+        Found::Nothing => MaybePart::None,
+        Found::At(i) => {
+            let x = load_section(state, i);
+            MaybePart::Some(area_part(head::load_limits(state), i, x.length))
+        }
+    }
+}
+
+// The MPT of the control place with the index i.
+fn mpt_part_at(state: &[u8], i: usize) -> MaybePart
+    requires { ⌜ MptReachable (now state) i ⌝ }
+    ensures { λ r. ⌜ partGiven r ≡ mptAt (limitsOf (now (state .entry))) i (controlAt (now (state .entry)) i) ⌝ }
+{
+    let c = control::load_control(state, i);
+    if !c.mpt {
+        return MaybePart::None;
+    }
+    let l = head::load_limits(state);
+    MaybePart::Some(area_part(l, l.sections as usize + i, c.mpt_length))
+}
+
+fn mpt_part(state: &[u8], id: u32) -> MaybePart
+    requires { ⌜ Reachable (now state) ⌝ }
+    ensures { λ r. ⌜ partGiven r ≡ mptPart (stateOnly (now (state .entry))) (controlFound (stateOnly (now (state .entry))) id) ⌝ }
+{
+    let u = head::load_used(state);
+    match place::find(
+        state,
+        CONTROL_PLACES,
+        CONTROL_SIZE,
+        u.control_ids as usize,
+        id,
+    ) {
+        Found::Nothing => MaybePart::None,
+        Found::At(i) => mpt_part_at(state, i),
+    }
+}
+
+fn plt_part(state: &[u8]) -> MaybePart
+    requires { ⌜ Reachable (now state) ⌝ }
+    ensures { λ r. ⌜ partGiven r ≡ pltPart (stateOnly (now (state .entry))) ⌝ }
+{
+    let x = head::load_latest(state);
+    if !x.plt {
+        return MaybePart::None;
+    }
+    let l = head::load_limits(state);
+    let i = (l.sections + l.control_ids) as usize;
+    MaybePart::Some(area_part(l, i, x.plt_length))
+}
+
+fn tot_part(state: &[u8]) -> MaybePart
+    requires { ⌜ Reachable (now state) ⌝ }
+    ensures { λ r. ⌜ partGiven r ≡ totPart (stateOnly (now (state .entry))) ⌝ }
+{
+    let x = head::load_latest(state);
+    if !x.tot {
+        return MaybePart::None;
+    }
+    let l = head::load_limits(state);
+    let i = (l.sections + l.control_ids + 1) as usize;
+    MaybePart::Some(area_part(l, i, x.tot_length))
+}
+
+// A kept table is handed out where it parses.
+fn handed_out(parses: bool, p: Part) -> TableReading
+    ensures { λ r. ⌜ r ≡ (if parses then TableReading.Bytes p else TableReading.Refused 5) ⌝ }
+{
+    if parses {
+        return TableReading::Bytes(p);
+    }
+    TableReading::Refused(5)
+}
