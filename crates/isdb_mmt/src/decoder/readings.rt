@@ -1,8 +1,12 @@
 // Readings of a session. Each asks question 5 first, changes nothing, and answers the number of the question, that there is
 // nothing, or the value.
 ghost use mathlib.Core.Path.{_≡_};
+ghost use Rattle.isdb_mmt.specs.Opening.{lent};
+ghost use Rattle.isdb_mmt.specs.Check.{sound};
+use crate::decoder::check;
 use crate::decoder::counts::AssetStats;
 use crate::decoder::counts::Counters;
+use crate::decoder::limits::Lengths;
 use crate::maybe::MaybeU16;
 use crate::maybe::MaybeU32;
 use crate::mpu::MaybeMfu;
@@ -107,4 +111,23 @@ pub enum AssetReading {
     Refused(u8),
     Nothing,
     Asset(CarriedAsset),
+}
+
+// Question 5.
+pub(crate) fn is_session(
+    state: &[u8],
+    others: &[u64],
+    objects: &[u8],
+    messages: &[u8],
+    tables: &[u8],
+) -> bool
+    ensures { λ r. ⌜ r ≡ sound (lent (now (state .entry)) (now (others .entry)) (now (objects .entry)) (now (messages .entry)) (now (tables .entry))) ⌝ }
+{
+    let lengths = Lengths {
+        state: state.len() as u64,
+        objects: objects.len() as u64,
+        messages: messages.len() as u64,
+        tables: tables.len() as u64,
+    };
+    check::ready(state, others, lengths)
 }
