@@ -1,12 +1,12 @@
 -- Where kept tables lie, and whether they parse: one law for each return. Assumes nothing.
-use Prim.Native.Nat.{ℕ, _+_, _*_, _≤_, _<_}
+use Prim.Native.Nat.{ℕ, _+_, _*_, _/_, _≤_, _<_}
 use mathlib.Core.Path.{_≡_, refl, sym, ap, _∙_}
 use mathlib.Core.Bool.{Bool, true, false, not}
 use mathlib.Core.Option.{Option, none, some}
 use mathlib.Core.List.{List}
 use native.Mathlib.Omega.{arith}
 use lib.ListN.{length}
-use mir.Syntax.{w64}
+use mir.Syntax.{w8, w32, w64}
 use mir.Val.{Fits}
 use borrow.Author.Tests.{not-true, not-false}
 use Rattle.isdb_tlv.specs.Guards.{if_then_else_}
@@ -22,7 +22,8 @@ use Rattle.isdb_mmt.specs.Mpt.{mptOf}
 use Rattle.isdb_mmt.specs.Plt.{pltOf}
 use Rattle.isdb_mmt.specs.Tot.{totOf}
 use Rattle.isdb_mmt.specs.Verdict.{bodyFrom}
-use Rattle.isdb_mmt.specs.Readings.{areaPart, sectionFound, sectionPart, controlFound, mptAt, mptPart, pltPart, totPart}
+use Rattle.isdb_mmt.specs.Readings.{areaPart, sectionFound, sectionPart, controlFound, mptAt, mptPart, pltPart, totPart, tableIf, tableRead, tableIdOf, sectionRead, mptRead, pltRead, totRead}
+use Rattle.isdb_mmt.specs.Opening.{lent}
 use Rattle.isdb_mmt.specs.KeptParts.{partGiven, stateOnly, Reachable, AnArea, MptReachable}
 use Rattle.isdb_mmt.specs.declared.part.Part.{Part}
 use Rattle.isdb_mmt.specs.declared.decoder.readings.TableReading.{TableReading}
@@ -53,6 +54,7 @@ use Rattle.isdb_mmt.specs.declared.decoder.place.Found.the-variants.{At,
 use Rattle.isdb_mmt.specs.declared.decoder.kept.MaybePart.{MaybePart}
 use Rattle.isdb_mmt.specs.declared.decoder.kept.MaybePart.the-variants.{None as noPart, Some as somePart}
 use Rattle.isdb_mmt.proofs.Lent.{length-names}
+use Rattle.isdb_mmt.proofs.Checks.{sound-session}
 use Rattle.isdb_mmt.proofs.Limits.{areas-fit, passed}
 use Rattle.isdb_mmt.proofs.Verdicts.{found-within, body-from}
 
@@ -218,3 +220,115 @@ module _ (parses : Bool) (p : Part) where
 
   pub not-handed : parses ≡ false → tableRefused 5 ≡ (if parses then theBytes p else tableRefused 5)
   not-handed e = rw e refl
+
+-- ---- a reading: question 5 first, then the part, then its bytes
+
+module _ (state others objects messages tables : Bytes) (q : Bool) (eq : q ≡ sound (lent state others objects messages tables)) where
+  abbrev here : Session
+  here = lent state others objects messages tables
+
+  is-sound : not q ≡ false → sound here ≡ true
+  is-sound h = sym eq ∙ not-false q h
+
+  pub session-reached : not q ≡ false → Reachable state
+  session-reached h = reaches here (sound-session here (is-sound h))
+
+  module _ (parses : Bytes → Bool) (o : Option Part) where
+    five : not q ≡ true → tableRefused 5 ≡ tableRead here parses o
+    five h = rw (← eq, not-true q h) refl
+
+    none-there : not q ≡ false → (m : MaybePart) → partGiven m ≡ o → m ≡ noPart → noTable ≡ tableRead here parses o
+    none-there h m em e = rw (is-sound h, ← em, e) refl
+
+    one-there : not q ≡ false → (m : MaybePart) → partGiven m ≡ o → (p : Part) → m ≡ somePart p → (b : Bytes) → b ≡ partOf tables p
+        → (z : Bool) → z ≡ parses b → (r : TableReading) → r ≡ (if z then theBytes p else tableRefused 5) → r ≡ tableRead here parses o
+    one-there h m em p e b eb z ez r er =
+        er
+        ∙ ap (λ (t : Bool). if t then theBytes p else tableRefused 5) (ez ∙ ap parses eb)
+        ∙ rw (is-sound h, ← em, e) refl
+
+  -- a section
+  module _ (key : ℕ) where
+    abbrev sectionHere : Option Part
+    sectionHere = sectionPart (stateOnly state) (sectionFound (stateOnly state) key)
+
+    part-of : (f : Found) → sectionPart here f ≡ sectionPart (stateOnly state) f
+    part-of Nothing = refl
+    part-of (At i) = refl
+
+    same-section : sectionRead here key ≡ tableRead here (parsesAs (tableIdOf key)) sectionHere
+    unfolding sectionRead sectionFound
+    same-section = ap (tableRead here (parsesAs (tableIdOf key))) (part-of (sectionFound (stateOnly state) key))
+
+    pub section-five : not q ≡ true → tableRefused 5 ≡ sectionRead here key
+    section-five h = five (parsesAs (tableIdOf key)) sectionHere h ∙ sym same-section
+
+    pub section-nothing : not q ≡ false → (m : MaybePart) → partGiven m ≡ sectionHere → m ≡ noPart → noTable ≡ sectionRead here key
+    section-nothing h m em e = none-there (parsesAs (tableIdOf key)) sectionHere h m em e ∙ sym same-section
+
+    pub section-bytes : not q ≡ false → (m : MaybePart) → partGiven m ≡ sectionHere → (p : Part) → m ≡ somePart p → (b : Bytes) → b ≡ partOf tables p
+        → (z : Bool) → z ≡ parsesAs (key / 16777216) b → (r : TableReading) → r ≡ (if z then theBytes p else tableRefused 5) → r ≡ sectionRead here key
+    section-bytes h m em p e b eb z ez r er =
+        one-there (parsesAs (tableIdOf key)) sectionHere h m em p e b eb z ez r er ∙ sym same-section
+
+  -- an MPT
+  module _ (id : ℕ) where
+    abbrev mptHere : Option Part
+    mptHere = mptPart (stateOnly state) (controlFound (stateOnly state) id)
+
+    abbrev asMpt : Bytes → Bool
+    asMpt b = mptParses (mptOf b .mpt)
+
+    of-place : (f : Found) → mptPart here f ≡ mptPart (stateOnly state) f
+    of-place Nothing = refl
+    of-place (At i) = refl
+
+    same-mpt : mptRead here id ≡ tableRead here asMpt mptHere
+    unfolding mptRead controlFound
+    same-mpt = ap (tableRead here asMpt) (of-place (controlFound (stateOnly state) id))
+
+    pub mpt-five : not q ≡ true → tableRefused 5 ≡ mptRead here id
+    mpt-five h = five asMpt mptHere h ∙ sym same-mpt
+
+    pub mpt-nothing : not q ≡ false → (m : MaybePart) → partGiven m ≡ mptHere → m ≡ noPart → noTable ≡ mptRead here id
+    mpt-nothing h m em e = none-there asMpt mptHere h m em e ∙ sym same-mpt
+
+    pub mpt-bytes : not q ≡ false → (m : MaybePart) → partGiven m ≡ mptHere → (p : Part) → m ≡ somePart p → (b : Bytes) → b ≡ partOf tables p
+        → (z : Bool) → z ≡ mptParses (mptOf b .mpt) → (r : TableReading) → r ≡ (if z then theBytes p else tableRefused 5) → r ≡ mptRead here id
+    mpt-bytes h m em p e b eb z ez r er = one-there asMpt mptHere h m em p e b eb z ez r er ∙ sym same-mpt
+
+  -- the PLT
+  abbrev asPlt : Bytes → Bool
+  asPlt b = pltParses (pltOf b)
+
+  same-plt : pltRead here ≡ tableRead here asPlt (pltPart (stateOnly state))
+  unfolding pltRead
+  same-plt = refl
+
+  pub plt-five : not q ≡ true → tableRefused 5 ≡ pltRead here
+  plt-five h = five asPlt (pltPart (stateOnly state)) h ∙ sym same-plt
+
+  pub plt-nothing : not q ≡ false → (m : MaybePart) → partGiven m ≡ pltPart (stateOnly state) → m ≡ noPart → noTable ≡ pltRead here
+  plt-nothing h m em e = none-there asPlt (pltPart (stateOnly state)) h m em e ∙ sym same-plt
+
+  pub plt-bytes : not q ≡ false → (m : MaybePart) → partGiven m ≡ pltPart (stateOnly state) → (p : Part) → m ≡ somePart p → (b : Bytes) → b ≡ partOf tables p
+      → (z : Bool) → z ≡ pltParses (pltOf b) → (r : TableReading) → r ≡ (if z then theBytes p else tableRefused 5) → r ≡ pltRead here
+  plt-bytes h m em p e b eb z ez r er = one-there asPlt (pltPart (stateOnly state)) h m em p e b eb z ez r er ∙ sym same-plt
+
+  -- the TOT
+  abbrev asTot : Bytes → Bool
+  asTot b = totParses (totOf b .result)
+
+  same-tot : totRead here ≡ tableRead here asTot (totPart (stateOnly state))
+  unfolding totRead
+  same-tot = refl
+
+  pub tot-five : not q ≡ true → tableRefused 5 ≡ totRead here
+  tot-five h = five asTot (totPart (stateOnly state)) h ∙ sym same-tot
+
+  pub tot-nothing : not q ≡ false → (m : MaybePart) → partGiven m ≡ totPart (stateOnly state) → m ≡ noPart → noTable ≡ totRead here
+  tot-nothing h m em e = none-there asTot (totPart (stateOnly state)) h m em e ∙ sym same-tot
+
+  pub tot-bytes : not q ≡ false → (m : MaybePart) → partGiven m ≡ totPart (stateOnly state) → (p : Part) → m ≡ somePart p → (b : Bytes) → b ≡ partOf tables p
+      → (z : Bool) → z ≡ totParses (totOf b .result) → (r : TableReading) → r ≡ (if z then theBytes p else tableRefused 5) → r ≡ totRead here
+  tot-bytes h m em p e b eb z ez r er = one-there asTot (totPart (stateOnly state)) h m em p e b eb z ez r er ∙ sym same-tot

@@ -6,7 +6,8 @@ ghost use Rattle.isdb_mmt.specs.Mpt.{mptOf};
 ghost use Rattle.isdb_mmt.specs.Plt.{pltOf};
 ghost use Rattle.isdb_mmt.specs.Tot.{totOf};
 ghost use Rattle.isdb_mmt.specs.Session.{limitsOf, controlAt};
-ghost use Rattle.isdb_mmt.specs.Readings.{areaPart, mptAt, sectionFound, sectionPart, controlFound, mptPart, pltPart, totPart};
+ghost use Rattle.isdb_mmt.specs.Readings.{areaPart, mptAt, sectionFound, sectionPart, controlFound, mptPart, pltPart, totPart, sectionRead, mptRead, pltRead, totRead};
+ghost use Rattle.isdb_mmt.specs.Opening.{lent};
 ghost use Rattle.isdb_mmt.specs.KeptParts.{partGiven, stateOnly, Reachable, AnArea, MptReachable};
 use crate::decoder::control;
 use crate::decoder::head;
@@ -17,6 +18,7 @@ use crate::decoder::layout::SECTION_SIZE;
 use crate::decoder::limits::Limits;
 use crate::decoder::place;
 use crate::decoder::place::Found;
+use crate::decoder::readings;
 use crate::decoder::readings::TableReading;
 use crate::decoder::section::load_section;
 use crate::decoder::verdict;
@@ -176,4 +178,135 @@ fn handed_out(parses: bool, p: Part) -> TableReading
         return TableReading::Bytes(p);
     }
     TableReading::Refused(5)
+}
+
+fn section_in(
+    state: &[u8],
+    others: &[u64],
+    objects: &[u8],
+    messages: &[u8],
+    tables: &[u8],
+    key: u32,
+) -> TableReading
+    ensures { λ r. ⌜ r ≡ sectionRead (lent (now (state .entry)) (now (others .entry)) (now (objects .entry)) (now (messages .entry)) (now (tables .entry))) key ⌝ }
+{
+    if !readings::is_session(state, others, objects, messages, tables) {
+        return TableReading::Refused(5);
+    }
+    match section_part(state, key) {
+        MaybePart::None => TableReading::Nothing,
+        MaybePart::Some(p) => {
+            let id = (key / 16777216) as u8;
+            handed_out(parses_as(id, p.of(tables)), p)
+        }
+    }
+}
+
+// The kept section of a key: table id, table id extension and section number.
+pub fn section(
+    state: &[u8],
+    others: &[u64; 256],
+    objects: &[u8],
+    messages: &[u8],
+    tables: &[u8],
+    key: u32,
+) -> TableReading
+    ensures { λ r. ⌜ r ≡ sectionRead (lent (now (state .entry)) (now (others .entry)) (now (objects .entry)) (now (messages .entry)) (now (tables .entry))) key ⌝ }
+{
+    section_in(state, others, objects, messages, tables, key)
+}
+
+fn mpt_in(
+    state: &[u8],
+    others: &[u64],
+    objects: &[u8],
+    messages: &[u8],
+    tables: &[u8],
+    id: u32,
+) -> TableReading
+    ensures { λ r. ⌜ r ≡ mptRead (lent (now (state .entry)) (now (others .entry)) (now (objects .entry)) (now (messages .entry)) (now (tables .entry))) id ⌝ }
+{
+    if !readings::is_session(state, others, objects, messages, tables) {
+        return TableReading::Refused(5);
+    }
+    match mpt_part(state, id) {
+        MaybePart::None => TableReading::Nothing,
+        MaybePart::Some(p) => handed_out(mpt_parses(p.of(tables)), p),
+    }
+}
+
+// The kept MPT of a control message's packet id.
+pub fn mpt(
+    state: &[u8],
+    others: &[u64; 256],
+    objects: &[u8],
+    messages: &[u8],
+    tables: &[u8],
+    id: u32,
+) -> TableReading
+    ensures { λ r. ⌜ r ≡ mptRead (lent (now (state .entry)) (now (others .entry)) (now (objects .entry)) (now (messages .entry)) (now (tables .entry))) id ⌝ }
+{
+    mpt_in(state, others, objects, messages, tables, id)
+}
+
+fn plt_in(
+    state: &[u8],
+    others: &[u64],
+    objects: &[u8],
+    messages: &[u8],
+    tables: &[u8],
+) -> TableReading
+    ensures { λ r. ⌜ r ≡ pltRead (lent (now (state .entry)) (now (others .entry)) (now (objects .entry)) (now (messages .entry)) (now (tables .entry))) ⌝ }
+{
+    if !readings::is_session(state, others, objects, messages, tables) {
+        return TableReading::Refused(5);
+    }
+    match plt_part(state) {
+        MaybePart::None => TableReading::Nothing,
+        MaybePart::Some(p) => handed_out(plt_parses(p.of(tables)), p),
+    }
+}
+
+// The kept PLT.
+pub fn plt(
+    state: &[u8],
+    others: &[u64; 256],
+    objects: &[u8],
+    messages: &[u8],
+    tables: &[u8],
+) -> TableReading
+    ensures { λ r. ⌜ r ≡ pltRead (lent (now (state .entry)) (now (others .entry)) (now (objects .entry)) (now (messages .entry)) (now (tables .entry))) ⌝ }
+{
+    plt_in(state, others, objects, messages, tables)
+}
+
+fn tot_in(
+    state: &[u8],
+    others: &[u64],
+    objects: &[u8],
+    messages: &[u8],
+    tables: &[u8],
+) -> TableReading
+    ensures { λ r. ⌜ r ≡ totRead (lent (now (state .entry)) (now (others .entry)) (now (objects .entry)) (now (messages .entry)) (now (tables .entry))) ⌝ }
+{
+    if !readings::is_session(state, others, objects, messages, tables) {
+        return TableReading::Refused(5);
+    }
+    match tot_part(state) {
+        MaybePart::None => TableReading::Nothing,
+        MaybePart::Some(p) => handed_out(tot_parses(p.of(tables)), p),
+    }
+}
+
+// The kept TOT.
+pub fn tot(
+    state: &[u8],
+    others: &[u64; 256],
+    objects: &[u8],
+    messages: &[u8],
+    tables: &[u8],
+) -> TableReading
+    ensures { λ r. ⌜ r ≡ totRead (lent (now (state .entry)) (now (others .entry)) (now (objects .entry)) (now (messages .entry)) (now (tables .entry))) ⌝ }
+{
+    tot_in(state, others, objects, messages, tables)
 }
