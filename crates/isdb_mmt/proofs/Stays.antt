@@ -104,7 +104,7 @@ module _ {A B : Type 0} (of : Bytes → A) (name : A → ℕ) (g : ℕ → A →
   map-names f [] = refl
   map-names f (p ∷ ps) = rw (f p, map-names f ps)
 
-  names-view : 4 ≤ size → ((i : ℕ) (x : A) → g i x .0 ≡ name x) → ((p : Bytes) → name (of p) ≡ be 4 p 0)
+  pub names-view : 4 ≤ size → ((i : ℕ) (x : A) → g i x .0 ≡ name x) → ((p : Bytes) → name (of p) ≡ be 4 p 0)
       → keys (indexed g 0 (map of (placesFrom n size at l))) ≡ namesFrom n size at l
   names-view h f e =
       keys-indexed g name f (map of (placesFrom n size at l)) 0 ∙ map-names e (placesFrom n size at l) ∙ names-of size h n at l
@@ -175,11 +175,11 @@ media-name : (p : Bytes) → mediaPlaceOf p .«packet_id» ≡ be 4 p 0
 unfolding mediaPlaceOf
 media-name p = refl
 
-control-name : (p : Bytes) → controlPlaceOf p .«packet_id» ≡ be 4 p 0
+pub control-name : (p : Bytes) → controlPlaceOf p .«packet_id» ≡ be 4 p 0
 unfolding controlPlaceOf
 control-name p = refl
 
-section-name : (p : Bytes) → sectionPlaceOf p .key ≡ be 4 p 0
+pub section-name : (p : Bytes) → sectionPlaceOf p .key ≡ be 4 p 0
 unfolding sectionPlaceOf
 section-name p = refl
 

@@ -1,0 +1,210 @@
+-- Readings of kept tables hand out what the view keeps. Assumes nothing.
+use Prim.Native.Nat.{ℕ, zero, suc, _+_, _-_, _*_, _≤_, _<_}
+use mathlib.Core.Path.{_≡_, refl, sym, ap, _∙_}
+use mathlib.Core.Bool.{Bool, true, false}
+use mathlib.Core.Option.{Option, none, some}
+use mathlib.Core.List.{List, [], _∷_, map}
+use native.Mathlib.Omega.{arith}
+use native.Mathlib.Nat.{zero-add, mul-le-mul-right}
+use lib.ListN.{length, getD}
+use Rattle.isdb_tlv.proofs.Guards.{either}
+use Rattle.isdb_tlv.specs.Guards.{if_then_else_}
+use Rattle.isdb_mmt.specs.Packet.{Bytes}
+use Rattle.isdb_mmt.specs.Part.{partOf}
+use Rattle.isdb_mmt.specs.Maps.{find}
+use Rattle.isdb_mmt.specs.Kept.{Kept, parsesAs, mptParses, pltParses, totParses}
+use Rattle.isdb_mmt.specs.Mpt.{mptOf}
+use Rattle.isdb_mmt.specs.Plt.{pltOf}
+use Rattle.isdb_mmt.specs.Tot.{totOf}
+use Rattle.isdb_mmt.specs.Layout.{controlPlaces, controlSize, sectionPlaces, sectionSize}
+use Rattle.isdb_mmt.specs.Lent.{part, placesFrom, namesFrom, foundFrom, indexed, every}
+use Rattle.isdb_mmt.specs.Session.{Session, limitsOf, usedOf, latestOf, controlPlaceOf, controlAt, sectionPlaceOf, sectionAt}
+use Rattle.isdb_mmt.specs.Check.{controlsIn, sectionsIn, controlSound, sectionSound, lengthsOf, sound, Sound}
+use Rattle.isdb_mmt.specs.View.{given, controlStateOf, controlEntry, sectionEntry, viewBy, view}
+use Rattle.isdb_mmt.specs.Readings.{areaPart, sectionFound, sectionPart, controlFound, mptAt, mptPart, pltPart, totPart, tableIf, tableRead, tableIdOf, sectionRead, mptRead, pltRead, totRead}
+use Rattle.isdb_mmt.specs.TableReadingLaws.{Says, refused, nothing, these, says, saysOf, sectionBytes, mptBytes, Inside, Reads, KeptRead, KeptTables}
+use Rattle.isdb_mmt.specs.declared.part.Part.{Part}
+use Rattle.isdb_mmt.specs.declared.decoder.readings.TableReading.{TableReading}
+use Rattle.isdb_mmt.specs.declared.decoder.readings.TableReading.the-variants.{Refused as tableRefused, Nothing as noTable, Bytes as theBytes}
+use Rattle.isdb_mmt.specs.declared.decoder.limits.Limits.{Limits}
+use Rattle.isdb_mmt.specs.declared.decoder.control.Control.{Control}
+use Rattle.isdb_mmt.specs.declared.decoder.section.KeptSection.{KeptSection}
+use Rattle.isdb_mmt.specs.declared.decoder.place.Found.{Found}
+use Rattle.isdb_mmt.specs.declared.decoder.place.Found.the-variants.{At, Nothing}
+use Rattle.isdb_mmt.proofs.Lent.{length-places}
+use Rattle.isdb_mmt.proofs.Seats.{length-map, length-indexed, getD-indexed}
+use Rattle.isdb_mmt.proofs.Views.{keys, entry, stands, Stands, absent}
+use Rattle.isdb_mmt.proofs.Stays.{names-view, section-name, control-name}
+use Rattle.isdb_mmt.proofs.LinePlaces.{getD-places}
+use Rattle.isdb_mmt.proofs.Limits.{Passed, passed}
+use Rattle.isdb_mmt.proofs.Checks.{sound-session, place-was, section-was, control-was}
+use Rattle.isdb_mmt.proofs.KeptParts.{found-in-use}
+
+-- ---- a name's place is its entry in the map
+
+module _ {A B : Type 0} (of : Bytes → A) (g : ℕ → A → ℕ × B) (size at n : ℕ) (l : Bytes) (x : ℕ) where
+  abbrev entries : List (ℕ × B)
+  entries = indexed g 0 (map of (placesFrom n size at l))
+
+  abbrev pub entryAt : Found → Option B
+  entryAt Nothing = none
+  entryAt (At i) = some (g i (of (part (at + size * i) size l)) .1)
+
+  found-entry : keys entries ≡ namesFrom n size at l → (r : Found) → foundFrom 0 (namesFrom n size at l) x ≡ r → find x entries ≡ entryAt r
+  found-entry e Nothing f = absent entries x 0 (ap (λ (ns : List ℕ). foundFrom 0 ns x) e ∙ f) .0
+  found-entry e (At i) f =
+      let d : B = g 0 (of []) .1 in
+      let z : i - 0 ≡ i = omega arith in
+      let w : Stands entries x i = rw z at (stands entries x 0 i (ap (λ (ns : List ℕ). foundFrom 0 ns x) e ∙ f) .1) in
+      let k : i < n = found-in-use size n at x l (foundFrom 0 (namesFrom n size at l) x) refl i f in
+      let b : length (map of (placesFrom n size at l)) ≡ n = length-map of (placesFrom n size at l) ∙ length-places size n at l in
+      let q : getD entries i (0, d) ≡ g (0 + i) (getD (map of (placesFrom n size at l)) i (of [])) =
+      getD-indexed g (map of (placesFrom n size at l)) 0 i (of []) (0, d) (omega arith) in
+      let p : getD entries i (0, d) ≡ g i (of (part (at + size * i) size l)) =
+      q ∙ ap (λ j. g j (getD (map of (placesFrom n size at l)) i (of []))) (zero-add i) ∙ ap (g i) (getD-places of size (of []) l n i at k) in
+      w .found d ∙ ap (λ (v : ℕ × B). some (v .1)) p
+
+-- ---- a part that may be there, and its bytes
+
+abbrev bytesIn : Bytes → Option Part → Option Bytes
+bytesIn b none = none
+bytesIn b (some p) = some (partOf b p)
+
+abbrev Within : Bytes → Option Part → Type 0
+Within b none = Unit {0}
+Within b (some p) = p .start + p .length ≤ length b
+
+says-so : (parses : Bytes → Bool) (b : Bytes) (o : Option Part) → says b (tableIf parses b o) ≡ saysOf parses (bytesIn b o)
+says-so parses b none = refl
+says-so parses b (some p) = either (parses (partOf b p)) (λ t. rw t refl) (λ f. rw f refl)
+
+stays-inside : (parses : Bytes → Bool) (b : Bytes) (o : Option Part) → Within b o → Inside b (tableIf parses b o)
+stays-inside parses b none h = tt
+stays-inside parses b (some p) h = either (parses (partOf b p)) (λ t. rw t h) (λ f. rw f tt)
+
+module _ (s : Session) (ok : sound s ≡ true) where
+  abbrev facts : Sound (s .state) (s .others) (lengthsOf s)
+  facts = sound-session s ok
+
+  abbrev l : Limits
+  l = limitsOf (s .state)
+
+  reads : (parses : Bytes → Bool) (o : Option Part) (v : Option Bytes) → bytesIn (s .tables) o ≡ v → Within (s .tables) o
+      → Reads (s .tables) (tableRead s parses o) parses v
+  reads parses o v e w =
+      record {
+        says = rw ok (says-so parses (s .tables) o ∙ ap (saysOf parses) e);
+        inside = rw ok (stays-inside parses (s .tables) o w);
+      }
+
+  -- an area lies within the tables
+  area-in : (i n : ℕ) → i < l .sections + l .«control_ids» + 2 → n ≤ l .«table_area» → i * l .«table_area» + n ≤ length (s .tables)
+  area-in i n h b =
+      let p = passed l (lengthsOf s) (facts .limits) in
+      let q : (i + 1) * l .«table_area» ≤ (l .sections + l .«control_ids» + 2) * l .«table_area» = mul-le-mul-right (l .«table_area») (omega arith) in
+      omega (arith, p .tables)
+
+  -- ---- a section
+  module _ (k : ℕ) where
+    section-of : (r : Found) → bytesIn (s .tables) (sectionPart s r) ≡ sectionBytes (entryAt sectionPlaceOf (sectionEntry l s) sectionSize sectionPlaces (usedOf (s .state) .sections) (s .state) k r)
+    section-of Nothing = refl
+    section-of (At i) = refl
+
+    section-view : (r : Found) → sectionFound s k ≡ r → bytesIn (s .tables) (sectionPart s r) ≡ sectionBytes (find k (view s .store .kept))
+    unfolding sectionFound view viewBy sectionsIn
+    section-view r e =
+        section-of r
+        ∙ sym
+        (ap sectionBytes
+        (found-entry sectionPlaceOf (sectionEntry l s) sectionSize sectionPlaces (usedOf (s .state) .sections) (s .state) k
+        (names-view sectionPlaceOf (λ m. m .key) (sectionEntry l s) sectionSize sectionPlaces (usedOf (s .state) .sections) (s .state) (omega arith) (λ i m. refl) section-name)
+        r e))
+
+    section-within : (r : Found) → sectionFound s k ≡ r → Within (s .tables) (sectionPart s r)
+    unfolding sectionFound sectionsIn
+    section-within Nothing e = tt
+    section-within (At i) e =
+        let u : i < usedOf (s .state) .sections =
+        found-in-use sectionSize (usedOf (s .state) .sections) sectionPlaces k (s .state) (foundFrom 0 (namesFrom (usedOf (s .state) .sections) sectionSize sectionPlaces (s .state)) k) refl i e in
+        area-in i (sectionAt (s .state) i .length) (omega (arith, facts .sections))
+        (section-was l (sectionAt (s .state) i)
+        (place-was (sectionSound l) sectionPlaceOf (usedOf (s .state) .sections) sectionSize sectionPlaces (s .state) i (facts .kept) u))
+
+    pub section-read : Reads (s .tables) (sectionRead s k) (parsesAs (tableIdOf k)) (sectionBytes (find k (view s .store .kept)))
+    unfolding sectionRead
+    section-read =
+        reads (parsesAs (tableIdOf k)) (sectionPart s (sectionFound s k)) (sectionBytes (find k (view s .store .kept))) (section-view (sectionFound s k) refl)
+        (section-within (sectionFound s k) refl)
+
+  -- ---- an MPT
+  module _ (id : ℕ) where
+    at-place : (i : ℕ) (c : Control) (m : Bytes) → bytesIn (s .tables) (mptAt l i c) ≡ mptBytes (some (controlStateOf c m (part ((l .sections + i) * l .«table_area») (c .«mpt_length») (s .tables))))
+    unfolding controlStateOf
+    at-place i c m = either (c .mpt) (λ t. rw t refl) (λ f. rw f refl)
+
+    mpt-of : (r : Found) → bytesIn (s .tables) (mptPart s r) ≡ mptBytes (entryAt controlPlaceOf (controlEntry l s) controlSize controlPlaces (usedOf (s .state) .«control_ids») (s .state) id r)
+    mpt-of Nothing = refl
+    mpt-of (At i) =
+        at-place i (controlAt (s .state) i) (part (i * l .«message_area») (controlAt (s .state) i .length) (s .messages))
+
+    mpt-view : (r : Found) → controlFound s id ≡ r → bytesIn (s .tables) (mptPart s r) ≡ mptBytes (find id (view s .controls))
+    unfolding controlFound view viewBy controlsIn
+    mpt-view r e =
+        mpt-of r
+        ∙ sym
+        (ap mptBytes
+        (found-entry controlPlaceOf (controlEntry l s) controlSize controlPlaces (usedOf (s .state) .«control_ids») (s .state) id
+        (names-view controlPlaceOf (λ m. m .«packet_id») (controlEntry l s) controlSize controlPlaces (usedOf (s .state) .«control_ids») (s .state) (omega arith) (λ i m. refl) control-name)
+        r e))
+
+    place-within : (i : ℕ) → i < l .«control_ids» → (c : Control) → (c .mpt ≡ true → c .«mpt_length» ≤ l .«table_area») → Within (s .tables) (mptAt l i c)
+    place-within i h c f =
+        either (c .mpt) (λ t. rw t (area-in (l .sections + i) (c .«mpt_length») (omega arith) (f t))) (λ n. rw n tt)
+
+    mpt-within : (r : Found) → controlFound s id ≡ r → Within (s .tables) (mptPart s r)
+    unfolding controlFound controlsIn
+    mpt-within Nothing e = tt
+    mpt-within (At i) e =
+        let u : i < usedOf (s .state) .«control_ids» =
+        found-in-use controlSize (usedOf (s .state) .«control_ids») controlPlaces id (s .state) (foundFrom 0 (namesFrom (usedOf (s .state) .«control_ids») controlSize controlPlaces (s .state)) id) refl i e in
+        place-within i (omega (arith, facts .controls)) (controlAt (s .state) i)
+        (control-was l (controlAt (s .state) i)
+        (place-was (controlSound l) controlPlaceOf (usedOf (s .state) .«control_ids») controlSize controlPlaces (s .state) i (facts .messages) u) .1)
+
+    pub mpt-read : Reads (s .tables) (mptRead s id) (λ b. mptParses (mptOf b .mpt)) (mptBytes (find id (view s .controls)))
+    unfolding mptRead
+    mpt-read =
+        reads (λ b. mptParses (mptOf b .mpt)) (mptPart s (controlFound s id)) (mptBytes (find id (view s .controls))) (mpt-view (controlFound s id) refl)
+        (mpt-within (controlFound s id) refl)
+
+  -- ---- the PLT and the TOT
+  given-part : (t : Bool) (p : Part) → bytesIn (s .tables) (given t p) ≡ given t (partOf (s .tables) p)
+  given-part true p = refl
+  given-part false p = refl
+
+  given-within : (t : Bool) (i n : ℕ) → i < l .sections + l .«control_ids» + 2 → (t ≡ true → n ≤ l .«table_area») → Within (s .tables) (given t (areaPart l i n))
+  given-within true i n h f = area-in i n h (f refl)
+  given-within false i n h f = tt
+
+  pub plt-read : Reads (s .tables) (pltRead s) (λ b. pltParses (pltOf b)) (view s .store .plt)
+  unfolding pltRead view viewBy
+  plt-read =
+      reads (λ b. pltParses (pltOf b)) (pltPart s) (view s .store .plt)
+      (given-part (latestOf (s .state) .plt) (areaPart l (l .sections + l .«control_ids») (latestOf (s .state) .«plt_length»)))
+      (given-within (latestOf (s .state) .plt) (l .sections + l .«control_ids») (latestOf (s .state) .«plt_length») (omega arith) (facts .plt))
+
+  pub tot-read : Reads (s .tables) (totRead s) (λ b. totParses (totOf b .result)) (view s .store .tot)
+  unfolding totRead view viewBy
+  tot-read =
+      reads (λ b. totParses (totOf b .result)) (totPart s) (view s .store .tot)
+      (given-part (latestOf (s .state) .tot) (areaPart l (l .sections + l .«control_ids» + 1) (latestOf (s .state) .«tot_length»)))
+      (given-within (latestOf (s .state) .tot) (l .sections + l .«control_ids» + 1) (latestOf (s .state) .«tot_length») (omega arith) (facts .tot))
+
+pub kept-tables : KeptTables
+kept-tables s ok =
+    record {
+      section = section-read s ok;
+      mpt = mpt-read s ok;
+      plt = plt-read s ok;
+      tot = tot-read s ok;
+    }

@@ -1,0 +1,66 @@
+-- What the readings of kept tables tell of a session, in the words of its view (View.antt).
+use Prim.Native.Nat.{ℕ, _+_, _≤_}
+use mathlib.Core.Path.{_≡_}
+use mathlib.Core.Bool.{Bool, true, false}
+use mathlib.Core.Option.{Option, none, some}
+use lib.ListN.{length}
+use Rattle.isdb_tlv.specs.Guards.{if_then_else_}
+use Rattle.isdb_mmt.specs.Packet.{Bytes}
+use Rattle.isdb_mmt.specs.Part.{partOf}
+use Rattle.isdb_mmt.specs.Maps.{find}
+use Rattle.isdb_mmt.specs.Kept.{Kept, parsesAs, mptParses, pltParses, totParses}
+use Rattle.isdb_mmt.specs.Mpt.{mptOf}
+use Rattle.isdb_mmt.specs.Plt.{pltOf}
+use Rattle.isdb_mmt.specs.Tot.{totOf}
+use Rattle.isdb_mmt.specs.Model.{Control}
+use Rattle.isdb_mmt.specs.Session.{Session}
+use Rattle.isdb_mmt.specs.Check.{sound}
+use Rattle.isdb_mmt.specs.View.{view}
+use Rattle.isdb_mmt.specs.Readings.{tableIdOf, sectionRead, mptRead, pltRead, totRead}
+use Rattle.isdb_mmt.specs.declared.decoder.readings.TableReading.{TableReading}
+use Rattle.isdb_mmt.specs.declared.decoder.readings.TableReading.the-variants.{Refused as tableRefused, Nothing as noTable, Bytes as theBytes}
+
+-- what an answer says, its bytes taken from the lent tables
+pub data Says : Type 0 where
+  refused : ℕ → Says
+  nothing : Says
+  these : Bytes → Says
+
+abbrev pub says : Bytes → TableReading → Says
+says tables (tableRefused n) = refused n
+says tables noTable = nothing
+says tables (theBytes p) = these (partOf tables p)
+
+-- what is to be said of a table that may be kept: one that does not parse is damaged, which is 5
+abbrev pub saysOf : (Bytes → Bool) → Option Bytes → Says
+saysOf parses none = nothing
+saysOf parses (some b) = if parses b then these b else refused 5
+
+abbrev pub sectionBytes : Option Kept → Option Bytes
+sectionBytes none = none
+sectionBytes (some k) = some (k .bytes)
+
+abbrev pub mptBytes : Option Control → Option Bytes
+mptBytes none = none
+mptBytes (some c) = c .mpt
+
+-- bytes that are handed out lie within the lent tables
+abbrev pub Inside : Bytes → TableReading → Type 0
+Inside tables (tableRefused n) = Unit {0}
+Inside tables noTable = Unit {0}
+Inside tables (theBytes p) = p .start + p .length ≤ length tables
+
+-- the answer to a reading of a table that the view keeps or does not keep
+pub record Reads (tables : Bytes) (r : TableReading) (parses : Bytes → Bool) (kept : Option Bytes) : Type 0 where
+  pub says : says tables r ≡ saysOf parses kept
+  pub inside : Inside tables r
+
+-- every reading of a session's kept tables
+pub record KeptRead (s : Session) : Type 0 where
+  pub section : (k : ℕ) → Reads (s .tables) (sectionRead s k) (parsesAs (tableIdOf k)) (sectionBytes (find k (view s .store .kept)))
+  pub mpt : (id : ℕ) → Reads (s .tables) (mptRead s id) (λ b. mptParses (mptOf b .mpt)) (mptBytes (find id (view s .controls)))
+  pub plt : Reads (s .tables) (pltRead s) (λ b. pltParses (pltOf b)) (view s .store .plt)
+  pub tot : Reads (s .tables) (totRead s) (λ b. totParses (totOf b .result)) (view s .store .tot)
+
+abbrev pub KeptTables : Type 0
+KeptTables = (s : Session) → sound s ≡ true → KeptRead s
