@@ -100,3 +100,5 @@ pub mod Lines
 pub mod Pushing
 pub mod KeptParts
 pub mod TableReadings
+pub mod ReadSteps
+pub mod Least

@@ -45,11 +45,11 @@ pub earlier-in : (at size n i m : ℕ) → at + n * size ≤ m → i < n → at 
 earlier-in at size n i m h b = let k : i * size ≤ n * size = mul-le-mul-right size (omega arith) in omega arith
 
 module _ (l : List ℕ) (size n i p : ℕ) where
-  next : i < n → namesFrom (n - i) size p l ≡ be 4 l p ∷ namesFrom (n - (i + 1)) size (p + size) l
+  pub next : i < n → namesFrom (n - i) size p l ≡ be 4 l p ∷ namesFrom (n - (i + 1)) size (p + size) l
   unfolding namesFrom
   next h = let e : n - i ≡ suc (n - (i + 1)) = omega arith in rw e
 
-  end : n ≤ i → namesFrom (n - i) size p l ≡ []
+  pub end : n ≤ i → namesFrom (n - i) size p l ≡ []
   unfolding namesFrom
   end h = let e : n - i ≡ 0 = omega arith in rw e
 

@@ -18,6 +18,7 @@ mod control;
 mod counted;
 pub mod counts;
 mod head;
+pub mod ids;
 mod joined;
 pub mod kept;
 mod layout;

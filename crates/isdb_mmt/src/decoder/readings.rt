@@ -3,9 +3,12 @@
 ghost use mathlib.Core.Path.{_≡_};
 ghost use Rattle.isdb_mmt.specs.Opening.{lent};
 ghost use Rattle.isdb_mmt.specs.Check.{sound};
+ghost use Rattle.isdb_mmt.specs.Readings.{countersRead, timeRead, countRead};
 use crate::decoder::check;
+use crate::decoder::counts;
 use crate::decoder::counts::AssetStats;
 use crate::decoder::counts::Counters;
+use crate::decoder::head;
 use crate::decoder::limits::Lengths;
 use crate::maybe::MaybeU16;
 use crate::maybe::MaybeU32;
@@ -130,4 +133,57 @@ pub(crate) fn is_session(
         tables: tables.len() as u64,
     };
     check::ready(state, others, lengths)
+}
+
+// The counts of packets, tables and messages.
+pub fn counters(
+    state: &[u8],
+    others: &[u64; 256],
+    objects: &[u8],
+    messages: &[u8],
+    tables: &[u8],
+) -> CountersReading
+    ensures { λ r. ⌜ r ≡ countersRead (lent (now (state .entry)) (now (others .entry)) (now (objects .entry)) (now (messages .entry)) (now (tables .entry))) ⌝ }
+{
+    if !is_session(state, others, objects, messages, tables) {
+        return CountersReading::Refused(5);
+    }
+    CountersReading::Counters(counts::counters_of(state))
+}
+
+// The last NTP timestamp.
+pub fn time(
+    state: &[u8],
+    others: &[u64; 256],
+    objects: &[u8],
+    messages: &[u8],
+    tables: &[u8],
+) -> TimeReading
+    ensures { λ r. ⌜ r ≡ timeRead (lent (now (state .entry)) (now (others .entry)) (now (objects .entry)) (now (messages .entry)) (now (tables .entry))) ⌝ }
+{
+    if !is_session(state, others, objects, messages, tables) {
+        return TimeReading::Refused(5);
+    }
+    let t = head::load_time(state);
+    if t.seen {
+        return TimeReading::Timestamp(t.timestamp);
+    }
+    TimeReading::Nothing
+}
+
+// How many tables of an id came that are not decoded.
+pub fn table_count(
+    state: &[u8],
+    others: &[u64; 256],
+    objects: &[u8],
+    messages: &[u8],
+    tables: &[u8],
+    id: u8,
+) -> CountReading
+    ensures { λ r. ⌜ r ≡ countRead (lent (now (state .entry)) (now (others .entry)) (now (objects .entry)) (now (messages .entry)) (now (tables .entry))) id ⌝ }
+{
+    if !is_session(state, others, objects, messages, tables) {
+        return CountReading::Refused(5);
+    }
+    CountReading::Count(others[id as usize])
 }
