@@ -99,6 +99,7 @@ pub mod LinePlaces
 pub mod Lines
 pub mod Pushing
 pub mod KeptParts
+pub mod AssetReadings
 pub mod TableReadings
 pub mod ReadSteps
 pub mod Least

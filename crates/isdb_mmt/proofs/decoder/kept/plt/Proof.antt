@@ -1,7 +1,7 @@
 use Rattle.isdb_mmt.proofs.KeptParts.{plt-bytes, plt-five, plt-nothing, session-reached}
 use borrow.Author.Needs.{needs}
-use Rattle.isdb_mmt.proofs.decoder.kept.plt_in.Statement.{statement}
-use Rattle.isdb_mmt.proofs.decoder.kept.plt_in.Tie as tie
+use Rattle.isdb_mmt.proofs.decoder.kept.plt.Statement.{statement}
+use Rattle.isdb_mmt.proofs.decoder.kept.plt.Tie as tie
 
 returns : tie.Need-returns
 returns c = search (needs, plt-five)
@@ -15,8 +15,8 @@ returns-2 c = search (needs, plt-nothing)
 returns-3 : tie.Need-returns-3
 returns-3 c = search (needs, plt-bytes)
 
-pub plt-in-spec : {M : Type 1} → statement M
-plt-in-spec =
+pub plt-spec : {M : Type 1} → statement M
+plt-spec =
     tie.close
     (tie.spec
     (λ c κs. search needs)

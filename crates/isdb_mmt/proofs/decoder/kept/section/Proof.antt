@@ -1,7 +1,7 @@
 use Rattle.isdb_mmt.proofs.KeptParts.{section-bytes, section-five, section-nothing, session-reached}
 use borrow.Author.Needs.{needs}
-use Rattle.isdb_mmt.proofs.decoder.kept.section_in.Statement.{statement}
-use Rattle.isdb_mmt.proofs.decoder.kept.section_in.Tie as tie
+use Rattle.isdb_mmt.proofs.decoder.kept.section.Statement.{statement}
+use Rattle.isdb_mmt.proofs.decoder.kept.section.Tie as tie
 
 returns : tie.Need-returns
 returns c = search (needs, section-five)
@@ -15,8 +15,8 @@ returns-2 c = search (needs, section-nothing)
 returns-3 : tie.Need-returns-3
 returns-3 c = search (needs, section-bytes)
 
-pub section-in-spec : {M : Type 1} → statement M
-section-in-spec =
+pub section-spec : {M : Type 1} → statement M
+section-spec =
     tie.close
     (tie.spec
     (λ c κs. search needs)

@@ -1,7 +1,7 @@
 use Rattle.isdb_mmt.proofs.KeptParts.{session-reached, tot-bytes, tot-five, tot-nothing}
 use borrow.Author.Needs.{needs}
-use Rattle.isdb_mmt.proofs.decoder.kept.tot_in.Statement.{statement}
-use Rattle.isdb_mmt.proofs.decoder.kept.tot_in.Tie as tie
+use Rattle.isdb_mmt.proofs.decoder.kept.tot.Statement.{statement}
+use Rattle.isdb_mmt.proofs.decoder.kept.tot.Tie as tie
 
 returns : tie.Need-returns
 returns c = search (needs, tot-five)
@@ -15,8 +15,8 @@ returns-2 c = search (needs, tot-nothing)
 returns-3 : tie.Need-returns-3
 returns-3 c = search (needs, tot-bytes)
 
-pub tot-in-spec : {M : Type 1} → statement M
-tot-in-spec =
+pub tot-spec : {M : Type 1} → statement M
+tot-spec =
     tie.close
     (tie.spec
     (λ c κs. search needs)

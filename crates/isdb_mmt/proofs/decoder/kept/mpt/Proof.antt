@@ -1,7 +1,7 @@
 use Rattle.isdb_mmt.proofs.KeptParts.{mpt-bytes, mpt-five, mpt-nothing, session-reached}
 use borrow.Author.Needs.{needs}
-use Rattle.isdb_mmt.proofs.decoder.kept.mpt_in.Statement.{statement}
-use Rattle.isdb_mmt.proofs.decoder.kept.mpt_in.Tie as tie
+use Rattle.isdb_mmt.proofs.decoder.kept.mpt.Statement.{statement}
+use Rattle.isdb_mmt.proofs.decoder.kept.mpt.Tie as tie
 
 returns : tie.Need-returns
 returns c = search (needs, mpt-five)
@@ -15,8 +15,8 @@ returns-2 c = search (needs, mpt-nothing)
 returns-3 : tie.Need-returns-3
 returns-3 c = search (needs, mpt-bytes)
 
-pub mpt-in-spec : {M : Type 1} → statement M
-mpt-in-spec =
+pub mpt-spec : {M : Type 1} → statement M
+mpt-spec =
     tie.close
     (tie.spec
     (λ c κs. search needs)
