@@ -13,7 +13,7 @@ use Rattle.isdb_mmt.specs.Packet.{Bytes}
 use Rattle.isdb_mmt.specs.Part.{partOf}
 use Rattle.isdb_mmt.specs.Maps.{find}
 use Rattle.isdb_mmt.specs.Kept.{Kept, parsesAs, mptParses, pltParses, totParses}
-use Rattle.isdb_mmt.specs.Mpt.{mptOf}
+use Rattle.isdb_mmt.specs.Mpt.{mptOf, serviceId, assetsFrom}
 use Rattle.isdb_mmt.specs.Plt.{pltOf}
 use Rattle.isdb_mmt.specs.Tot.{totOf}
 use Rattle.isdb_mmt.specs.Layout.{controlPlaces, controlSize, sectionPlaces, sectionSize}
@@ -21,9 +21,15 @@ use Rattle.isdb_mmt.specs.Lent.{part, placesFrom, namesFrom, foundFrom, 
 use Rattle.isdb_mmt.specs.Session.{Session, limitsOf, usedOf, latestOf, controlPlaceOf, controlAt, sectionPlaceOf, sectionAt}
 use Rattle.isdb_mmt.specs.Check.{controlsIn, sectionsIn, controlSound, sectionSound, lengthsOf, sound, Sound}
 use Rattle.isdb_mmt.specs.View.{given, controlStateOf, controlEntry, sectionEntry, viewBy, view}
-use Rattle.isdb_mmt.specs.Readings.{areaPart, sectionFound, sectionPart, controlFound, mptAt, mptPart, pltPart, totPart, tableIf, tableRead, tableIdOf, sectionRead, mptRead, pltRead, totRead}
-use Rattle.isdb_mmt.specs.TableReadingLaws.{Says, refused, nothing, these, says, saysOf, sectionBytes, mptBytes, Inside, Reads, KeptRead, KeptTables}
+use Rattle.isdb_mmt.specs.Readings.{areaPart, sectionFound, sectionPart, controlFound, mptAt, mptPart, pltPart, totPart, tableIf, tableRead, tableIdOf, sectionRead, mptRead, pltRead, totRead, controlNames, ascending, firstCarried, carried, assetIn, assetIf, assetAmong, assetRead}
+use Rattle.isdb_mmt.specs.TableReadingLaws.{Says, refused, nothing, these, says, saysOf, sectionBytes, mptBytes, Inside, Reads, KeptRead, KeptTables, SaysAsset, saysAsset, carriedBy, mptSays, keptSays, carriedAmong, idsOf, InsideMpt, AssetRead, CarriedAssets}
 use Rattle.isdb_mmt.specs.declared.part.Part.{Part}
+use Rattle.isdb_mmt.specs.declared.maybe.MaybeU16.{MaybeU16}
+use Rattle.isdb_mmt.specs.declared.table.mpt.Asset.{Asset}
+use Rattle.isdb_mmt.specs.declared.table.mpt.MaybeMpt.{MaybeMpt}
+use Rattle.isdb_mmt.specs.declared.table.mpt.MaybeMpt.the-variants.{None as noMpt, Some as someMpt}
+use Rattle.isdb_mmt.specs.declared.decoder.readings.AssetReading.{AssetReading}
+use Rattle.isdb_mmt.specs.declared.decoder.readings.AssetReading.the-variants.{Refused as assetRefused, Nothing as noAsset, Asset as theAsset}
 use Rattle.isdb_mmt.specs.declared.decoder.readings.TableReading.{TableReading}
 use Rattle.isdb_mmt.specs.declared.decoder.readings.TableReading.the-variants.{Refused as tableRefused, Nothing as noTable, Bytes as theBytes}
 use Rattle.isdb_mmt.specs.declared.decoder.limits.Limits.{Limits}
@@ -35,6 +41,7 @@ use Rattle.isdb_mmt.proofs.Lent.{length-places}
 use Rattle.isdb_mmt.proofs.Seats.{length-map, length-indexed, getD-indexed}
 use Rattle.isdb_mmt.proofs.Views.{keys, entry, stands, Stands, absent}
 use Rattle.isdb_mmt.proofs.Stays.{names-view, section-name, control-name}
+use Rattle.isdb_mmt.proofs.MessageLeaves.{control-names}
 use Rattle.isdb_mmt.proofs.LinePlaces.{getD-places}
 use Rattle.isdb_mmt.proofs.Limits.{Passed, passed}
 use Rattle.isdb_mmt.proofs.Checks.{sound-session, place-was, section-was, control-was}
@@ -208,3 +215,63 @@ kept-tables s ok =
       plt = plt-read s ok;
       tot = tot-read s ok;
     }
+
+-- ---- the asset that a packet id carries
+
+module _ (p id : ℕ) (tables : Bytes) (rest : AssetReading) where
+  says-carried : (m : Part) (v : MaybeU16) (o : Option Asset) → saysAsset tables (carried id m v o rest) ≡ carriedBy id (partOf tables m) v o (saysAsset tables rest)
+  says-carried m v none = refl
+  says-carried m v (some a) = refl
+
+  says-mpt : (m : Part) (t : MaybeMpt) → saysAsset tables (assetIn p id m (partOf tables m) t rest) ≡ mptSays p id (partOf tables m) t (saysAsset tables rest)
+  says-mpt m noMpt = refl
+  says-mpt m (someMpt t) =
+      says-carried m (serviceId (partOf tables m) (t .«package_id»)) (firstCarried p (partOf tables m) (assetsFrom (t .assets) (partOf tables m) (t .start) .found))
+
+  says-kept : (o : Option Part) → saysAsset tables (assetIf p tables id o rest) ≡ keptSays p id (bytesIn tables o) (saysAsset tables rest)
+  says-kept none = refl
+  says-kept (some m) = says-mpt m (mptOf (partOf tables m) .mpt)
+
+  module _ (r : InsideMpt tables rest) where
+    inside-carried : (m : Part) → m .start + m .length ≤ length tables → (v : MaybeU16) (o : Option Asset) → InsideMpt tables (carried id m v o rest)
+    inside-carried m w v none = r
+    inside-carried m w v (some a) = w
+
+    inside-mpt : (m : Part) → m .start + m .length ≤ length tables → (t : MaybeMpt) → InsideMpt tables (assetIn p id m (partOf tables m) t rest)
+    inside-mpt m w noMpt = tt
+    inside-mpt m w (someMpt t) =
+        inside-carried m w (serviceId (partOf tables m) (t .«package_id»)) (firstCarried p (partOf tables m) (assetsFrom (t .assets) (partOf tables m) (t .start) .found))
+
+    inside-kept : (o : Option Part) → Within tables o → InsideMpt tables (assetIf p tables id o rest)
+    inside-kept none w = r
+    inside-kept (some m) w = inside-mpt m w (mptOf (partOf tables m) .mpt)
+
+module _ (s : Session) (ok : sound s ≡ true) (p : ℕ) where
+  says-among : (ids : List ℕ) → saysAsset (s .tables) (assetAmong s p ids) ≡ carriedAmong p (view s .controls) ids
+  unfolding assetAmong carriedAmong
+  says-among [] = refl
+  says-among (id ∷ ids) =
+      says-kept p id (s .tables) (assetAmong s p ids) (mptPart s (controlFound s id))
+      ∙ ap (λ (o : Option Bytes). keptSays p id o (saysAsset (s .tables) (assetAmong s p ids))) (mpt-view s ok id (controlFound s id) refl)
+      ∙ ap (keptSays p id (mptBytes (find id (view s .controls)))) (says-among ids)
+
+  inside-among : (ids : List ℕ) → InsideMpt (s .tables) (assetAmong s p ids)
+  unfolding assetAmong
+  inside-among [] = tt
+  inside-among (id ∷ ids) =
+      inside-kept p id (s .tables) (assetAmong s p ids) (inside-among ids) (mptPart s (controlFound s id)) (mpt-within s ok id (controlFound s id) refl)
+
+  ids-are : controlNames s ≡ idsOf (view s .controls)
+  unfolding view viewBy
+  ids-are = sym (control-names s)
+
+  pub asset-told : AssetRead s p
+  unfolding assetRead
+  asset-told =
+      record {
+        says = rw ok (says-among (ascending (controlNames s)) ∙ ap (λ (ns : List ℕ). carriedAmong p (view s .controls) (ascending ns)) ids-are);
+        inside = rw ok (inside-among (ascending (controlNames s)));
+      }
+
+pub carried-assets : CarriedAssets
+carried-assets s ok p = asset-told s ok p

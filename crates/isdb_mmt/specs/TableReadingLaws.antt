@@ -3,20 +3,27 @@ use Prim.Native.Nat.{ℕ, _+_, _≤_}
 use mathlib.Core.Path.{_≡_}
 use mathlib.Core.Bool.{Bool, true, false}
 use mathlib.Core.Option.{Option, none, some}
+use mathlib.Core.List.{List, [], _∷_, map}
 use lib.ListN.{length}
 use Rattle.isdb_tlv.specs.Guards.{if_then_else_}
 use Rattle.isdb_mmt.specs.Packet.{Bytes}
 use Rattle.isdb_mmt.specs.Part.{partOf}
 use Rattle.isdb_mmt.specs.Maps.{find}
 use Rattle.isdb_mmt.specs.Kept.{Kept, parsesAs, mptParses, pltParses, totParses}
-use Rattle.isdb_mmt.specs.Mpt.{mptOf}
+use Rattle.isdb_mmt.specs.Mpt.{mptOf, serviceId, assetsFrom}
 use Rattle.isdb_mmt.specs.Plt.{pltOf}
 use Rattle.isdb_mmt.specs.Tot.{totOf}
 use Rattle.isdb_mmt.specs.Model.{Control}
 use Rattle.isdb_mmt.specs.Session.{Session}
 use Rattle.isdb_mmt.specs.Check.{sound}
 use Rattle.isdb_mmt.specs.View.{view}
-use Rattle.isdb_mmt.specs.Readings.{tableIdOf, sectionRead, mptRead, pltRead, totRead}
+use Rattle.isdb_mmt.specs.Readings.{tableIdOf, sectionRead, mptRead, pltRead, totRead, firstCarried, ascending, assetRead}
+use Rattle.isdb_mmt.specs.declared.maybe.MaybeU16.{MaybeU16}
+use Rattle.isdb_mmt.specs.declared.table.mpt.Asset.{Asset}
+use Rattle.isdb_mmt.specs.declared.table.mpt.MaybeMpt.{MaybeMpt}
+use Rattle.isdb_mmt.specs.declared.table.mpt.MaybeMpt.the-variants.{None as noMpt, Some as someMpt}
+use Rattle.isdb_mmt.specs.declared.decoder.readings.AssetReading.{AssetReading}
+use Rattle.isdb_mmt.specs.declared.decoder.readings.AssetReading.the-variants.{Refused as assetRefused, Nothing as noAsset, Asset as theAsset}
 use Rattle.isdb_mmt.specs.declared.decoder.readings.TableReading.{TableReading}
 use Rattle.isdb_mmt.specs.declared.decoder.readings.TableReading.the-variants.{Refused as tableRefused, Nothing as noTable, Bytes as theBytes}
 
@@ -64,3 +71,51 @@ pub record KeptRead (s : Session) : Type 0 where
 
 abbrev pub KeptTables : Type 0
 KeptTables = (s : Session) → sound s ≡ true → KeptRead s
+
+-- ---- the asset that a packet id carries
+
+-- what an answer says: a number, nothing, or the control id, its MPT's bytes, their service and the asset
+pub data SaysAsset : Type 0 where
+  refusedAsset : ℕ → SaysAsset
+  nothingCarried : SaysAsset
+  anAsset : ℕ → Bytes → MaybeU16 → Asset → SaysAsset
+
+abbrev pub saysAsset : Bytes → AssetReading → SaysAsset
+saysAsset tables (assetRefused n) = refusedAsset n
+saysAsset tables noAsset = nothingCarried
+saysAsset tables (theAsset x) = anAsset (x .«control_id») (partOf tables (x .mpt)) (x .«service_id») (x .asset)
+
+-- what the MPT with bytes `b` says, where `rest` is what those behind it say
+abbrev pub carriedBy : ℕ → Bytes → MaybeU16 → Option Asset → SaysAsset → SaysAsset
+carriedBy id b v none rest = rest
+carriedBy id b v (some a) rest = anAsset id b v a
+
+abbrev pub mptSays : ℕ → ℕ → Bytes → MaybeMpt → SaysAsset → SaysAsset
+mptSays p id b noMpt rest = refusedAsset 5
+mptSays p id b (someMpt t) rest =
+    carriedBy id b (serviceId b (t .«package_id»)) (firstCarried p b (assetsFrom (t .assets) b (t .start) .found)) rest
+
+abbrev pub keptSays : ℕ → ℕ → Option Bytes → SaysAsset → SaysAsset
+keptSays p id none rest = rest
+keptSays p id (some b) rest = mptSays p id b (mptOf b .mpt) rest
+
+-- the MPTs of some control ids, one behind the other
+unfoldable pub carriedAmong : ℕ → List (ℕ × Control) → List ℕ → SaysAsset
+carriedAmong p m [] = nothingCarried
+carriedAmong p m (id ∷ ids) = keptSays p id (mptBytes (find id m)) (carriedAmong p m ids)
+
+abbrev pub idsOf : List (ℕ × Control) → List ℕ
+idsOf m = map (λ (e : ℕ × Control). e .0) m
+
+abbrev pub InsideMpt : Bytes → AssetReading → Type 0
+InsideMpt tables (assetRefused n) = Unit {0}
+InsideMpt tables noAsset = Unit {0}
+InsideMpt tables (theAsset x) = x .mpt .start + x .mpt .length ≤ length tables
+
+-- the view's MPTs in ascending order of their control ids; the MPT that is handed out lies within the lent tables
+pub record AssetRead (s : Session) (p : ℕ) : Type 0 where
+  pub says : saysAsset (s .tables) (assetRead s p) ≡ carriedAmong p (view s .controls) (ascending (idsOf (view s .controls)))
+  pub inside : InsideMpt (s .tables) (assetRead s p)
+
+abbrev pub CarriedAssets : Type 0
+CarriedAssets = (s : Session) → sound s ≡ true → (p : ℕ) → AssetRead s p
