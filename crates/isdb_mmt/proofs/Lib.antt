@@ -103,3 +103,4 @@ pub mod AssetReadings
 pub mod TableReadings
 pub mod ReadSteps
 pub mod Least
+pub mod Readings

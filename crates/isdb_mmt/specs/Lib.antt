@@ -50,6 +50,7 @@ pub mod Push
 pub mod Readings
 pub mod KeptParts
 pub mod TableReadingLaws
+pub mod ReadingLaws
 pub mod PushCases
 pub mod Placing
 pub mod Survey
