@@ -11,7 +11,7 @@ use Rattle.isdb_mmt.specs.Lent.{part, over}
 use Rattle.isdb_mmt.specs.MediaPush.{heldOver}
 use Rattle.isdb_mmt.proofs.Lent.{over-next}
 
-length-part : (at n : ℕ) (l : List ℕ) → at + n ≤ length l → length (part at n l) ≡ n
+pub length-part : (at n : ℕ) (l : List ℕ) → at + n ≤ length l → length (part at n l) ≡ n
 length-part at n l h = length-take-le n (drop at l) (rw length-drop (omega arith))
 
 -- no unit taken: the held bytes are there already

@@ -10,9 +10,9 @@ use Rattle.isdb_mmt.specs.Packet.{Bytes}
 use Rattle.isdb_mmt.specs.Part.{partOf}
 use Rattle.isdb_mmt.specs.Maps.{find}
 use Rattle.isdb_mmt.specs.Objects.{Mfu, Asset}
-use Rattle.isdb_mmt.specs.Joins.{Join, Line}
-use Rattle.isdb_mmt.specs.Kept.{Store, Counters as Counts}
-use Rattle.isdb_mmt.specs.Model.{State, Control as ControlLine}
+use Rattle.isdb_mmt.specs.Joins.{Join}
+use Rattle.isdb_mmt.specs.Kept.{Counters as Counts}
+use Rattle.isdb_mmt.specs.Model.{Control as ControlLine}
 use Rattle.isdb_mmt.specs.Lent.{among}
 use Rattle.isdb_mmt.specs.Octets.{Octets}
 use Rattle.isdb_mmt.specs.Session.{Session}
