@@ -100,7 +100,7 @@ pub mod Lines
 pub mod Pushing
 pub mod KeptParts
 pub mod AssetReadings
-pub mod TableReadings
 pub mod ReadSteps
 pub mod Least
 pub mod Readings
+pub mod TableReadings

@@ -68,7 +68,7 @@ module _ {A B : Type 0} (g : ℕ → A → ℕ × B) (of : List ℕ → A) (size
   abbrev all : List (ℕ × B)
   all = indexed g 0 (map of (placesFrom n size at l))
 
-  entry-found : (i : ℕ) → foundFrom 0 (namesFrom n size at l) id ≡ At i → (i < n) × (find id all ≡ some (g i (of (part (at + size * i) size l)) .1))
+  pub entry-found : (i : ℕ) → foundFrom 0 (namesFrom n size at l) id ≡ At i → (i < n) × (find id all ≡ some (g i (of (part (at + size * i) size l)) .1))
   entry-found i e =
       let q : foundFrom 0 (keys all) id ≡ At i = ap (λ (ns : List ℕ). foundFrom 0 ns id) k ∙ e in
       let b : i < n = omega (arith, found-below (namesFrom n size at l) id 0 i e .1, length-names size n at l) in
@@ -83,7 +83,7 @@ module _ {A B : Type 0} (g : ℕ → A → ℕ × B) (of : List ℕ → A) (size
       ∙ ap (g i) (getD-places of size (of []) l n i at b) in
       (b, f ∙ ap (λ (x : ℕ × B). some (x .1)) w)
 
-  entry-missing : foundFrom 0 (namesFrom n size at l) id ≡ Nothing → find id all ≡ none
+  pub entry-missing : foundFrom 0 (namesFrom n size at l) id ≡ Nothing → find id all ≡ none
   entry-missing e = absent all id 0 (ap (λ (ns : List ℕ). foundFrom 0 ns id) k ∙ e) .0
 
 -- ---- what is known of an id

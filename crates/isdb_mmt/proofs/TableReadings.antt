@@ -1,12 +1,15 @@
 -- Readings of kept tables hand out what the view keeps. Assumes nothing.
 use Prim.Native.Nat.{ℕ, zero, suc, _+_, _-_, _*_, _≤_, _<_}
-use mathlib.Core.Path.{_≡_, refl, sym, ap, _∙_}
+use mathlib.Core.Path.{_≡_, refl, sym, ap, _∙_, subst}
 use mathlib.Core.Bool.{Bool, true, false}
 use mathlib.Core.Option.{Option, none, some}
 use mathlib.Core.List.{List, [], _∷_, map}
 use native.Mathlib.Omega.{arith}
 use native.Mathlib.Nat.{zero-add, mul-le-mul-right}
-use lib.ListN.{length, getD}
+use lib.Dec.{eqb, ltb, leb}
+use lib.Arith.{lt-of-le-ne}
+use lib.ListN.{length}
+use borrow.Author.Tests.{ne-eqb, eqb-true, eqb-false, ltb-true, ltb-false, leb-true}
 use Rattle.isdb_tlv.proofs.Guards.{either}
 use Rattle.isdb_tlv.specs.Guards.{if_then_else_}
 use Rattle.isdb_mmt.specs.Packet.{Bytes}
@@ -17,15 +20,19 @@ use Rattle.isdb_mmt.specs.Mpt.{mptOf, serviceId, assetsFrom}
 use Rattle.isdb_mmt.specs.Plt.{pltOf}
 use Rattle.isdb_mmt.specs.Tot.{totOf}
 use Rattle.isdb_mmt.specs.Layout.{controlPlaces, controlSize, sectionPlaces, sectionSize}
-use Rattle.isdb_mmt.specs.Lent.{part, placesFrom, namesFrom, foundFrom, indexed, every}
+use Rattle.isdb_mmt.specs.Lent.{part, placesFrom, namesFrom, foundFrom, among, indexed, every}
 use Rattle.isdb_mmt.specs.Session.{Session, limitsOf, usedOf, latestOf, controlPlaceOf, controlAt, sectionPlaceOf, sectionAt}
 use Rattle.isdb_mmt.specs.Check.{controlsIn, sectionsIn, controlSound, sectionSound, lengthsOf, sound, Sound}
+use Rattle.isdb_mmt.specs.Model.{Control as ControlState}
 use Rattle.isdb_mmt.specs.View.{given, controlStateOf, controlEntry, sectionEntry, viewBy, view}
 use Rattle.isdb_mmt.specs.Readings.{areaPart, sectionFound, sectionPart, controlFound, mptAt, mptPart, pltPart, totPart, tableIf, tableRead, tableIdOf, sectionRead, mptRead, pltRead, totRead, controlNames, ascending, firstCarried, carried, assetIn, assetIf, assetAmong, assetRead}
-use Rattle.isdb_mmt.specs.TableReadingLaws.{Says, refused, nothing, these, says, saysOf, sectionBytes, mptBytes, Inside, Reads, KeptRead, KeptTables, SaysAsset, saysAsset, carriedBy, mptSays, keptSays, carriedAmong, idsOf, InsideMpt, AssetRead, CarriedAssets}
+use Rattle.isdb_mmt.specs.Octets.{Octets}
+use Rattle.isdb_mmt.specs.ReadingLaws.{namesIn, rises, InOrder}
+use Rattle.isdb_mmt.specs.TableReadingLaws.{Says, refused, nothing, these, says, saysOf, sectionBytes, mptBytes, Inside, Reads, KeptRead, KeptTables, SaysAsset, saysAsset, carriedBy, mptSays, keptSays, carriedAmong, InsideMpt, AssetRead, CarriedAssets, Passes, PassedBelow, Carries, Damaged, AnswerIs, FirstCarriers}
 use Rattle.isdb_mmt.specs.declared.part.Part.{Part}
 use Rattle.isdb_mmt.specs.declared.maybe.MaybeU16.{MaybeU16}
 use Rattle.isdb_mmt.specs.declared.table.mpt.Asset.{Asset}
+use Rattle.isdb_mmt.specs.declared.table.mpt.Mpt.{Mpt}
 use Rattle.isdb_mmt.specs.declared.table.mpt.MaybeMpt.{MaybeMpt}
 use Rattle.isdb_mmt.specs.declared.table.mpt.MaybeMpt.the-variants.{None as noMpt, Some as someMpt}
 use Rattle.isdb_mmt.specs.declared.decoder.readings.AssetReading.{AssetReading}
@@ -37,12 +44,13 @@ use Rattle.isdb_mmt.specs.declared.decoder.control.Control.{Control}
 use Rattle.isdb_mmt.specs.declared.decoder.section.KeptSection.{KeptSection}
 use Rattle.isdb_mmt.specs.declared.decoder.place.Found.{Found}
 use Rattle.isdb_mmt.specs.declared.decoder.place.Found.the-variants.{At, Nothing}
-use Rattle.isdb_mmt.proofs.Lent.{length-places}
-use Rattle.isdb_mmt.proofs.Seats.{length-map, length-indexed, getD-indexed}
-use Rattle.isdb_mmt.proofs.Views.{keys, entry, stands, Stands, absent}
+use Rattle.isdb_mmt.proofs.Guards.{was-both}
+use Rattle.isdb_mmt.proofs.Names.{clash}
+use Rattle.isdb_mmt.proofs.Seats.{none-some}
+use Rattle.isdb_mmt.proofs.Views.{keys}
 use Rattle.isdb_mmt.proofs.Stays.{names-view, section-name, control-name}
 use Rattle.isdb_mmt.proofs.MessageLeaves.{control-names}
-use Rattle.isdb_mmt.proofs.LinePlaces.{getD-places}
+use Rattle.isdb_mmt.proofs.Readings.{entry-found, entry-missing, names-told}
 use Rattle.isdb_mmt.proofs.Limits.{Passed, passed}
 use Rattle.isdb_mmt.proofs.Checks.{sound-session, place-was, section-was, control-was}
 use Rattle.isdb_mmt.proofs.KeptParts.{found-in-use}
@@ -53,23 +61,13 @@ module _ {A B : Type 0} (of : Bytes → A) (g : ℕ → A → ℕ × B) (size at
   abbrev entries : List (ℕ × B)
   entries = indexed g 0 (map of (placesFrom n size at l))
 
-  abbrev pub entryAt : Found → Option B
+  abbrev entryAt : Found → Option B
   entryAt Nothing = none
   entryAt (At i) = some (g i (of (part (at + size * i) size l)) .1)
 
   found-entry : keys entries ≡ namesFrom n size at l → (r : Found) → foundFrom 0 (namesFrom n size at l) x ≡ r → find x entries ≡ entryAt r
-  found-entry e Nothing f = absent entries x 0 (ap (λ (ns : List ℕ). foundFrom 0 ns x) e ∙ f) .0
-  found-entry e (At i) f =
-      let d : B = g 0 (of []) .1 in
-      let z : i - 0 ≡ i = omega arith in
-      let w : Stands entries x i = rw z at (stands entries x 0 i (ap (λ (ns : List ℕ). foundFrom 0 ns x) e ∙ f) .1) in
-      let k : i < n = found-in-use size n at x l (foundFrom 0 (namesFrom n size at l) x) refl i f in
-      let b : length (map of (placesFrom n size at l)) ≡ n = length-map of (placesFrom n size at l) ∙ length-places size n at l in
-      let q : getD entries i (0, d) ≡ g (0 + i) (getD (map of (placesFrom n size at l)) i (of [])) =
-      getD-indexed g (map of (placesFrom n size at l)) 0 i (of []) (0, d) (omega arith) in
-      let p : getD entries i (0, d) ≡ g i (of (part (at + size * i) size l)) =
-      q ∙ ap (λ j. g j (getD (map of (placesFrom n size at l)) i (of []))) (zero-add i) ∙ ap (g i) (getD-places of size (of []) l n i at k) in
-      w .found d ∙ ap (λ (v : ℕ × B). some (v .1)) p
+  found-entry e Nothing f = entry-missing g of size n at l e x f
+  found-entry e (At i) f = entry-found g of size n at l e x i f .1
 
 -- ---- a part that may be there, and its bytes
 
@@ -261,7 +259,7 @@ module _ (s : Session) (ok : sound s ≡ true) (p : ℕ) where
   inside-among (id ∷ ids) =
       inside-kept p id (s .tables) (assetAmong s p ids) (inside-among ids) (mptPart s (controlFound s id)) (mpt-within s ok id (controlFound s id) refl)
 
-  ids-are : controlNames s ≡ idsOf (view s .controls)
+  ids-are : controlNames s ≡ namesIn (view s .controls)
   unfolding view viewBy
   ids-are = sym (control-names s)
 
@@ -275,3 +273,88 @@ module _ (s : Session) (ok : sound s ≡ true) (p : ℕ) where
 
 pub carried-assets : CarriedAssets
 carried-assets s ok p = asset-told s ok p
+
+-- ---- of the MPTs in ascending order, the first that is not passed
+
+some-same : {A : Type 0} (x y : A) → some x ≡ some y → x ≡ y
+some-same x y e = cc
+
+above-these : (c j : ℕ) (ids : List ℕ) → rises c ids ≡ true → among j ids ≡ true → c ≤ j
+unfolding rises among
+above-these c j [] r m = clash false m refl
+above-these c j (x ∷ ids) r m =
+    let q = was-both (leb c x) (rises (x + 1) ids) r in
+    let b = leb-true c x (q .0) in
+    either (eqb x j) (λ t. omega (arith, eqb-true x j t)) (λ f. omega (arith, above-these (x + 1) j ids (q .1) (rw f at m)))
+
+kept-named : (m : List (ℕ × ControlState)) (j : ℕ) (b : Bytes) → mptBytes (find j m) ≡ some b → among j (namesIn m) ≡ true
+unfolding find among
+kept-named [] j b e = absurd (none-some b e)
+kept-named (x ∷ m) j b e =
+    either (eqb (x .0) j) (λ t. rw t refl)
+    (λ f. let g : eqb j (x .0) ≡ false = ne-eqb j (x .0) (λ q. eqb-false (x .0) j f (sym q)) in rw f (kept-named m j b (rw g at e)))
+
+module _ (p : ℕ) (m : List (ℕ × ControlState)) where
+  -- those from `a` on stand in a list
+  abbrev Listed : ℕ → List ℕ → Type 0
+  Listed a ids = (j : ℕ) (b : Bytes) → mptBytes (find j m) ≡ some b → a ≤ j → among j ids ≡ true
+
+  module _ (a x : ℕ) (ids : List ℕ) (r : rises a (x ∷ ids) ≡ true) (below : PassedBelow p m a) (listed : Listed a (x ∷ ids)) where
+    rise : (a ≤ x) × (rises (x + 1) ids ≡ true)
+    unfolding rises
+    rise = let q = was-both (leb a x) (rises (x + 1) ids) r in (leb-true a x (q .0), q .1)
+
+    listed-on : Listed (x + 1) ids
+    unfolding among
+    listed-on j b e h =
+        let f : eqb x j ≡ false = ne-eqb x j (λ q. omega arith) in
+        rw f at (listed j b e (omega (arith, rise .0)))
+
+    below-this : PassedBelow p m x
+    unfolding among
+    below-this j b h e =
+        either (ltb j a) (λ t. below j b (ltb-true j a t) e)
+        (λ f.
+        let g : eqb x j ≡ false = ne-eqb x j (λ q. omega arith) in
+        let k : among j ids ≡ true = rw g at (listed j b e (ltb-false j a f)) in
+        absurd (omega (arith, above-these (x + 1) j ids (rise .1) k)))
+
+    below-next : ((b : Bytes) → mptBytes (find x m) ≡ some b → Passes p b) → PassedBelow p m (x + 1)
+    below-next f j b h e =
+        either (eqb j x) (λ t. let q : j ≡ x = eqb-true j x t in f b (rw q at e))
+        (λ n. below-this j b (lt-of-le-ne (omega arith) (eqb-false j x n)) e)
+
+    -- from what the MPTs behind this one say
+    module _ (rest : SaysAsset) (on : ((b : Bytes) → mptBytes (find x m) ≡ some b → Passes p b) → AnswerIs p m rest) where
+      of-asset : (b : Bytes) → mptBytes (find x m) ≡ some b → (t : Mpt) → mptOf b .mpt ≡ someMpt t → (o : Option Asset)
+          → firstCarried p b (assetsFrom (t .assets) b (t .start) .found) ≡ o
+          → AnswerIs p m (carriedBy x b (serviceId b (t .«package_id»)) o rest)
+      of-asset b e t d none q =
+          on (λ c g. let z : b ≡ c = some-same b c (sym e ∙ g) in subst (Passes p) z (record { mpt = t; parses = d; none = q }))
+      of-asset b e t d (some y) q =
+          record { kept = e; mpt = t; parses = d; service = refl; asset = q; before = below-this }
+
+      of-mpt : (b : Bytes) → mptBytes (find x m) ≡ some b → (t : MaybeMpt) → mptOf b .mpt ≡ t → AnswerIs p m (mptSays p x b t rest)
+      of-mpt b e noMpt d = (refl, record { id = x; bytes = b; kept = e; broken = d; before = below-this })
+      of-mpt b e (someMpt t) d =
+          of-asset b e t d (firstCarried p b (assetsFrom (t .assets) b (t .start) .found)) refl
+
+      of-kept : (o : Option Bytes) → mptBytes (find x m) ≡ o → AnswerIs p m (keptSays p x o rest)
+      of-kept none e = on (λ b g. absurd (none-some b (sym e ∙ g)))
+      of-kept (some b) e = of-mpt b e (mptOf b .mpt) refl
+
+  answer : (a : ℕ) (ids : List ℕ) → rises a ids ≡ true → PassedBelow p m a → Listed a ids → AnswerIs p m (carriedAmong p m ids)
+  unfolding carriedAmong among
+  answer a [] r below listed = λ id b e. either (ltb id a) (λ t. below id b (ltb-true id a t) e) (λ f. clash false (listed id b e (ltb-false id a f)) refl)
+  answer a (x ∷ ids) r below listed =
+      of-kept a x ids r below listed (carriedAmong p m ids)
+      (λ f. answer (x + 1) ids (rise a x ids r below listed .1) (below-next a x ids r below listed f) (listed-on a x ids r below listed))
+      (mptBytes (find x m)) refl
+
+pub first-carriers : FirstCarriers
+first-carriers s ok bytes p =
+    let v : List (ℕ × ControlState) = view s .controls in
+    let o : InOrder (namesIn v) (ascending (namesIn v)) =
+    subst (λ (ns : List ℕ). InOrder (namesIn v) (ascending ns)) (ids-are s ok p) (names-told s ok bytes .controls) in
+    subst (AnswerIs p v) (sym (asset-told s ok p .says))
+    (answer p v 0 (ascending (namesIn v)) (o .rising) (λ j b h e. absurd (omega arith)) (λ j b e h. o .same j ∙ kept-named v j b e))

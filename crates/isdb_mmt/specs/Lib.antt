@@ -49,8 +49,8 @@ pub mod Leaves
 pub mod Push
 pub mod Readings
 pub mod KeptParts
-pub mod TableReadingLaws
 pub mod ReadingLaws
+pub mod TableReadingLaws
 pub mod PushCases
 pub mod Placing
 pub mod Survey

@@ -1,9 +1,9 @@
 -- What the readings of kept tables tell of a session, in the words of its view (View.antt).
-use Prim.Native.Nat.{ℕ, _+_, _≤_}
+use Prim.Native.Nat.{ℕ, _+_, _≤_, _<_}
 use mathlib.Core.Path.{_≡_}
 use mathlib.Core.Bool.{Bool, true, false}
 use mathlib.Core.Option.{Option, none, some}
-use mathlib.Core.List.{List, [], _∷_, map}
+use mathlib.Core.List.{List, [], _∷_}
 use lib.ListN.{length}
 use Rattle.isdb_tlv.specs.Guards.{if_then_else_}
 use Rattle.isdb_mmt.specs.Packet.{Bytes}
@@ -18,8 +18,11 @@ use Rattle.isdb_mmt.specs.Session.{Session}
 use Rattle.isdb_mmt.specs.Check.{sound}
 use Rattle.isdb_mmt.specs.View.{view}
 use Rattle.isdb_mmt.specs.Readings.{tableIdOf, sectionRead, mptRead, pltRead, totRead, firstCarried, ascending, assetRead}
+use Rattle.isdb_mmt.specs.Octets.{Octets}
+use Rattle.isdb_mmt.specs.ReadingLaws.{namesIn}
 use Rattle.isdb_mmt.specs.declared.maybe.MaybeU16.{MaybeU16}
 use Rattle.isdb_mmt.specs.declared.table.mpt.Asset.{Asset}
+use Rattle.isdb_mmt.specs.declared.table.mpt.Mpt.{Mpt}
 use Rattle.isdb_mmt.specs.declared.table.mpt.MaybeMpt.{MaybeMpt}
 use Rattle.isdb_mmt.specs.declared.table.mpt.MaybeMpt.the-variants.{None as noMpt, Some as someMpt}
 use Rattle.isdb_mmt.specs.declared.decoder.readings.AssetReading.{AssetReading}
@@ -104,9 +107,6 @@ unfoldable pub carriedAmong : ℕ → List (ℕ × Control) → List ℕ → Say
 carriedAmong p m [] = nothingCarried
 carriedAmong p m (id ∷ ids) = keptSays p id (mptBytes (find id m)) (carriedAmong p m ids)
 
-abbrev pub idsOf : List (ℕ × Control) → List ℕ
-idsOf m = map (λ (e : ℕ × Control). e .0) m
-
 abbrev pub InsideMpt : Bytes → AssetReading → Type 0
 InsideMpt tables (assetRefused n) = Unit {0}
 InsideMpt tables noAsset = Unit {0}
@@ -114,8 +114,44 @@ InsideMpt tables (theAsset x) = x .mpt .start + x .mpt .length ≤ length tables
 
 -- the view's MPTs in ascending order of their control ids; the MPT that is handed out lies within the lent tables
 pub record AssetRead (s : Session) (p : ℕ) : Type 0 where
-  pub says : saysAsset (s .tables) (assetRead s p) ≡ carriedAmong p (view s .controls) (ascending (idsOf (view s .controls)))
+  pub says : saysAsset (s .tables) (assetRead s p) ≡ carriedAmong p (view s .controls) (ascending (namesIn (view s .controls)))
   pub inside : InsideMpt (s .tables) (assetRead s p)
 
 abbrev pub CarriedAssets : Type 0
 CarriedAssets = (s : Session) → sound s ≡ true → (p : ℕ) → AssetRead s p
+
+-- the same without an order to walk in. An MPT with bytes `b` is passed: it parses and does not name the packet id
+pub record Passes (p : ℕ) (b : Bytes) : Type 0 where
+  pub mpt : Mpt
+  pub parses : mptOf b .mpt ≡ someMpt mpt
+  pub none : firstCarried p b (assetsFrom (mpt .assets) b (mpt .start) .found) ≡ none
+
+-- so is every MPT of a lower control id
+abbrev pub PassedBelow : ℕ → List (ℕ × Control) → ℕ → Type 0
+PassedBelow p m id = (j : ℕ) (b : Bytes) → j < id → mptBytes (find j m) ≡ some b → Passes p b
+
+-- the MPT of `id` names the packet id, with asset `a` of service `v`, and no lower one does
+pub record Carries (p : ℕ) (m : List (ℕ × Control)) (id : ℕ) (b : Bytes) (v : MaybeU16) (a : Asset) : Type 0 where
+  pub kept : mptBytes (find id m) ≡ some b
+  pub mpt : Mpt
+  pub parses : mptOf b .mpt ≡ someMpt mpt
+  pub service : v ≡ serviceId b (mpt .«package_id»)
+  pub asset : firstCarried p b (assetsFrom (mpt .assets) b (mpt .start) .found) ≡ some a
+  pub before : PassedBelow p m id
+
+-- an MPT does not parse, and no lower one names the packet id
+pub record Damaged (p : ℕ) (m : List (ℕ × Control)) : Type 0 where
+  pub id : ℕ
+  pub bytes : Bytes
+  pub kept : mptBytes (find id m) ≡ some bytes
+  pub broken : mptOf bytes .mpt ≡ noMpt
+  pub before : PassedBelow p m id
+
+abbrev pub AnswerIs : ℕ → List (ℕ × Control) → SaysAsset → Type 0
+AnswerIs p m (refusedAsset n) = (n ≡ 5) × Damaged p m
+AnswerIs p m nothingCarried = (id : ℕ) (b : Bytes) → mptBytes (find id m) ≡ some b → Passes p b
+AnswerIs p m (anAsset id b v a) = Carries p m id b v a
+
+-- the state is made of bytes, so that no control id is above the largest
+abbrev pub FirstCarriers : Type 0
+FirstCarriers = (s : Session) → sound s ≡ true → Octets (s .state) → (p : ℕ) → AnswerIs p (view s .controls) (saysAsset (s .tables) (assetRead s p))
