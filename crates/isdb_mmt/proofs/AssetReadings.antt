@@ -1,7 +1,7 @@
 -- The asset that a packet id carries: one law for each return. Assumes nothing.
 use Prim.Native.Nat.{ℕ, zero, suc, _+_, _-_, _*_, _≤_, _<_}
 use mathlib.Core.Path.{_≡_, refl, sym, ap, _∙_}
-use mathlib.Core.Bool.{Bool, true, false, not, cond}
+use mathlib.Core.Bool.{Bool, true, false, not}
 use mathlib.Core.Option.{Option, none, some}
 use mathlib.Core.List.{List, [], _∷_}
 use native.Mathlib.Omega.{arith}
@@ -19,10 +19,10 @@ use Rattle.isdb_mmt.specs.Check.{sound}
 use Rattle.isdb_mmt.specs.Opening.{lent}
 use Rattle.isdb_mmt.specs.Mpt.{mptOf, serviceId, locationsOf, firstPacketId, assetAt, assetsFrom}
 use Rattle.isdb_mmt.specs.Readings.{carried, leastFrom, mostName, ascendingFrom, ascending, controlNames, controlFound, mptPart, isThis, firstCarried, assetIn, assetIf, assetAmong, assetRead}
-use Rattle.isdb_mmt.specs.KeptParts.{partGiven, assetGiven, stateOnly, stateAndTables, Reachable, AllInUse}
+use Rattle.isdb_mmt.specs.KeptParts.{partGiven, assetGiven, stateOnly, stateAndTables, AllInUse}
 use Rattle.isdb_mmt.specs.declared.part.Part.{Part}
 use Rattle.isdb_mmt.specs.declared.maybe.MaybeU16.{MaybeU16}
-use Rattle.isdb_mmt.specs.declared.maybe.MaybeU16.the-variants.{None as noU16, Some as someU16}
+use Rattle.isdb_mmt.specs.declared.maybe.MaybeU16.the-variants.{Some as someU16}
 use Rattle.isdb_mmt.specs.declared.maybe.MaybeU32.{MaybeU32}
 use Rattle.isdb_mmt.specs.declared.maybe.MaybeU32.the-variants.{None as noU32, Some as someU32}
 use Rattle.isdb_mmt.specs.declared.table.mpt.Asset.{Asset}

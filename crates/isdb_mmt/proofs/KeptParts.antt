@@ -2,27 +2,26 @@
 use Prim.Native.Nat.{ℕ, _+_, _*_, _/_, _≤_, _<_}
 use mathlib.Core.Path.{_≡_, refl, sym, ap, _∙_}
 use mathlib.Core.Bool.{Bool, true, false, not}
-use mathlib.Core.Option.{Option, none, some}
-use mathlib.Core.List.{List}
+use mathlib.Core.Option.{Option, some}
 use native.Mathlib.Omega.{arith}
 use lib.ListN.{length}
-use mir.Syntax.{w8, w32, w64}
+use mir.Syntax.{w64}
 use mir.Val.{Fits}
 use borrow.Author.Tests.{not-true, not-false}
 use Rattle.isdb_tlv.specs.Guards.{if_then_else_}
 use Rattle.isdb_mmt.specs.Packet.{Bytes}
 use Rattle.isdb_mmt.specs.Part.{partOf}
-use Rattle.isdb_mmt.specs.Layout.{mostControlIds, mostSections, mostTableArea, controlPlaces, controlSize, sectionPlaces, sectionSize}
+use Rattle.isdb_mmt.specs.Layout.{mostSections, controlPlaces, controlSize, sectionPlaces, sectionSize}
 use Rattle.isdb_mmt.specs.Lent.{namesFrom, foundFrom}
 use Rattle.isdb_mmt.specs.Session.{Session, limitsOf, usedOf, latestOf, controlAt, sectionAt}
 use Rattle.isdb_mmt.specs.Check.{sound, lengthsOf, Sound}
 use Rattle.isdb_mmt.specs.Section.{longSectionOf}
-use Rattle.isdb_mmt.specs.Kept.{Body, bodyRead, parsesAs, mptParses, pltParses, totParses}
+use Rattle.isdb_mmt.specs.Kept.{bodyRead, parsesAs, mptParses, pltParses, totParses}
 use Rattle.isdb_mmt.specs.Mpt.{mptOf}
 use Rattle.isdb_mmt.specs.Plt.{pltOf}
 use Rattle.isdb_mmt.specs.Tot.{totOf}
 use Rattle.isdb_mmt.specs.Verdict.{bodyFrom}
-use Rattle.isdb_mmt.specs.Readings.{areaPart, sectionFound, sectionPart, controlFound, mptAt, mptPart, pltPart, totPart, tableIf, tableRead, tableIdOf, sectionRead, mptRead, pltRead, totRead}
+use Rattle.isdb_mmt.specs.Readings.{areaPart, sectionFound, sectionPart, controlFound, mptAt, mptPart, pltPart, totPart, tableRead, tableIdOf, sectionRead, mptRead, pltRead, totRead}
 use Rattle.isdb_mmt.specs.Opening.{lent}
 use Rattle.isdb_mmt.specs.KeptParts.{partGiven, stateOnly, Reachable, AnArea, MptReachable}
 use Rattle.isdb_mmt.specs.declared.part.Part.{Part}
@@ -30,11 +29,9 @@ use Rattle.isdb_mmt.specs.declared.decoder.readings.TableReading.{TableR
 use Rattle.isdb_mmt.specs.declared.decoder.readings.TableReading.the-variants.{Refused as tableRefused, Nothing as noTable, Bytes as theBytes}
 use Rattle.isdb_mmt.specs.declared.table.tot.Tot.{Tot as TotRead}
 use Rattle.isdb_mmt.specs.declared.table.tot.TotParsed.{TotParsed}
-use Rattle.isdb_mmt.specs.declared.table.tot.TotResult.{TotResult}
 use Rattle.isdb_mmt.specs.declared.table.tot.TotResult.the-variants.{Ok as totOk, Err as totErr}
 use Rattle.isdb_mmt.specs.declared.table.mpt.Mpt.{Mpt as MptRead}
 use Rattle.isdb_mmt.specs.declared.table.mpt.MptParsed.{MptParsed}
-use Rattle.isdb_mmt.specs.declared.table.mpt.MaybeMpt.{MaybeMpt}
 use Rattle.isdb_mmt.specs.declared.table.mpt.MaybeMpt.the-variants.{None as noMpt, Some as someMpt}
 use Rattle.isdb_mmt.specs.declared.table.plt.Plt.{Plt as PltRead}
 use Rattle.isdb_mmt.specs.declared.table.plt.MaybePlt.{MaybePlt}

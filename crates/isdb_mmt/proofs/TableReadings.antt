@@ -1,34 +1,32 @@
 -- Readings of kept tables hand out what the view keeps. Assumes nothing.
-use Prim.Native.Nat.{ℕ, zero, suc, _+_, _-_, _*_, _≤_, _<_}
+use Prim.Native.Nat.{ℕ, _+_, _*_, _≤_, _<_}
 use mathlib.Core.Path.{_≡_, refl, sym, ap, _∙_, subst}
 use mathlib.Core.Bool.{Bool, true, false}
 use mathlib.Core.Option.{Option, none, some}
 use mathlib.Core.List.{List, [], _∷_, map}
 use native.Mathlib.Omega.{arith}
-use native.Mathlib.Nat.{zero-add, mul-le-mul-right}
+use native.Mathlib.Nat.{mul-le-mul-right}
 use lib.Dec.{eqb, ltb, leb}
 use lib.Arith.{lt-of-le-ne}
 use lib.ListN.{length}
 use borrow.Author.Tests.{ne-eqb, eqb-true, eqb-false, ltb-true, ltb-false, leb-true}
 use Rattle.isdb_tlv.proofs.Guards.{either}
-use Rattle.isdb_tlv.specs.Guards.{if_then_else_}
 use Rattle.isdb_mmt.specs.Packet.{Bytes}
 use Rattle.isdb_mmt.specs.Part.{partOf}
 use Rattle.isdb_mmt.specs.Maps.{find}
-use Rattle.isdb_mmt.specs.Kept.{Kept, parsesAs, mptParses, pltParses, totParses}
+use Rattle.isdb_mmt.specs.Kept.{parsesAs, mptParses, pltParses, totParses}
 use Rattle.isdb_mmt.specs.Mpt.{mptOf, serviceId, assetsFrom}
 use Rattle.isdb_mmt.specs.Plt.{pltOf}
 use Rattle.isdb_mmt.specs.Tot.{totOf}
 use Rattle.isdb_mmt.specs.Layout.{controlPlaces, controlSize, sectionPlaces, sectionSize}
-use Rattle.isdb_mmt.specs.Lent.{part, placesFrom, namesFrom, foundFrom, among, indexed, every}
+use Rattle.isdb_mmt.specs.Lent.{part, placesFrom, namesFrom, foundFrom, among, indexed}
 use Rattle.isdb_mmt.specs.Session.{Session, limitsOf, usedOf, latestOf, controlPlaceOf, controlAt, sectionPlaceOf, sectionAt}
 use Rattle.isdb_mmt.specs.Check.{controlsIn, sectionsIn, controlSound, sectionSound, lengthsOf, sound, Sound}
 use Rattle.isdb_mmt.specs.Model.{Control as ControlState}
 use Rattle.isdb_mmt.specs.View.{given, controlStateOf, controlEntry, sectionEntry, viewBy, view}
 use Rattle.isdb_mmt.specs.Readings.{areaPart, sectionFound, sectionPart, controlFound, mptAt, mptPart, pltPart, totPart, tableIf, tableRead, tableIdOf, sectionRead, mptRead, pltRead, totRead, controlNames, ascending, firstCarried, carried, assetIn, assetIf, assetAmong, assetRead}
-use Rattle.isdb_mmt.specs.Octets.{Octets}
 use Rattle.isdb_mmt.specs.ReadingLaws.{namesIn, rises, InOrder}
-use Rattle.isdb_mmt.specs.TableReadingLaws.{Says, refused, nothing, these, says, saysOf, sectionBytes, mptBytes, Inside, Reads, KeptRead, KeptTables, SaysAsset, saysAsset, carriedBy, mptSays, keptSays, carriedAmong, InsideMpt, AssetRead, CarriedAssets, Passes, PassedBelow, Carries, Damaged, AnswerIs, FirstCarriers}
+use Rattle.isdb_mmt.specs.TableReadingLaws.{nothing, says, saysOf, sectionBytes, mptBytes, Inside, Reads, KeptTables, SaysAsset, saysAsset, carriedBy, mptSays, keptSays, carriedAmong, InsideMpt, AssetRead, CarriedAssets, Passes, PassedBelow, AnswerIs, FirstCarriers}
 use Rattle.isdb_mmt.specs.declared.part.Part.{Part}
 use Rattle.isdb_mmt.specs.declared.maybe.MaybeU16.{MaybeU16}
 use Rattle.isdb_mmt.specs.declared.table.mpt.Asset.{Asset}
@@ -36,12 +34,8 @@ use Rattle.isdb_mmt.specs.declared.table.mpt.Mpt.{Mpt}
 use Rattle.isdb_mmt.specs.declared.table.mpt.MaybeMpt.{MaybeMpt}
 use Rattle.isdb_mmt.specs.declared.table.mpt.MaybeMpt.the-variants.{None as noMpt, Some as someMpt}
 use Rattle.isdb_mmt.specs.declared.decoder.readings.AssetReading.{AssetReading}
-use Rattle.isdb_mmt.specs.declared.decoder.readings.AssetReading.the-variants.{Refused as assetRefused, Nothing as noAsset, Asset as theAsset}
-use Rattle.isdb_mmt.specs.declared.decoder.readings.TableReading.{TableReading}
-use Rattle.isdb_mmt.specs.declared.decoder.readings.TableReading.the-variants.{Refused as tableRefused, Nothing as noTable, Bytes as theBytes}
 use Rattle.isdb_mmt.specs.declared.decoder.limits.Limits.{Limits}
 use Rattle.isdb_mmt.specs.declared.decoder.control.Control.{Control}
-use Rattle.isdb_mmt.specs.declared.decoder.section.KeptSection.{KeptSection}
 use Rattle.isdb_mmt.specs.declared.decoder.place.Found.{Found}
 use Rattle.isdb_mmt.specs.declared.decoder.place.Found.the-variants.{At, Nothing}
 use Rattle.isdb_mmt.proofs.Guards.{was-both}
@@ -51,7 +45,7 @@ use Rattle.isdb_mmt.proofs.Views.{keys}
 use Rattle.isdb_mmt.proofs.Stays.{names-view, section-name, control-name}
 use Rattle.isdb_mmt.proofs.MessageLeaves.{control-names}
 use Rattle.isdb_mmt.proofs.Readings.{entry-found, entry-missing, names-told}
-use Rattle.isdb_mmt.proofs.Limits.{Passed, passed}
+use Rattle.isdb_mmt.proofs.Limits.{passed}
 use Rattle.isdb_mmt.proofs.Checks.{sound-session, place-was, section-was, control-was}
 use Rattle.isdb_mmt.proofs.KeptParts.{found-in-use}
 
