@@ -104,3 +104,4 @@ pub mod ReadSteps
 pub mod Least
 pub mod Readings
 pub mod TableReadings
+pub mod NoneDamaged

@@ -13,18 +13,23 @@ use Rattle.isdb_mmt.specs.Kept.{Kept, parsesAs, mptParses, pltParses, to
 use Rattle.isdb_mmt.specs.Mpt.{mptOf, serviceId, assetsFrom}
 use Rattle.isdb_mmt.specs.Plt.{pltOf}
 use Rattle.isdb_mmt.specs.Tot.{totOf}
-use Rattle.isdb_mmt.specs.Model.{Control}
+use Rattle.isdb_mmt.specs.Model.{State, Control, opened}
 use Rattle.isdb_mmt.specs.Session.{Session}
-use Rattle.isdb_mmt.specs.Check.{sound}
+use Rattle.isdb_mmt.specs.Check.{lengthsOf, sound}
 use Rattle.isdb_mmt.specs.View.{view}
 use Rattle.isdb_mmt.specs.Readings.{tableIdOf, sectionRead, mptRead, pltRead, totRead, firstCarried, ascending, assetRead}
-use Rattle.isdb_mmt.specs.Octets.{Octets}
+use Rattle.isdb_mmt.specs.Octets.{Octets, Lent}
+use Rattle.isdb_mmt.specs.Demand.{pushAll}
+use Rattle.isdb_mmt.specs.Limits.{asked}
+use Rattle.isdb_mmt.specs.Opening.{openedSession}
+use Rattle.isdb_mmt.specs.Push.{Input, packetsOf, leavesAll, AllTaken, AllBytes}
 use Rattle.isdb_mmt.specs.ReadingLaws.{namesIn}
 use Rattle.isdb_mmt.specs.declared.maybe.MaybeU16.{MaybeU16}
 use Rattle.isdb_mmt.specs.declared.table.mpt.Asset.{Asset}
 use Rattle.isdb_mmt.specs.declared.table.mpt.Mpt.{Mpt}
 use Rattle.isdb_mmt.specs.declared.table.mpt.MaybeMpt.{MaybeMpt}
 use Rattle.isdb_mmt.specs.declared.table.mpt.MaybeMpt.the-variants.{None as noMpt, Some as someMpt}
+use Rattle.isdb_mmt.specs.declared.decoder.limits.Limits.{Limits}
 use Rattle.isdb_mmt.specs.declared.decoder.readings.AssetReading.{AssetReading}
 use Rattle.isdb_mmt.specs.declared.decoder.readings.AssetReading.the-variants.{Refused as assetRefused, Nothing as noAsset, Asset as theAsset}
 use Rattle.isdb_mmt.specs.declared.decoder.readings.TableReading.{TableReading}
@@ -155,3 +160,23 @@ AnswerIs p m (anAsset id b v a) = Carries p m id b v a
 -- the state is made of bytes, so that no control id is above the largest
 abbrev pub FirstCarriers : Type 0
 FirstCarriers = (s : Session) → sound s ≡ true → Octets (s .state) → (p : ℕ) → AnswerIs p (view s .controls) (saysAsset (s .tables) (assetRead s p))
+
+-- ---- after accepted pushes
+
+abbrev pub handsOut : Option Bytes → Says
+handsOut none = nothing
+handsOut (some b) = these b
+
+-- every reading hands out what the model's state `m` keeps: nothing of it is damaged
+pub record AsKept (s : Session) (m : State) : Type 0 where
+  pub section : (k : ℕ) → says (s .tables) (sectionRead s k) ≡ handsOut (sectionBytes (find k (m .store .kept)))
+  pub mpt : (id : ℕ) → says (s .tables) (mptRead s id) ≡ handsOut (mptBytes (find id (m .controls)))
+  pub plt : says (s .tables) (pltRead s) ≡ handsOut (m .store .plt)
+  pub tot : says (s .tables) (totRead s) ≡ handsOut (m .store .tot)
+  pub asset : (p n : ℕ) → assetRead s p ≡ assetRefused n → ⊥
+
+-- so it is in a session that question 5 lets pass, after every list of accepted pushes from an opened one
+abbrev pub NoneDamaged : Type 0
+NoneDamaged = (l : Limits) (s : Session) → asked l (lengthsOf s) ≡ 0 → Lent s → (xs : List Input) → AllBytes xs
+    → AllTaken (openedSession l s) xs → sound (leavesAll (openedSession l s) xs) ≡ true
+    → AsKept (leavesAll (openedSession l s) xs) (pushAll (opened (l .«pass_scrambled»)) (packetsOf xs))
