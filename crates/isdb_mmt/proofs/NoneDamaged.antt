@@ -1,12 +1,11 @@
 -- After accepted pushes every kept table parses, so that its reading hands it out. Assumes nothing.
-use Prim.Native.Nat.{ℕ, _+_, _*_, _/_, _^_, _≤_, _<_}
+use Prim.Native.Nat.{ℕ, _+_, _≤_}
 use mathlib.Core.Path.{_≡_, refl, sym, ap, _∙_, subst}
-use mathlib.Core.Bool.{Bool, true, false}
+use mathlib.Core.Bool.{Bool, true}
 use mathlib.Core.Option.{Option, none, some}
 use mathlib.Core.List.{List, [], _∷_}
 use native.Mathlib.Omega.{arith}
 use lib.Dec.{eqb}
-use lib.ListN.{length}
 use borrow.Author.Tests.{eqb-true}
 use Rattle.isdb_tlv.proofs.Guards.{either}
 use Rattle.isdb_mmt.specs.Packet.{Bytes, Packet}
@@ -34,8 +33,8 @@ use Rattle.isdb_mmt.proofs.Seats.{none-some}
 use Rattle.isdb_mmt.proofs.Every.{Every, every-mono}
 use Rattle.isdb_mmt.proofs.Brief.{Plain, plain-of, lent-opened}
 use Rattle.isdb_mmt.proofs.Fits.{AssetFits, mostAdded}
-use Rattle.isdb_mmt.proofs.Stores.{Whole, mptGood, pltGood, totGood, KeptFits, StoreFits}
-use Rattle.isdb_mmt.proofs.Ready.{JoinFits, ControlFits, Ready, Takes, ready-opened, ready-push}
+use Rattle.isdb_mmt.proofs.Stores.{Whole, mptGood, pltGood, totGood, KeptFits}
+use Rattle.isdb_mmt.proofs.Ready.{JoinFits, ControlFits, Ready, ready-opened, ready-push}
 use Rattle.isdb_mmt.proofs.PacketLeaves.{taken}
 use Rattle.isdb_mmt.proofs.Accepted.{push-lent, demand-2}
 use Rattle.isdb_mmt.proofs.TableReadings.{kept-tables, first-carriers}
