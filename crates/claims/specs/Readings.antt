@@ -6,7 +6,7 @@ use Rattle.isdb_mmt.specs.Part.{part}
 use Rattle.isdb_mmt.specs.Cases.{ab}
 use Rattle.isdb_mmt.specs.ControlCases.{fragment, firstPart, tableMessage, nit1, nitNext, mpt}
 use Rattle.isdb_mmt.specs.PushCases.{ntp, plt, tot}
-use Rattle.isdb_mmt.specs.Calls.{nothing, number as refused, bytes}
+use Rattle.isdb_mmt.specs.Readings.{nothing, refused, these}
 use Rattle.isdb_mmt.specs.ReadingCases.{told, countersIn, timeIn, countIn, mediaFrom, controlFrom, keyFrom, mediaIn, heldIn, controlIn, sectionIn, mptIn, pltIn, totIn, assetIn, feed, timed, counted, name, media, object, control, table, asset, after, damaged, units, nits, mpts, assetMpt, oneUnit, onlyCounted}
 use Rattle.isdb_mmt.specs.declared.maybe.MaybeU16.the-variants.{None as noU16, Some as someU16}
 use Rattle.isdb_mmt.specs.declared.maybe.MaybeU32.the-variants.{None as noU32, Some as someU32}
@@ -114,44 +114,44 @@ unfolding told
 control-state = refl
 
 -- decoder::kept::section
--- wrong: bytes nit1 => bytes nitNext (another key's)
--- wrong: bytes nit1 => nothing (none always)
-pub section : told (sectionIn nits 0x40000400) ≡ table (bytes nit1)
+-- wrong: these nit1 => these nitNext (another key's)
+-- wrong: these nit1 => nothing (none always)
+pub section : told (sectionIn nits 0x40000400) ≡ table (these nit1)
 unfolding told
 section = refl
 
 -- decoder::kept::section, of a key that was never kept
 -- wrong: nothing => refused 5 (turned down)
--- wrong: nothing => bytes [] (an empty table)
+-- wrong: nothing => these [] (an empty table)
 pub section-none : told (sectionIn nits 0x40000402) ≡ table nothing
 unfolding told
 section-none = refl
 
 -- decoder::kept::section, of one whose bytes no longer parse
 -- wrong: refused 5 => nothing (none)
--- wrong: refused 5 => bytes [] (an empty table)
+-- wrong: refused 5 => these [] (an empty table)
 pub section-damaged : told (sectionIn (damaged nits) 0x40000400) ≡ table (refused 5)
 unfolding told
 section-damaged = refl
 
 -- decoder::kept::mpt: that of the control id
--- wrong: bytes mpt => bytes assetMpt (the first that was kept)
--- wrong: bytes mpt => nothing (none)
-pub mpt-of-id : told (mptIn mpts 0x8000) ≡ table (bytes mpt)
+-- wrong: these mpt => these assetMpt (the first that was kept)
+-- wrong: these mpt => nothing (none)
+pub mpt-of-id : told (mptIn mpts 0x8000) ≡ table (these mpt)
 unfolding told
 mpt-of-id = refl
 
 -- decoder::kept::plt
--- wrong: bytes plt => bytes (plt ++ (0xFF ∷ 0xFF ∷ [])) (with the bytes behind it in its message)
--- wrong: bytes plt => nothing (none)
-pub latest-plt : told (pltIn (after (fragment 0x00 (tableMessage 6 plt) ∷ []))) ≡ table (bytes plt)
+-- wrong: these plt => these (plt ++ (0xFF ∷ 0xFF ∷ [])) (with the bytes behind it in its message)
+-- wrong: these plt => nothing (none)
+pub latest-plt : told (pltIn (after (fragment 0x00 (tableMessage 6 plt) ∷ []))) ≡ table (these plt)
 unfolding told
 latest-plt = refl
 
 -- decoder::kept::tot
--- wrong: bytes tot => bytes (tot ++ (0xFF ∷ 0xFF ∷ [])) (with the bytes behind it in its message)
--- wrong: bytes tot => nothing (none)
-pub latest-tot : told (totIn (after (fragment 0x00 (tableMessage 14 tot) ∷ []))) ≡ table (bytes tot)
+-- wrong: these tot => these (tot ++ (0xFF ∷ 0xFF ∷ [])) (with the bytes behind it in its message)
+-- wrong: these tot => nothing (none)
+pub latest-tot : told (totIn (after (fragment 0x00 (tableMessage 14 tot) ∷ []))) ≡ table (these tot)
 unfolding told
 latest-tot = refl
 

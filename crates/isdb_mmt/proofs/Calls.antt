@@ -32,8 +32,9 @@ use Rattle.isdb_mmt.specs.Octets.{Octets, Lent}
 use Rattle.isdb_mmt.specs.Records.{readRows}
 use Rattle.isdb_mmt.specs.Leaves.{packetLeaves}
 use Rattle.isdb_mmt.specs.Push.{Input, packetOf, asks, Taken, Pushed, handed as handedBy}
-use Rattle.isdb_mmt.specs.Readings.{mediaFound, controlFound, sectionFound, countersRead, timeRead, countRead, nextMediaRead, nextControlRead, nextKeyRead, nameTold, leastFrom, mediaRead, mediaIf, heldRead, heldIf, heldAt, controlRead, controlIf, sectionPart, mptPart, mptAt, pltPart, totPart, tableIf, sectionRead, mptRead, pltRead, totRead, tableIdOf, firstCarried, carried, assetIn, assetIf, assetAmong, assetRead, timeNumber, nameNumber, mediaNumber, heldNumber, controlNumber, tableNumber, assetNumber, timeAt, controlNames, mediaNames, keysIn, ascending, mostName}
-use Rattle.isdb_mmt.specs.Calls.{keptAt, keptIn, droppedIn, lostIn, heldIn, Reading, counters, time, count, nextMedia, nextControl, nextKey, mediaOf, held, controlOf, mpt, plt, tot, section, assetOf, readingNumber, Call, push, read, Reply, Decoder, after, pushes, accepted, handed, AllBytes, leavesOf, replied, replyOf, decoder, Determined, PushDetermined, Told, nothing, bytes, toldBy, Tells, none-kept, kept, After, Demand3}
+use Rattle.isdb_mmt.specs.Readings.{mediaFound, controlFound, countersRead, timeRead, timeAt, countRead, mediaNames, controlNames, keysIn, leastFrom, mostName, nameTold, nextMediaRead, nextControlRead, nextKeyRead, mediaIf, mediaRead, heldAt, heldIf, heldRead, controlIf, controlRead, sectionRead, mptRead, pltRead, totRead, assetRead, timeNumber, nameNumber, mediaNumber, heldNumber, controlNumber, tableNumber, assetNumber, Told, refused, nothing, these, toldBy}
+use Rattle.isdb_mmt.specs.TableReadingLaws.{sectionBytes, mptBytes, handsOut, AsKept}
+use Rattle.isdb_mmt.specs.Calls.{keptAt, keptIn, droppedIn, lostIn, heldIn, Reading, counters, time, count, nextMedia, nextControl, nextKey, mediaOf, held, controlOf, mpt, plt, tot, section, assetOf, readingNumber, Call, push, read, Reply, Decoder, after, pushes, accepted, handed, AllBytes, leavesOf, replied, replyOf, decoder, Determined, PushDetermined, Tells, none-kept, kept, After, Demand3, AllAsModel, AnswersAsModel}
 use Rattle.isdb_mmt.specs.declared.part.Part.{Part}
 use Rattle.isdb_mmt.specs.declared.maybe.MaybeU32.{MaybeU32}
 use Rattle.isdb_mmt.specs.declared.maybe.MaybeU32.the-variants.{None as noU32, Some as someU32}
@@ -49,7 +50,10 @@ use Rattle.isdb_mmt.specs.declared.decoder.head.Time.{Time}
 use Rattle.isdb_mmt.specs.declared.decoder.media.Media.{Media}
 use Rattle.isdb_mmt.specs.declared.decoder.control.Control.{Control}
 use Rattle.isdb_mmt.specs.declared.decoder.section.KeptSection.{KeptSection}
+use Rattle.isdb_mmt.specs.declared.decoder.readings.TableReading.{TableReading}
+use Rattle.isdb_mmt.specs.declared.decoder.readings.TableReading.the-variants.{Refused as tableRefused, Nothing as noTable, Bytes as theBytes}
 use Rattle.isdb_mmt.specs.declared.decoder.readings.AssetReading.{AssetReading}
+use Rattle.isdb_mmt.specs.declared.decoder.readings.AssetReading.the-variants.{Refused as assetRefused, Nothing as noAsset, Asset as theAsset}
 use Rattle.isdb_mmt.proofs.Names.{clash}
 use Rattle.isdb_mmt.proofs.Every.{Every, every-found}
 use Rattle.isdb_mmt.proofs.Fits.{mostAdded}
@@ -64,6 +68,7 @@ use Rattle.isdb_mmt.proofs.Smallness.{small-of}
 use Rattle.isdb_mmt.proofs.PacketLeaves.{taken}
 use Rattle.isdb_mmt.proofs.Accepted.{stores-of, push-moved, push-lent, push-gave}
 use Rattle.isdb_mmt.proofs.Said.{mediaEntry, controlAtPlace, keptEntry, control-found, dropped-said, lost-said, held-said, kept-said}
+use Rattle.isdb_mmt.proofs.NoneDamaged.{as-kept}
 use Rattle.isdb_mmt.proofs.Demand.{demand}
 
 -- ---- a push, accepted or not
@@ -209,93 +214,46 @@ steps =
       stays = λ s x g o e. stays s x g o e;
     }
 
--- ---- readings: what is kept parses
-
-abbrev Sure : (Bytes → Bool) → Bytes → Option Part → Type 0
-Sure parses t none = Unit {0}
-Sure parses t (some p) = parses (partOf t p) ≡ true
-
-table-zero : (parses : Bytes → Bool) (t : Bytes) (o : Option Part) → Sure parses t o → tableNumber (tableIf parses t o) ≡ 0
-table-zero parses t none h = refl
-table-zero parses t (some p) h = rw h
-
-abbrev Parsing : (Bytes → Bool) → Option Kept → Type 0
-Parsing parses none = Unit {0}
-Parsing parses (some x) = parses (x .bytes) ≡ true
-
-kept-parses : (area k : ℕ) (m : List (ℕ × Kept)) → Every (KeptFits area) m → Parsing (parsesAs (tableIdOf k)) (find k m)
-unfolding find
-kept-parses area k [] h = tt
-kept-parses area k (e ∷ m) h =
-    either (eqb k (e .0)) (λ t. let x = h .0 .parses in rw (t, eqb-true k (e .0) t) x) (λ f. rw f (kept-parses area k m (h .1)))
+-- ---- readings
 
 abbrev keptTold : Option Kept → Told
 keptTold none = nothing
-keptTold (some x) = bytes (x .bytes)
+keptTold (some x) = these (x .bytes)
+
+hands-kept : (o : Option Kept) → handsOut (sectionBytes o) ≡ keptTold o
+hands-kept none = refl
+hands-kept (some x) = refl
 
 tells : (o : Option Kept) (xs : List Section) → Keeps o xs → Tells (keptTold o) xs
 tells _ _ never = none-kept
 tells _ _ (keeps x f) = kept x f
 
-module _ (s : Session) (e : sound s ≡ true) (n : ℕ) (z : Ready (limitsOf (s .state)) n (view s)) where
+abbrev numbered : Told → ℕ
+numbered (refused n) = 1
+numbered nothing = 0
+numbered (these b) = 0
+
+-- an answer that hands out has no number
+hands-zero : (t : Bytes) (r : TableReading) (o : Option Bytes) → toldBy t r ≡ handsOut o → tableNumber r ≡ 0
+hands-zero t (tableRefused n) none e = absurd (omega (arith, ap numbered e))
+hands-zero t (tableRefused n) (some b) e = absurd (omega (arith, ap numbered e))
+hands-zero t noTable o e = refl
+hands-zero t (theBytes p) o e = refl
+
+asset-zero : (r : AssetReading) → ((n : ℕ) → r ≡ assetRefused n → ⊥) → assetNumber r ≡ 0
+asset-zero (assetRefused n) h = absurd (h n refl)
+asset-zero noAsset h = refl
+asset-zero (theAsset a) h = refl
+
+module _ (s : Session) (e : sound s ≡ true) (h : Lent s) (n : ℕ) (z : Ready (limitsOf (s .state)) n (view s)) where
   abbrev l : Limits
   l = limitsOf (s .state)
 
-  section-parses : (k : ℕ) → Parsing (parsesAs (tableIdOf k)) (keptIn s k)
-  section-parses k = rw (kept-said s k) (kept-parses (l .«table_area») k (view s .store .kept) (z .store .kept))
-
-  section-told : (parses : Bytes → Bool) (f : Found) → Parsing parses (keptAt s f) → toldBy (s .tables) (tableIf parses (s .tables) (sectionPart s f)) ≡ keptTold (keptAt s f)
-  section-told parses Nothing h = refl
-  section-told parses (At i) h = rw h
+  as-view : AsKept s (view s)
+  as-view = as-kept (view s) l n z s e h refl
 
   pub section-tells : (k : ℕ) → toldBy (s .tables) (sectionRead s k) ≡ keptTold (keptIn s k)
-  unfolding sectionRead keptIn
-  section-tells k = rw e (section-told (parsesAs (tableIdOf k)) (sectionFound s k) (section-parses k))
-
-  section-sure : (parses : Bytes → Bool) (f : Found) → Parsing parses (keptAt s f) → Sure parses (s .tables) (sectionPart s f)
-  section-sure parses Nothing h = tt
-  section-sure parses (At i) h = h
-
-  given-sure : (parses : Bytes → Bool) (area : ℕ) (b : Bool) (p : Part) → Whole parses area (given b (partOf (s .tables) p)) → Sure parses (s .tables) (given b p)
-  given-sure parses area true p h = h .1
-  given-sure parses area false p h = tt
-
-  idle-whole : ControlFits l idleControl
-  unfolding idleControl idle
-  idle-whole = record { joins = tt; mpt = tt }
-
-  mpt-whole : (id : ℕ) → Whole mptGood (l .«table_area») (orElse idleControl (controlAtPlace s (controlFound s id)) .mpt)
-  mpt-whole id =
-      rw (control-found s id) at (every-found (λ i c. ControlFits l c) idleControl id idle-whole (view s .controls) (z .controls) .mpt)
-
-  mpt-sure : (f : Found) → Whole mptGood (l .«table_area») (orElse idleControl (controlAtPlace s f) .mpt) → Sure mptGood (s .tables) (mptPart s f)
-  unfolding controlStateOf orElse idleControl
-  mpt-sure Nothing h = tt
-  mpt-sure (At i) h =
-      given-sure mptGood (l .«table_area») (controlAt (s .state) i .mpt)
-      (record { start = (l .sections + i) * l .«table_area»; length = controlAt (s .state) i .«mpt_length» }) h
-
-  -- ---- the asset of a packet id
-
-  carried-zero : (id : ℕ) (m : Part) (v : MaybeU16) (o : Option Asset) (rest : AssetReading) → assetNumber rest ≡ 0 → assetNumber (carried id m v o rest) ≡ 0
-  carried-zero id m v none rest h = h
-  carried-zero id m v (some a) rest h = refl
-
-  in-zero : (p id : ℕ) (m : Part) (b : Bytes) (t : MaybeMpt) (rest : AssetReading) → mptParses t ≡ true → assetNumber rest ≡ 0
-      → assetNumber (assetIn p id m b t rest) ≡ 0
-  in-zero p id m b noMpt rest k h = clash false k refl
-  in-zero p id m b (someMpt t) rest k h =
-      carried-zero id m (serviceId b (t .«package_id»)) (firstCarried p b (assetsFrom (t .assets) b (t .start) .found)) rest h
-
-  if-zero : (p id : ℕ) (o : Option Part) (rest : AssetReading) → Sure mptGood (s .tables) o → assetNumber rest ≡ 0 → assetNumber (assetIf p (s .tables) id o rest) ≡ 0
-  if-zero p id none rest k h = h
-  if-zero p id (some m) rest k h = in-zero p id m (partOf (s .tables) m) (mptOf (partOf (s .tables) m) .mpt) rest k h
-
-  among-zero : (p : ℕ) (ids : List ℕ) → assetNumber (assetAmong s p ids) ≡ 0
-  unfolding assetAmong
-  among-zero p [] = refl
-  among-zero p (id ∷ ids) =
-      if-zero p id (mptPart s (controlFound s id)) (assetAmong s p ids) (mpt-sure (controlFound s id) (mpt-whole id)) (among-zero p ids)
+  section-tells k = as-view .section k ∙ hands-kept (find k (view s .store .kept)) ∙ ap keptTold (sym (kept-said s k))
 
   -- ---- the others
 
@@ -322,7 +280,7 @@ module _ (s : Session) (e : sound s ≡ true) (n : ℕ) (z : Ready (limitsOf (s 
   control-zero (At i) = refl
 
   pub reading-zero : (r : Reading) → readingNumber s r ≡ 0
-  unfolding readingNumber countersRead timeRead countRead nextMediaRead nextControlRead nextKeyRead mediaRead heldRead controlRead sectionRead mptRead pltRead totRead assetRead view viewBy keptIn
+  unfolding readingNumber countersRead timeRead countRead nextMediaRead nextControlRead nextKeyRead mediaRead heldRead controlRead
   reading-zero counters = rw e
   reading-zero time = rw e (time-zero (timeOf (s .state)))
   reading-zero (count id) = rw e
@@ -332,36 +290,65 @@ module _ (s : Session) (e : sound s ≡ true) (n : ℕ) (z : Ready (limitsOf (s 
   reading-zero (mediaOf id) = rw e (media-zero (mediaFound s id))
   reading-zero (held id) = rw e (held-zero (mediaFound s id))
   reading-zero (controlOf id) = rw e (control-zero (controlFound s id))
-  reading-zero (mpt id) = rw e (table-zero mptGood (s .tables) (mptPart s (controlFound s id)) (mpt-sure (controlFound s id) (mpt-whole id)))
-  reading-zero plt = rw e (table-zero pltGood (s .tables) (pltPart s) (given-sure pltGood (l .«table_area») (latestOf (s .state) .plt) _ (z .store .plt)))
-  reading-zero tot = rw e (table-zero totGood (s .tables) (totPart s) (given-sure totGood (l .«table_area») (latestOf (s .state) .tot) _ (z .store .tot)))
-  reading-zero (section k) =
-      rw e (table-zero (parsesAs (tableIdOf k)) (s .tables) (sectionPart s (sectionFound s k)) (section-sure (parsesAs (tableIdOf k)) (sectionFound s k) (section-parses k)))
-  reading-zero (assetOf p) = rw e (among-zero p (ascending (controlNames s)))
+  reading-zero (mpt id) = hands-zero (s .tables) (mptRead s id) (mptBytes (find id (view s .controls))) (as-view .mpt id)
+  reading-zero plt = hands-zero (s .tables) (pltRead s) (view s .store .plt) (as-view .plt)
+  reading-zero tot = hands-zero (s .tables) (totRead s) (view s .store .tot) (as-view .tot)
+  reading-zero (section k) = hands-zero (s .tables) (sectionRead s k) (sectionBytes (find k (view s .store .kept))) (as-view .section k)
+  reading-zero (assetOf p) = asset-zero (assetRead s p) (as-view .asset p)
 
 -- ---- demand 3
 
+module _ (l : Limits) (s : Session) (a : asked l (lengthsOf s) ≡ 0) (o : Lent s) (cs : List Call) (b : AllBytes cs) where
+  abbrev s0 : Session
+  s0 = openedSession l s
+
+  abbrev s′ : Session
+  s′ = after decoder s0 cs
+
+  good : Good s0
+  good =
+      let f = opening l s a in
+      record {
+        lent = lent-opened l s o;
+        limits = sound-session s0 (f .session) .limits;
+        session = f .session;
+        bound = 0;
+        ready = rw (f .state) (ready-opened (limitsOf (s0 .state)) (l .«pass_scrambled»));
+      }
+
+  come : Ran Good steps s0 s′ (handed (pushes decoder s0 cs)) (accepted (pushes decoder s0 cs))
+  come = ran Good steps s0 cs good b
+
+  all-hold : After decoder s0 cs
+  all-hold =
+      let g = come .good in
+      let h = holds-after Good steps (l .«pass_scrambled») s0 cs (opening l s a .state) good b in
+      record {
+        holds = h;
+        reads =
+            λ k.
+            rw (section-tells s′ (g .session) (g .lent) (g .bound) (g .ready) k) (tells (keptIn s′ k) (wellFormed k (accepted (pushes decoder s0 cs))) (h .keys k));
+        session = g .session;
+        readings = reading-zero s′ (g .session) (g .lent) (g .bound) (g .ready);
+      }
+
+  all-as-model : AllAsModel (l .«pass_scrambled») s0 cs
+  all-as-model =
+      let g = come .good in
+      let f = opening l s a .state in
+      let v : view s′ ≡ pushAll (opened (l .«pass_scrambled»)) (accepted (pushes decoder s0 cs)) = rw f at (come .comes) in
+      record {
+        state = v;
+        records = rw f at (come .hands);
+        tables =
+            as-kept (pushAll (opened (l .«pass_scrambled»)) (accepted (pushes decoder s0 cs))) (limitsOf (s′ .state)) (g .bound) (rw v at (g .ready)) s′ (g .session) (g .lent) v;
+      }
+
 pub demand-3 : Demand3 decoder
-demand-3 l s a o cs b =
-    let f = opening l s a in
-    let s0 = openedSession l s in
-    let g : Good s0 =
-    record {
-      lent = lent-opened l s o;
-      limits = sound-session s0 (f .session) .limits;
-      session = f .session;
-      bound = 0;
-      ready = rw (f .state) (ready-opened (limitsOf (s0 .state)) (l .«pass_scrambled»));
-    } in
-    let y = ran Good steps s0 cs g b in
-    let s′ = after decoder s0 cs in
-    let h = holds-after Good steps (l .«pass_scrambled») s0 cs (f .state) g b in
-    record {
-      holds = h;
-      reads = λ k. rw (section-tells s′ (y .good .session) (y .good .bound) (y .good .ready) k) (tells (keptIn s′ k) (wellFormed k (accepted (pushes decoder s0 cs))) (h .keys k));
-      session = y .good .session;
-      readings = reading-zero s′ (y .good .session) (y .good .bound) (y .good .ready);
-    }
+demand-3 = all-hold
+
+pub answers-as-model : AnswersAsModel
+answers-as-model = all-as-model
 
 -- ---- what the contract of a push says fixes it
 

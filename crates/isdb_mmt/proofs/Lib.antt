@@ -105,3 +105,7 @@ pub mod Pushing
 pub mod ReadSteps
 pub mod Least
 pub mod Readings
+pub mod KeptParts
+pub mod AssetReadings
+pub mod TableReadings
+pub mod NoneDamaged

@@ -23,8 +23,8 @@ use Rattle.isdb_mmt.specs.Check.{lengthsOf}
 use Rattle.isdb_mmt.specs.Octets.{Octets, Lent}
 use Rattle.isdb_mmt.specs.Records.{readRows}
 use Rattle.isdb_mmt.specs.Push.{Input, packetOf, asks}
-use Rattle.isdb_mmt.specs.Readings.{sectionRead}
-use Rattle.isdb_mmt.specs.Calls.{lostIn, heldIn, Call, push, Decoder, after, pushes, accepted, handed, Told, number, nothing, bytes, toldBy, Tells, none-kept, kept, After, Demand3}
+use Rattle.isdb_mmt.specs.Readings.{sectionRead, Told, refused, nothing, these, toldBy}
+use Rattle.isdb_mmt.specs.Calls.{lostIn, heldIn, Call, push, Decoder, after, pushes, accepted, handed, Tells, none-kept, kept, After, Demand3}
 use Rattle.isdb_mmt.specs.Cases.{ab, cd}
 use Rattle.isdb_mmt.specs.PushCases.{small, blank, told}
 use Rattle.isdb_mmt.specs.Useless.{first, second, begins, nit, mediaId, nitKey, start, Accepts, recordsIn, objectsIn, then, NotUseless, Refutations, AsksOnly, TurnsNoneAway}
@@ -90,9 +90,9 @@ bytes-nit = octets-of (nit .bytes) refl
 -- ---- decoders
 
 abbrev is-told : Told → ℕ
-is-told (number n) = 0
+is-told (refused n) = 0
 is-told nothing = 0
-is-told (bytes b) = 1
+is-told (these b) = 1
 
 tells-one : {t : Told} {xs : List Section} → Tells t xs → length xs ≡ 1 → t ≡ nothing → ⊥
 tells-one none-kept e t = omega arith

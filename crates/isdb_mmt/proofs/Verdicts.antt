@@ -174,10 +174,10 @@ unfolding sectionOf
 key-in t = refl
 
 module _ (t : Bytes) (h : SectionHeader) (e : longSectionOf t ≡ goodSection h) where
-  abbrev readAs : Body → BodyRead
+  abbrev pub readAs : Body → BodyRead
   readAs b = record { ok = b .ok; breaks = b .breaks }
 
-  body-from : (id : ℕ) → readAs (modelBody id t) ≡ bodyFrom id h (partOf t (h .body))
+  pub body-from : (id : ℕ) → readAs (modelBody id t) ≡ bodyFrom id h (partOf t (h .body))
   unfolding modelBody bodyFrom bitOf sdtOf nitOf amtOf eitOf
   body-from id =
       either (eqb id 0x9D) (λ a. rw (a, e)) (λ a0.

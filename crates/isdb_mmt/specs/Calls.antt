@@ -8,13 +8,12 @@ use mathlib.Core.List.{List, [], _∷_, _++_}
 use lib.ListN.{length}
 use Rattle.isdb_tlv.specs.Guards.{if_then_else_, _=?_}
 use Rattle.isdb_mmt.specs.Packet.{Bytes, Packet}
-use Rattle.isdb_mmt.specs.Part.{partOf}
 use Rattle.isdb_mmt.specs.Objects.{Rec}
 use Rattle.isdb_mmt.specs.Kept.{Kept, Section}
-use Rattle.isdb_mmt.specs.Model.{gives}
+use Rattle.isdb_mmt.specs.Model.{opened, gives}
 use Rattle.isdb_mmt.specs.Needs.{needs}
 use Rattle.isdb_mmt.specs.Book.{wellFormed, FirstOfLastRun}
-use Rattle.isdb_mmt.specs.Demand.{Holds}
+use Rattle.isdb_mmt.specs.Demand.{pushAll, giveAll, Holds}
 use Rattle.isdb_mmt.specs.Limits.{asked}
 use Rattle.isdb_mmt.specs.Lent.{part, over}
 use Rattle.isdb_mmt.specs.Session.{Session, limitsOf, mediaAt, sectionAt}
@@ -25,14 +24,13 @@ use Rattle.isdb_mmt.specs.Octets.{Octets, Lent}
 use Rattle.isdb_mmt.specs.Records.{rowsFrom, dataFrom, readRows}
 use Rattle.isdb_mmt.specs.Leaves.{packetLeaves}
 use Rattle.isdb_mmt.specs.Push.{Input, packetOf, asks, Pushed}
-use Rattle.isdb_mmt.specs.Readings.{mediaFound, sectionFound, countersRead, timeRead, countRead, nextMediaRead, nextControlRead, nextKeyRead, mediaRead, heldRead, controlRead, sectionRead, mptRead, pltRead, totRead, assetRead, countersNumber, timeNumber, countNumber, nameNumber, mediaNumber, heldNumber, controlNumber, tableNumber, assetNumber}
+use Rattle.isdb_mmt.specs.TableReadingLaws.{AsKept}
+use Rattle.isdb_mmt.specs.Readings.{mediaFound, sectionFound, countersRead, timeRead, countRead, nextMediaRead, nextControlRead, nextKeyRead, mediaRead, heldRead, controlRead, sectionRead, mptRead, pltRead, totRead, assetRead, countersNumber, timeNumber, countNumber, nameNumber, mediaNumber, heldNumber, controlNumber, tableNumber, assetNumber, Told, refused, nothing, these, toldBy}
 use Rattle.isdb_mmt.specs.declared.decoder.place.Found.{Found}
 use Rattle.isdb_mmt.specs.declared.decoder.place.Found.the-variants.{At, Nothing as nowhere}
 use Rattle.isdb_mmt.specs.declared.decoder.limits.Limits.{Limits}
 use Rattle.isdb_mmt.specs.declared.decoder.media.Media.{Media}
 use Rattle.isdb_mmt.specs.declared.decoder.section.KeptSection.{KeptSection}
-use Rattle.isdb_mmt.specs.declared.decoder.readings.TableReading.{TableReading}
-use Rattle.isdb_mmt.specs.declared.decoder.readings.TableReading.the-variants.{Refused, Nothing, Bytes as theBytes}
 
 -- ---- what a session's bytes say of a media id and of a key, by the place that has its name
 
@@ -184,21 +182,10 @@ PushDetermined = (s : Session) (x : Input) (r records bytes : ℕ) (s′ : Sessi
 
 -- ---- the claim
 
--- what a reading of a table tells: a number, that nothing is kept, or bytes
-pub data Told : Type 0 where
-  number : ℕ → Told
-  nothing : Told
-  bytes : Bytes → Told
-
-abbrev pub toldBy : Bytes → TableReading → Told
-toldBy tables (Refused n) = number n
-toldBy tables Nothing = nothing
-toldBy tables (theBytes p) = bytes (partOf tables p)
-
 -- it tells the first of the last run of equal version among a key's well-formed sections, and nothing exactly where there are none
 pub data Tells : Told → List Section → Type 0 where
   none-kept : Tells nothing []
-  kept : {xs : List Section} (x : Section) → FirstOfLastRun x xs → Tells (bytes (x .bytes)) xs
+  kept : {xs : List Section} (x : Section) → FirstOfLastRun x xs → Tells (these (x .bytes)) xs
 
 -- after the calls `cs` on the session `s`
 pub record After (d : Decoder) (s : Session) (cs : List Call) : Type 0 where
@@ -215,3 +202,15 @@ pub record After (d : Decoder) (s : Session) (cs : List Call) : Type 0 where
 -- demand 3, of any decoder; proved of this one in proofs/Calls.antt
 abbrev pub Demand3 : Decoder → Type 0
 Demand3 d = (l : Limits) (s : Session) → asked l (lengthsOf s) ≡ 0 → Lent s → (cs : List Call) → AllBytes cs → After d (openedSession l s) cs
+
+-- ---- demand 2 of all answers: after the calls the session says what the model's state says after the packets accepted, the records are
+-- the model's, and readings of tables hand out what it keeps (specs/TableReadingLaws `AsKept`)
+
+pub record AllAsModel (pass : Bool) (s : Session) (cs : List Call) : Type 0 where
+  pub state : view (after decoder s cs) ≡ pushAll (opened pass) (accepted (pushes decoder s cs))
+  pub records : handed (pushes decoder s cs) ≡ giveAll (opened pass) (accepted (pushes decoder s cs))
+  pub tables : AsKept (after decoder s cs) (pushAll (opened pass) (accepted (pushes decoder s cs)))
+
+abbrev pub AnswersAsModel : Type 0
+AnswersAsModel = (l : Limits) (s : Session) → asked l (lengthsOf s) ≡ 0 → Lent s → (cs : List Call) → AllBytes cs
+    → AllAsModel (l .«pass_scrambled») (openedSession l s) cs

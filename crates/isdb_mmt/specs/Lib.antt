@@ -52,6 +52,8 @@ pub mod Calls
 pub mod Useless
 pub mod ReadingCases
 pub mod ReadingLaws
+pub mod KeptParts
+pub mod TableReadingLaws
 pub mod PushCases
 pub mod Placing
 pub mod Survey

@@ -15,8 +15,8 @@ use Rattle.isdb_mmt.specs.Layout.{tableIds, stateSize}
 use Rattle.isdb_mmt.specs.Session.{Session}
 use Rattle.isdb_mmt.specs.Opening.{lent, openedSession}
 use Rattle.isdb_mmt.specs.Push.{leavesAll}
-use Rattle.isdb_mmt.specs.Readings.{mediaFound, controlFound, sectionFound, countersRead, timeRead, countRead, leastFrom, ascendingFrom, nextMediaRead, nextControlRead, nextKeyRead, mediaRead, heldRead, controlRead, sectionRead, mptRead, pltRead, totRead, firstCarried, assetAmong, assetRead}
-use Rattle.isdb_mmt.specs.Calls.{Reading, counters, time, count, nextMedia, nextControl, nextKey, mediaOf, held, controlOf, plt, tot, section, assetOf, readingNumber, Told as TableTold, number as refused, nothing, bytes, toldBy}
+use Rattle.isdb_mmt.specs.Readings.{mediaFound, controlFound, sectionFound, countersRead, timeRead, countRead, leastFrom, ascendingFrom, nextMediaRead, nextControlRead, nextKeyRead, mediaRead, heldRead, controlRead, sectionRead, mptRead, pltRead, totRead, firstCarried, assetAmong, assetRead, Told as TableTold, refused, nothing, these, toldBy}
+use Rattle.isdb_mmt.specs.Calls.{Reading, counters, time, count, nextMedia, nextControl, nextKey, mediaOf, held, controlOf, plt, tot, section, assetOf, readingNumber}
 use Rattle.isdb_mmt.specs.Cases.{completeOf, headOf, compressed, payload, ab}
 use Rattle.isdb_mmt.specs.ControlCases.{fragment, firstPart, nit1, nitNext, mpt, tableMessage}
 use Rattle.isdb_mmt.specs.PushCases.{input, only, ntp, plt as pltBytes, tot as totBytes, told as toldOfPushes}
@@ -233,19 +233,19 @@ cases =
     ∷ (keyFrom nits 0x40000402 0x40FFFFFF ⇒ name noName)
     ∷ (keyFrom nits 0x41000000 0x41FFFFFF ⇒ name noName)
     -- kept sections, and one whose bytes were overwritten: 5, of it alone
-    ∷ (sectionIn nits 0x40000400 ⇒ table (bytes nit1))
-    ∷ (sectionIn nits 0x40000401 ⇒ table (bytes nitNext))
+    ∷ (sectionIn nits 0x40000400 ⇒ table (these nit1))
+    ∷ (sectionIn nits 0x40000401 ⇒ table (these nitNext))
     ∷ (sectionIn nits 0x40000402 ⇒ table nothing)
     ∷ (sectionIn (damaged nits) 0x40000400 ⇒ table (refused 5))
     ∷ (sectionIn (damaged nits) 0x40000402 ⇒ table nothing)
     ∷ (numberOf (damaged nits) counters ⇒ number 0)
     -- PLT and TOT
-    ∷ (pltIn (after (fragment 0x00 (tableMessage 6 pltBytes) ∷ [])) ⇒ table (bytes pltBytes))
-    ∷ (totIn (after (fragment 0x00 (tableMessage 14 totBytes) ∷ [])) ⇒ table (bytes totBytes))
+    ∷ (pltIn (after (fragment 0x00 (tableMessage 6 pltBytes) ∷ [])) ⇒ table (these pltBytes))
+    ∷ (totIn (after (fragment 0x00 (tableMessage 14 totBytes) ∷ [])) ⇒ table (these totBytes))
     ∷ (pltIn (damaged (after (fragment 0x00 (tableMessage 6 pltBytes) ∷ []))) ⇒ table (refused 5))
     -- the MPT of each control id, and the asset that a packet id carries
-    ∷ (mptIn mpts 0x8000 ⇒ table (bytes mpt))
-    ∷ (mptIn mpts 0x8001 ⇒ table (bytes assetMpt))
+    ∷ (mptIn mpts 0x8000 ⇒ table (these mpt))
+    ∷ (mptIn mpts 0x8001 ⇒ table (these assetMpt))
     ∷ (mptIn (damaged mpts) 0x8001 ⇒ table (refused 5))
     ∷ (assetIn mpts 0xF100
     ⇒ asset (theAsset (record {

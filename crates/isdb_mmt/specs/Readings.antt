@@ -325,3 +325,14 @@ abbrev pub assetNumber : AssetReading → ℕ
 assetNumber (assetRefused n) = n
 assetNumber noAsset = 0
 assetNumber (theAsset a) = 0
+
+-- what an answer about a table tells its caller: a number, that nothing is kept, or bytes, taken from the lent tables
+pub data Told : Type 0 where
+  refused : ℕ → Told
+  nothing : Told
+  these : Bytes → Told
+
+abbrev pub toldBy : Bytes → TableReading → Told
+toldBy tables (tableRefused n) = refused n
+toldBy tables noTable = nothing
+toldBy tables (theBytes p) = these (partOf tables p)

@@ -9,8 +9,8 @@ use Rattle.isdb_mmt.specs.Book.{deliveredOf}
 use Rattle.isdb_mmt.specs.Session.{Session}
 use Rattle.isdb_mmt.specs.Records.{readRows}
 use Rattle.isdb_mmt.specs.Push.{Input, asks}
-use Rattle.isdb_mmt.specs.Readings.{sectionRead}
-use Rattle.isdb_mmt.specs.Calls.{lostIn, Decoder, Told, nothing, toldBy, Demand3}
+use Rattle.isdb_mmt.specs.Readings.{sectionRead, Told, nothing, toldBy}
+use Rattle.isdb_mmt.specs.Calls.{lostIn, Decoder, Demand3}
 use Rattle.isdb_mmt.specs.Cases.{completeOf, headOf, ab, cd}
 use Rattle.isdb_mmt.specs.ControlCases.{nit1}
 use Rattle.isdb_mmt.specs.PushCases.{fresh, input, only}

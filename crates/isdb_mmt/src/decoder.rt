@@ -20,6 +20,7 @@ pub mod counts;
 mod head;
 pub mod ids;
 mod joined;
+pub mod kept;
 mod layout;
 pub mod limits;
 mod media;

@@ -153,7 +153,7 @@ fn amt_body(h: SectionHeader, b: &[u8]) -> BodyRead
 }
 
 // The body of a section whose header is good.
-fn body_read(id: u8, h: SectionHeader, b: &[u8]) -> BodyRead
+pub(crate) fn body_read(id: u8, h: SectionHeader, b: &[u8]) -> BodyRead
     ensures { λ r. ⌜ r ≡ bodyFrom id h (now (b .entry)) ⌝ }
 {
     match id {

@@ -1,0 +1,117 @@
+-- Where every kept table parses, its reading hands it out. Assumes nothing.
+use Prim.Native.Nat.{ℕ, _+_, _≤_}
+use mathlib.Core.Path.{_≡_, refl, sym, ap, _∙_, subst}
+use mathlib.Core.Bool.{Bool, true}
+use mathlib.Core.Option.{Option, none, some}
+use mathlib.Core.List.{List, [], _∷_}
+use native.Mathlib.Omega.{arith}
+use lib.Dec.{eqb}
+use borrow.Author.Tests.{eqb-true}
+use Rattle.isdb_tlv.proofs.Guards.{either}
+use Rattle.isdb_mmt.specs.Packet.{Bytes, Packet}
+use Rattle.isdb_mmt.specs.Maps.{find}
+use Rattle.isdb_mmt.specs.Joins.{Join}
+use Rattle.isdb_mmt.specs.Objects.{Asset}
+use Rattle.isdb_mmt.specs.Kept.{Kept, parsesAs}
+use Rattle.isdb_mmt.specs.Model.{State, Control, opened, pushed}
+use Rattle.isdb_mmt.specs.Needs.{needs}
+use Rattle.isdb_mmt.specs.Demand.{pushAll}
+use Rattle.isdb_mmt.specs.Session.{Session}
+use Rattle.isdb_mmt.specs.Check.{sound}
+use Rattle.isdb_mmt.specs.View.{view}
+use Rattle.isdb_mmt.specs.Opening.{openedSession}
+use Rattle.isdb_mmt.specs.Octets.{Lent}
+use Rattle.isdb_mmt.specs.Leaves.{packetLeaves}
+use Rattle.isdb_mmt.specs.Push.{Input, packetOf, packetsOf, leavesAll, AllTaken, AllBytes}
+use Rattle.isdb_mmt.specs.Readings.{tableIdOf, assetRead}
+use Rattle.isdb_mmt.specs.TableReadingLaws.{saysOf, handsOut, sectionBytes, mptBytes, saysAsset, AnswerIs, Damaged, AsKept}
+use Rattle.isdb_mmt.specs.declared.decoder.limits.Limits.{Limits}
+use Rattle.isdb_mmt.specs.declared.decoder.readings.AssetReading.{AssetReading}
+use Rattle.isdb_mmt.specs.declared.decoder.readings.AssetReading.the-variants.{Refused as assetRefused}
+use Rattle.isdb_mmt.proofs.Names.{clash}
+use Rattle.isdb_mmt.proofs.Seats.{none-some}
+use Rattle.isdb_mmt.proofs.Every.{Every, every-mono}
+use Rattle.isdb_mmt.proofs.Brief.{Plain, plain-of, lent-opened}
+use Rattle.isdb_mmt.proofs.Fits.{AssetFits, mostAdded}
+use Rattle.isdb_mmt.proofs.Stores.{Whole, mptGood, pltGood, totGood, KeptFits}
+use Rattle.isdb_mmt.proofs.Ready.{JoinFits, ControlFits, Ready, ready-opened, ready-push}
+use Rattle.isdb_mmt.proofs.PacketLeaves.{taken}
+use Rattle.isdb_mmt.proofs.Accepted.{push-lent, demand-2}
+use Rattle.isdb_mmt.proofs.TableReadings.{kept-tables, first-carriers}
+
+-- ---- what is kept parses
+
+every-find : {A : Type 0} (P : ℕ → A → Type 0) (m : List (ℕ × A)) → Every P m → (k : ℕ) (a : A) → find k m ≡ some a → P k a
+unfolding find
+every-find P [] h k a e = absurd (none-some a e)
+every-find P (x ∷ m) h k a e =
+    either (eqb k (x .0))
+    (λ t.
+    let q : x .1 ≡ a = cc (rw t at e) in
+    subst (λ j. P j a) (sym (eqb-true k (x .0) t)) (subst (P (x .0)) q (h .0)))
+    (λ f. every-find P m (h .1) k a (rw f at e))
+
+abbrev Good : (Bytes → Bool) → Option Bytes → Type 0
+Good parses o = (b : Bytes) → o ≡ some b → parses b ≡ true
+
+handed-whole : (parses : Bytes → Bool) (o : Option Bytes) → Good parses o → saysOf parses o ≡ handsOut o
+handed-whole parses none h = refl
+handed-whole parses (some b) h = rw (h b refl) refl
+
+whole-good : (parses : Bytes → Bool) (area : ℕ) (o : Option Bytes) → Whole parses area o → Good parses o
+whole-good parses area none h b e = absurd (none-some b e)
+whole-good parses area (some x) h b e = let q : x ≡ b = cc in subst (λ (y : Bytes). parses y ≡ true) q (h .1)
+
+-- a state of the model whose tables parse, as packets leave it
+module _ (v : State) (l : Limits) (n : ℕ) (r : Ready l n v) where
+  section-good : (k : ℕ) → Good (parsesAs (tableIdOf k)) (sectionBytes (find k (v .store .kept)))
+  section-good k = go (find k (v .store .kept)) refl
+    where
+      go : (o : Option Kept) → find k (v .store .kept) ≡ o → Good (parsesAs (tableIdOf k)) (sectionBytes o)
+      go none f b e = absurd (none-some b e)
+      go (some x) f b e =
+          let q : x .bytes ≡ b = cc in
+          subst (λ (y : Bytes). parsesAs (tableIdOf k) y ≡ true) q
+          (every-find (KeptFits (l .«table_area»)) (v .store .kept) (r .store .kept) k x f .parses)
+
+  mpt-good : (id : ℕ) → Good mptGood (mptBytes (find id (v .controls)))
+  mpt-good id = go (find id (v .controls)) refl
+    where
+      go : (o : Option Control) → find id (v .controls) ≡ o → Good mptGood (mptBytes o)
+      go none f = λ b e. absurd (none-some b e)
+      go (some c) f =
+          whole-good mptGood (l .«table_area») (c .mpt) (every-find (λ i c. ControlFits l c) (v .controls) (r .controls) id c f .mpt)
+
+  undamaged : (p : ℕ) → Damaged p (v .controls) → ⊥
+  undamaged p d = clash (mptGood (d .bytes)) (mpt-good (d .id) (d .bytes) (d .kept)) (rw (d .broken) refl)
+
+  -- a session that holds this state
+  pub as-kept : (s : Session) → sound s ≡ true → Lent s → view s ≡ v → AsKept s v
+  as-kept s ok h e =
+      let k = kept-tables s ok in
+      record {
+        section =
+            λ i.
+            k .section i .says
+            ∙ ap (λ (w : State). saysOf (parsesAs (tableIdOf i)) (sectionBytes (find i (w .store .kept)))) e
+            ∙ handed-whole (parsesAs (tableIdOf i)) (sectionBytes (find i (v .store .kept))) (section-good i);
+        mpt =
+            λ i.
+            k .mpt i .says
+            ∙ ap (λ (w : State). saysOf mptGood (mptBytes (find i (w .controls)))) e
+            ∙ handed-whole mptGood (mptBytes (find i (v .controls))) (mpt-good i);
+        plt =
+            k .plt .says
+            ∙ ap (λ (w : State). saysOf pltGood (w .store .plt)) e
+            ∙ handed-whole pltGood (v .store .plt) (whole-good pltGood (l .«table_area») (v .store .plt) (r .store .plt));
+        tot =
+            k .tot .says
+            ∙ ap (λ (w : State). saysOf totGood (w .store .tot)) e
+            ∙ handed-whole totGood (v .store .tot) (whole-good totGood (l .«table_area») (v .store .tot) (r .store .tot));
+        asset =
+            λ p n d.
+            let a : AnswerIs p (view s .controls) (saysAsset (s .tables) (assetRead s p)) = first-carriers s ok (h .state) p in
+            let b : AnswerIs p (view s .controls) (saysAsset (s .tables) (assetRefused n)) =
+            subst (λ (z : AssetReading). AnswerIs p (view s .controls) (saysAsset (s .tables) z)) d a in
+            undamaged p (subst (λ (w : State). Damaged p (w .controls)) e (b .1));
+      }
