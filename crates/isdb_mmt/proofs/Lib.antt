@@ -98,3 +98,4 @@ pub mod Quiet
 pub mod LinePlaces
 pub mod Lines
 pub mod Pushing
+pub mod Steps

@@ -19,6 +19,7 @@ pub mod StdB60Tables
 pub mod Mpu
 pub mod Message
 pub mod Rows
+pub mod Steps
 pub mod Whole
 pub mod Rfc5905
 pub mod Packet
