@@ -53,6 +53,7 @@ module _ {A : Type 0} (step : ℕ → Stood A) (n : ℕ) (on : (at : ℕ) → On
   ahead at (element x next) w = w
 
   pub to-end-at : (at : ℕ) → toEnd step n at ≡ turn (toEnd step n) (onward (step at))
+  unfolding toEnd
   to-end-at at = walk-at (λ p. onward (step p)) (stopped false) n (λ p. ahead p (step p) (on p)) at
 
   -- anything that goes over the elements in the same way finds the same

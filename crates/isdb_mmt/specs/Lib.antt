@@ -20,7 +20,9 @@ pub mod Mpu
 pub mod Message
 pub mod Rows
 pub mod Steps
+pub mod WholeDescriptors
 pub mod Whole
+pub mod WholeSections
 pub mod Rfc5905
 pub mod Packet
 pub mod Maps

@@ -40,7 +40,7 @@ onward atEnd = halt (stopped true)
 onward malformed = halt (stopped false)
 onward (element x next) = more next (also x)
 
-abbrev pub toEnd : {A : Type 0} → (ℕ → Stood A) → ℕ → ℕ → Found A
+unfoldable pub toEnd : {A : Type 0} → (ℕ → Stood A) → ℕ → ℕ → Found A
 toEnd step n at = walk (λ p. onward (step p)) (stopped false) n at
 
 -- from a place, the steps give the elements of a list one by one, and come to `stop`
