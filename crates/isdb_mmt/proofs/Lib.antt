@@ -99,3 +99,4 @@ pub mod LinePlaces
 pub mod Lines
 pub mod Pushing
 pub mod Steps
+pub mod Walks

@@ -9,6 +9,12 @@ use Rattle.isdb_tlv.specs.Walk.{turn, Ahead, walk-at}
 use Rattle.isdb_mmt.specs.Steps.{Stood, atEnd, malformed, element, Found, stopped, also, countedOn, counted, onward, toEnd, Given, Gives, Counts, Ends, lastOf, nextOf, placeOf, elementOf, nth}
 use Rattle.isdb_mmt.proofs.Names.{clash}
 
+-- what holds behind an element that stands there
+abbrev pub Leads : {A : Type 0} → (ℕ → Type 0) → Stood A → Type 0
+Leads Rest atEnd = ⊥
+Leads Rest malformed = ⊥
+Leads Rest (element x next) = Rest next
+
 -- so many elements: where the walk is whole, every step gives one, and there are as many
 module _ {A : Type 0} (step : ℕ → Stood A) where
   counts-on : (n : ℕ) → ((at : ℕ) → counted step n at .whole ≡ true → Counts step n at (counted step n at .found)) → (at : ℕ) (d : Stood A) → step at ≡ d
@@ -24,11 +30,6 @@ module _ {A : Type 0} (step : ℕ → Stood A) where
   counts (suc n) at w = counts-on n (counts n) at (step at) refl w
 
   -- a walk is whole where whatever says so of `n` elements says so behind a first
-  abbrev pub Leads : (ℕ → Type 0) → Stood A → Type 0
-  Leads Rest atEnd = ⊥
-  Leads Rest malformed = ⊥
-  Leads Rest (element x next) = Rest next
-
   leads-whole : {Rest : ℕ → Type 0} (n : ℕ) → ((at : ℕ) → Rest at → counted step n at .whole ≡ true) → (d : Stood A) → Leads Rest d
       → countedOn (counted step n) d .whole ≡ true
   leads-whole n h atEnd w = absurd w

@@ -23,6 +23,7 @@ pub mod Steps
 pub mod WholeDescriptors
 pub mod Whole
 pub mod WholeSections
+pub mod Walks
 pub mod Rfc5905
 pub mod Packet
 pub mod Maps
