@@ -100,3 +100,4 @@ pub mod Lines
 pub mod Pushing
 pub mod Steps
 pub mod Walks
+pub mod SectionWalks

@@ -47,6 +47,11 @@ On n at atEnd = Unit {0}
 On n at malformed = Unit {0}
 On n at (element x next) = (at < n) × (at < next)
 
+abbrev pub wholeOn : {A : Type 0} → (ℕ → Bool) → Stood A → Bool
+wholeOn go atEnd = true
+wholeOn go malformed = false
+wholeOn go (element x next) = go next
+
 module _ {A : Type 0} (step : ℕ → Stood A) (n : ℕ) (on : (at : ℕ) → On n at (step at)) where
   ahead : (at : ℕ) (d : Stood A) → On n at d → Ahead n at (onward d)
   ahead at atEnd w = tt
@@ -75,6 +80,24 @@ module _ {A : Type 0} (step : ℕ → Stood A) (n : ℕ) (on : (at : ℕ) → On
     pub same-found : (at : ℕ) → go at ≡ toEnd step n at
     same-found at = same-for (suc (n - at)) at (omega arith)
 
+  -- and the same of whether it is whole
+  whole-on : (go : ℕ → Bool) (at : ℕ) (d : Stood A) → On n at d → ((next : ℕ) → at < n → at < next → go next ≡ toEnd step n next .whole)
+      → wholeOn go d ≡ turn (toEnd step n) (onward d) .whole
+  whole-on go at atEnd w h = refl
+  whole-on go at malformed w h = refl
+  whole-on go at (element x next) w h = h next (w .0) (w .1)
+
+  module _ (go : ℕ → Bool) (turns : (at : ℕ) → go at ≡ wholeOn go (step at)) where
+    whole-for : (k at : ℕ) → n - at < k → go at ≡ toEnd step n at .whole
+    whole-for zero at h = absurd (omega arith)
+    whole-for (suc k) at h =
+        turns at
+        ∙ whole-on go at (step at) (on at) (λ next a b. whole-for k next (omega arith))
+        ∙ sym (ap (λ (l : Found A). l .whole) (to-end-at at))
+
+    pub same-whole : (at : ℕ) → go at ≡ toEnd step n at .whole
+    same-whole at = whole-for (suc (n - at)) at (omega arith)
+
   -- every step gives one, and behind the last stands the end, or what is not whole
   ends-on : (at : ℕ) (d : Stood A) → step at ≡ d → On n at d
       → ((next : ℕ) → at < n → at < next → Ends step next (toEnd step n next .found) (lastOf (toEnd step n next .whole)))
@@ -92,6 +115,9 @@ module _ {A : Type 0} (step : ℕ → Stood A) (n : ℕ) (on : (at : ℕ) → On
 
   pub ends : (at : ℕ) → Ends step at (toEnd step n at .found) (lastOf (toEnd step n at .whole))
   ends at = ends-for (suc (n - at)) at (omega arith)
+
+  pub ends-whole : (at : ℕ) → toEnd step n at .whole ≡ true → Ends step at (toEnd step n at .found) atEnd
+  ends-whole at e = rw e at (ends at)
 
 -- the element of the list at an index is what the step at that place gives
 module _ {A : Type 0} (step : ℕ → Stood A) where

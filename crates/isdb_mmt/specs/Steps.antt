@@ -65,6 +65,11 @@ pub record Ends {A : Type 0} (step : ℕ → Stood A) (at : ℕ) (l : List A) (l
   pub gives : Gives step at l stop
   pub ends : step stop ≡ last
 
+-- `n` of them, and behind them the end
+pub record AllOf {A : Type 0} (step : ℕ → Stood A) (n at : ℕ) (l : List A) : Type 0 where
+  pub count : length l ≡ n
+  pub ends : Ends step at l atEnd
+
 -- the place that so many steps lead to, what stands there, and what a list has there
 abbrev pub nextOf : {A : Type 0} → ℕ → Stood A → ℕ
 nextOf at atEnd = at

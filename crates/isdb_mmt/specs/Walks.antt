@@ -3,10 +3,17 @@
 use Prim.Native.Nat.{ℕ}
 use mathlib.Core.Path.{_≡_}
 use mathlib.Core.List.{List}
-use Rattle.isdb_mmt.specs.Steps.{Counts}
+use Rattle.isdb_mmt.specs.Steps.{Counts, AllOf}
 use Rattle.isdb_mmt.specs.WholeDescriptors.{locationSeen}
+use Rattle.isdb_mmt.specs.Part.{partOf}
 use Rattle.isdb_mmt.specs.Mpt.{assetAt, mptOf}
 use Rattle.isdb_mmt.specs.Plt.{pltOf}
+use Rattle.isdb_mmt.specs.Amt.{amtOf}
+use Rattle.isdb_mmt.specs.Eit.{eitOf}
+use Rattle.isdb_mmt.specs.Sdt.{sdtOf}
+use Rattle.isdb_mmt.specs.Bit.{bitOf}
+use Rattle.isdb_mmt.specs.Nit.{nitOf}
+use Rattle.isdb_mmt.specs.WholeSections.{behind, flowSeen, wholeAmt, eventSeen, wholeEit, serviceSeen, wholeSdt, broadcasterSeen, wholeBit, streamSeen, wholeNit}
 use Rattle.isdb_mmt.specs.Whole.{declared, wholeAsset, assetSeen, wholeMpt, packageSeen, deliverySeen, wholePlt}
 use Rattle.isdb_mmt.specs.declared.table.mpt.Asset.{Asset}
 use Rattle.isdb_mmt.specs.declared.table.mpt.AssetStep.the-variants.{Asset as asset}
@@ -14,6 +21,17 @@ use Rattle.isdb_mmt.specs.declared.table.mpt.Mpt.{Mpt}
 use Rattle.isdb_mmt.specs.declared.table.mpt.MaybeMpt.the-variants.{Some as someMpt}
 use Rattle.isdb_mmt.specs.declared.table.plt.Plt.{Plt}
 use Rattle.isdb_mmt.specs.declared.table.plt.MaybePlt.the-variants.{Some as somePlt}
+use Rattle.isdb_mmt.specs.declared.table.section.SectionHeader.{SectionHeader}
+use Rattle.isdb_mmt.specs.declared.table.amt.Amt.{Amt}
+use Rattle.isdb_mmt.specs.declared.table.amt.AmtResult.the-variants.{Ok as amtOk}
+use Rattle.isdb_mmt.specs.declared.table.eit.Eit.{Eit}
+use Rattle.isdb_mmt.specs.declared.table.eit.EitResult.the-variants.{Ok as eitOk}
+use Rattle.isdb_mmt.specs.declared.table.sdt.Sdt.{Sdt}
+use Rattle.isdb_mmt.specs.declared.table.sdt.SdtResult.the-variants.{Ok as sdtOk}
+use Rattle.isdb_mmt.specs.declared.table.bit.Bit.{Bit}
+use Rattle.isdb_mmt.specs.declared.table.bit.BitResult.the-variants.{Ok as bitOk}
+use Rattle.isdb_mmt.specs.declared.table.nit.Nit.{Nit}
+use Rattle.isdb_mmt.specs.declared.table.nit.NitResult.the-variants.{Ok as nitOk}
 
 -- the assets of an MPT, and the locations of any asset that a step gives
 abbrev pub AssetsWalk : List ℕ → Mpt → Type 0
@@ -35,3 +53,35 @@ pub record PltWalks (s : List ℕ) (t : Plt) : Type 0 where
 
 abbrev pub PltTheorem : Type 0
 PltTheorem = (s : List ℕ) (t : Plt) → pltOf s ≡ somePlt t → PltWalks (declared s) t
+
+-- of a section whose body is `s`: the services of an AMT, the events of an EIT, the services of an SDT, the broadcasters of a BIT,
+-- which stand behind its first descriptors, and the streams of a NIT, which stand in a part of their own
+abbrev pub FlowsWalk : List ℕ → Amt → Type 0
+FlowsWalk s t = Counts (flowSeen s) (t .services) 2 (wholeAmt s t)
+
+abbrev pub EventsWalk : List ℕ → Eit → Type 0
+EventsWalk s t = AllOf (eventSeen s) (t .events) 6 (wholeEit s t .events)
+
+abbrev pub ServicesWalk : List ℕ → Sdt → Type 0
+ServicesWalk s t = AllOf (serviceSeen s) (t .services) 3 (wholeSdt s t .services)
+
+abbrev pub BroadcastersWalk : List ℕ → Bit → Type 0
+BroadcastersWalk s t = AllOf (broadcasterSeen s) (t .broadcasters) (behind (t .descriptors)) (wholeBit s t .broadcasters)
+
+abbrev pub StreamsWalk : List ℕ → Nit → Type 0
+StreamsWalk s t = AllOf (streamSeen (partOf s (t .«loop_part»))) (t .streams) 0 (wholeNit s t .streams)
+
+abbrev pub AmtTheorem : Type 0
+AmtTheorem = (s : List ℕ) (h : SectionHeader) (t : Amt) → amtOf s ≡ amtOk h t → FlowsWalk (partOf s (h .body)) t
+
+abbrev pub EitTheorem : Type 0
+EitTheorem = (s : List ℕ) (h : SectionHeader) (t : Eit) → eitOf s .result ≡ eitOk h t → EventsWalk (partOf s (h .body)) t
+
+abbrev pub SdtTheorem : Type 0
+SdtTheorem = (s : List ℕ) (h : SectionHeader) (t : Sdt) → sdtOf s .result ≡ sdtOk h t → ServicesWalk (partOf s (h .body)) t
+
+abbrev pub BitTheorem : Type 0
+BitTheorem = (s : List ℕ) (h : SectionHeader) (t : Bit) → bitOf s .result ≡ bitOk h t → BroadcastersWalk (partOf s (h .body)) t
+
+abbrev pub NitTheorem : Type 0
+NitTheorem = (s : List ℕ) (h : SectionHeader) (t : Nit) → nitOf s ≡ nitOk h t → StreamsWalk (partOf s (h .body)) t
