@@ -101,3 +101,4 @@ pub mod Pushing
 pub mod Steps
 pub mod Walks
 pub mod SectionWalks
+pub mod DescriptorWalks

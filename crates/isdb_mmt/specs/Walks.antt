@@ -1,10 +1,12 @@
 -- Where a table parses, the steps from their starts give the elements of its whole value, one by one and as many as it says; none
 -- is malformed. Of the bytes that each step looks at: `s` is the declared bytes of an MPT or a PLT, the body of a section.
-use Prim.Native.Nat.{ℕ}
+use Prim.Native.Nat.{ℕ, _≤_}
 use mathlib.Core.Path.{_≡_}
+use mathlib.Core.Bool.{not}
 use mathlib.Core.List.{List}
-use Rattle.isdb_mmt.specs.Steps.{Counts, AllOf}
-use Rattle.isdb_mmt.specs.WholeDescriptors.{locationSeen}
+use lib.ListN.{length}
+use Rattle.isdb_mmt.specs.Steps.{atEnd, Counts, Ends, AllOf, lastOf}
+use Rattle.isdb_mmt.specs.WholeDescriptors.{locationSeen, timestampSeen, timestampsIn, unitSeen, unitsIn, mpuSeen, wholeExtended, serviceSeen as listedSeen, servicesIn, genreSeen, genresIn, descriptorSeen, loopIn, tlvSeen, tlvsIn}
 use Rattle.isdb_mmt.specs.Part.{partOf}
 use Rattle.isdb_mmt.specs.Mpt.{assetAt, mptOf}
 use Rattle.isdb_mmt.specs.Plt.{pltOf}
@@ -13,7 +15,10 @@ use Rattle.isdb_mmt.specs.Eit.{eitOf}
 use Rattle.isdb_mmt.specs.Sdt.{sdtOf}
 use Rattle.isdb_mmt.specs.Bit.{bitOf}
 use Rattle.isdb_mmt.specs.Nit.{nitOf}
-use Rattle.isdb_mmt.specs.WholeSections.{behind, flowSeen, wholeAmt, eventSeen, wholeEit, serviceSeen, wholeSdt, broadcasterSeen, wholeBit, streamSeen, wholeNit}
+use Rattle.isdb_mmt.specs.Tot.{totOf}
+use Rattle.isdb_mmt.specs.Timestamp.{mpuAt}
+use Rattle.isdb_mmt.specs.Desc.{splitOf, counted, descriptorOf}
+use Rattle.isdb_mmt.specs.WholeSections.{behind, sectionBytes, flowSeen, wholeAmt, eventSeen, wholeEit, serviceSeen, wholeSdt, broadcasterSeen, wholeBit, streamSeen, wholeNit}
 use Rattle.isdb_mmt.specs.Whole.{declared, wholeAsset, assetSeen, wholeMpt, packageSeen, deliverySeen, wholePlt}
 use Rattle.isdb_mmt.specs.declared.table.mpt.Asset.{Asset}
 use Rattle.isdb_mmt.specs.declared.table.mpt.AssetStep.the-variants.{Asset as asset}
@@ -32,6 +37,12 @@ use Rattle.isdb_mmt.specs.declared.table.bit.Bit.{Bit}
 use Rattle.isdb_mmt.specs.declared.table.bit.BitResult.the-variants.{Ok as bitOk}
 use Rattle.isdb_mmt.specs.declared.table.nit.Nit.{Nit}
 use Rattle.isdb_mmt.specs.declared.table.nit.NitResult.the-variants.{Ok as nitOk}
+use Rattle.isdb_mmt.specs.declared.table.tot.Tot.{Tot}
+use Rattle.isdb_mmt.specs.declared.table.tot.TotResult.the-variants.{Ok as totOk}
+use Rattle.isdb_mmt.specs.declared.part.Part.{Part}
+use Rattle.isdb_mmt.specs.declared.timestamp.Extended.{Extended}
+use Rattle.isdb_mmt.specs.declared.timestamp.MpuStep.the-variants.{Mpu}
+use Rattle.isdb_mmt.specs.declared.desc.Descriptor.the-variants.{ExtendedTimestamp}
 
 -- the assets of an MPT, and the locations of any asset that a step gives
 abbrev pub AssetsWalk : List ℕ → Mpt → Type 0
@@ -85,3 +96,36 @@ BitTheorem = (s : List ℕ) (h : SectionHeader) (t : Bit) → bitOf s .result �
 
 abbrev pub NitTheorem : Type 0
 NitTheorem = (s : List ℕ) (h : SectionHeader) (t : Nit) → nitOf s ≡ nitOk h t → StreamsWalk (partOf s (h .body)) t
+
+-- any bytes as a descriptor loop: its descriptors as many as `decode_all` counts, and behind them the end, or the one that does not
+-- fit where it says that the loop breaks
+pub record LoopWalk (s : List ℕ) : Type 0 where
+  pub count : length (loopIn s .found) ≡ counted (splitOf s) .count
+  pub whole : loopIn s .whole ≡ not (counted (splitOf s) .broken)
+  pub ends : Ends (descriptorSeen s) 0 (loopIn s .found) (lastOf (loopIn s .whole))
+
+abbrev pub LoopTheorem : Type 0
+LoopTheorem = (s : List ℕ) → LoopWalk s
+
+-- any bytes as a TLV-SI loop, and as the rows of an MPU timestamp, a service list and a content descriptor
+pub record RowsWalk (s : List ℕ) : Type 0 where
+  pub tlvs : Ends (tlvSeen s) 0 (tlvsIn s) atEnd
+  pub timestamps : Ends (timestampSeen s) 0 (timestampsIn s) atEnd
+  pub services : Ends (listedSeen s) 0 (servicesIn s) atEnd
+  pub genres : Ends (genreSeen s) 0 (genresIn s) atEnd
+
+abbrev pub RowsTheorem : Type 0
+RowsTheorem = (s : List ℕ) → RowsWalk s
+
+-- the MPUs of a descriptor that was decoded as an extended timestamp; the access units of any MPU that a step gives
+abbrev pub ExtendedTheorem : Type 0
+ExtendedTheorem = (tag : ℕ) (s : List ℕ) (e : Extended) → descriptorOf tag s ≡ ExtendedTimestamp e
+    → Ends (mpuSeen s e) (e .start) (wholeExtended s e .mpus) atEnd
+
+abbrev pub UnitsTheorem : Type 0
+UnitsTheorem = (s : List ℕ) (e : Extended) (at q l d n next : ℕ) (units : Part) → mpuAt s (e .«own_pts_offset») at ≡ Mpu q l d n units next
+    → Counts (unitSeen (partOf s units) e) n 0 (unitsIn (partOf s units) e n)
+
+-- the descriptors of a TOT stand within its section
+abbrev pub TotTheorem : Type 0
+TotTheorem = (s : List ℕ) (t : Tot) → totOf s .result ≡ totOk t → behind (t .descriptors) ≤ length (sectionBytes s)

@@ -86,6 +86,9 @@ unitTold (accessUnit u next) = element u next
 abbrev pub unitSeen : List ℕ → Extended → ℕ → Stood AccessUnit
 unitSeen s e at = unitTold (unitStep s e at)
 
+abbrev pub unitsIn : List ℕ → Extended → ℕ → List AccessUnit
+unitsIn s e n = counted (unitSeen s e) n 0 .found
+
 pub record WholeMpu : Type 0 where
   pub sequenceNumber : ℕ
   pub leapIndicator : ℕ
@@ -100,7 +103,7 @@ mpuTold s e (Mpu q l d n units next) =
       sequenceNumber = q;
       leapIndicator = l;
       decodingTimeOffset = d;
-      accessUnits = counted (unitSeen (partOf s units) e) n 0 .found;
+      accessUnits = unitsIn (partOf s units) e n;
     }) next
 
 abbrev pub mpuSeen : List ℕ → Extended → ℕ → Stood WholeMpu
