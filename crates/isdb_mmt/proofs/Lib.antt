@@ -102,3 +102,4 @@ pub mod Steps
 pub mod Walks
 pub mod SectionWalks
 pub mod DescriptorWalks
+pub mod WholeParts

@@ -161,7 +161,7 @@ module _ (s : List ℕ) where
 
 -- ---- the tables, cut to what they declare
 
-cut-elim : (s : List ℕ) (P : Place → Type 0) → P nowhere → P (At (be 2 s 2 + 4)) → P (declaredLength s)
+pub cut-elim : (s : List ℕ) (P : Place → Type 0) → P nowhere → P (At (be 2 s 2 + 4)) → P (declaredLength s)
 unfolding declaredLength
 cut-elim s P x y =
     cond-elim P (ltb (length s) 4) (λ e. x) (λ e. cond-elim P (ltb (length s) (be 2 s 2 + 4)) (λ e1. x) (λ e1. y))

@@ -24,6 +24,7 @@ pub mod WholeDescriptors
 pub mod Whole
 pub mod WholeSections
 pub mod Walks
+pub mod WholeParts
 pub mod WholeCases
 pub mod Rfc5905
 pub mod Packet

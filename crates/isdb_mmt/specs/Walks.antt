@@ -1,6 +1,6 @@
 -- Where a table parses, the steps from their starts give the elements of its whole value, one by one and as many as it says; none
 -- is malformed. Of the bytes that each step looks at: `s` is the declared bytes of an MPT or a PLT, the body of a section.
-use Prim.Native.Nat.{ℕ, _≤_}
+use Prim.Native.Nat.{ℕ}
 use mathlib.Core.Path.{_≡_}
 use mathlib.Core.Bool.{not}
 use mathlib.Core.List.{List}
@@ -15,10 +15,9 @@ use Rattle.isdb_mmt.specs.Eit.{eitOf}
 use Rattle.isdb_mmt.specs.Sdt.{sdtOf}
 use Rattle.isdb_mmt.specs.Bit.{bitOf}
 use Rattle.isdb_mmt.specs.Nit.{nitOf}
-use Rattle.isdb_mmt.specs.Tot.{totOf}
 use Rattle.isdb_mmt.specs.Timestamp.{mpuAt}
 use Rattle.isdb_mmt.specs.Desc.{splitOf, counted, descriptorOf}
-use Rattle.isdb_mmt.specs.WholeSections.{behind, sectionBytes, flowSeen, wholeAmt, eventSeen, wholeEit, serviceSeen, wholeSdt, broadcasterSeen, wholeBit, streamSeen, wholeNit}
+use Rattle.isdb_mmt.specs.WholeSections.{behind, flowSeen, wholeAmt, eventSeen, wholeEit, serviceSeen, wholeSdt, broadcasterSeen, wholeBit, streamSeen, wholeNit}
 use Rattle.isdb_mmt.specs.Whole.{declared, wholeAsset, assetSeen, wholeMpt, packageSeen, deliverySeen, wholePlt}
 use Rattle.isdb_mmt.specs.declared.table.mpt.Asset.{Asset}
 use Rattle.isdb_mmt.specs.declared.table.mpt.AssetStep.the-variants.{Asset as asset}
@@ -37,8 +36,6 @@ use Rattle.isdb_mmt.specs.declared.table.bit.Bit.{Bit}
 use Rattle.isdb_mmt.specs.declared.table.bit.BitResult.the-variants.{Ok as bitOk}
 use Rattle.isdb_mmt.specs.declared.table.nit.Nit.{Nit}
 use Rattle.isdb_mmt.specs.declared.table.nit.NitResult.the-variants.{Ok as nitOk}
-use Rattle.isdb_mmt.specs.declared.table.tot.Tot.{Tot}
-use Rattle.isdb_mmt.specs.declared.table.tot.TotResult.the-variants.{Ok as totOk}
 use Rattle.isdb_mmt.specs.declared.part.Part.{Part}
 use Rattle.isdb_mmt.specs.declared.timestamp.Extended.{Extended}
 use Rattle.isdb_mmt.specs.declared.timestamp.MpuStep.the-variants.{Mpu}
@@ -125,7 +122,3 @@ ExtendedTheorem = (tag : ℕ) (s : List ℕ) (e : Extended) → descriptorOf tag
 abbrev pub UnitsTheorem : Type 0
 UnitsTheorem = (s : List ℕ) (e : Extended) (at q l d n next : ℕ) (units : Part) → mpuAt s (e .«own_pts_offset») at ≡ Mpu q l d n units next
     → Counts (unitSeen (partOf s units) e) n 0 (unitsIn (partOf s units) e n)
-
--- the descriptors of a TOT stand within its section
-abbrev pub TotTheorem : Type 0
-TotTheorem = (s : List ℕ) (t : Tot) → totOf s .result ≡ totOk t → behind (t .descriptors) ≤ length (sectionBytes s)
