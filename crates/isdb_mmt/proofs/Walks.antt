@@ -13,9 +13,10 @@ use Rattle.isdb_mmt.specs.Timestamp.{isSome}
 use Rattle.isdb_mmt.specs.Location.{locationOf}
 use Rattle.isdb_mmt.specs.Mpt.{declaredLength, behindLocation, locationsEnd, assetFields, assetBehind, assetType, assetAt, assetThen, assetsFrom, mptIn, mptAssets, mptTable, mptOf}
 use Rattle.isdb_mmt.specs.Plt.{packageAt, behindPackage, packagesEnd, deliveryAt, deliveryThen, alsoDelivery, deliveriesFrom, deliveriesWhole, pltWith, pltDeliveries, pltBehind, pltTable, pltIn, pltOf}
+use Rattle.isdb_mmt.specs.Kept.{declaredTable}
 use Rattle.isdb_mmt.specs.Steps.{counted}
 use Rattle.isdb_mmt.specs.WholeDescriptors.{locationTold, locationSeen}
-use Rattle.isdb_mmt.specs.Whole.{declared, assetTold, assetSeen, packageTold, packageSeen, deliveryTold, deliverySeen}
+use Rattle.isdb_mmt.specs.Whole.{assetTold, assetSeen, packageTold, packageSeen, deliveryTold, deliverySeen}
 use Rattle.isdb_mmt.specs.Walks.{AssetsWalk, LocationsWalk, MptTheorem, AssetTheorem, PltWalks, PltTheorem}
 use Rattle.isdb_mmt.specs.declared.location.Located.{Located}
 use Rattle.isdb_mmt.specs.declared.location.Located.the-variants.{None as notLocated, Some as located}
@@ -171,8 +172,8 @@ assets s at next a e = rw e at (asset-good s at)
 
 pub mpt : MptTheorem
 unfolding mptOf
-mpt s t e = rw e at (cut-elim s (λ p. MptGood (declared s) (mptIn s p .mpt)) tt (table-good (declared s)))
+mpt s t e = rw e at (cut-elim s (λ p. MptGood (declaredTable s) (mptIn s p .mpt)) tt (table-good (declaredTable s)))
 
 pub plt : PltTheorem
 unfolding pltOf
-plt s t e = rw e at (cut-elim s (λ p. PltGood (declared s) (pltIn s p)) tt (plt-good (declared s)))
+plt s t e = rw e at (cut-elim s (λ p. PltGood (declaredTable s) (pltIn s p)) tt (plt-good (declaredTable s)))

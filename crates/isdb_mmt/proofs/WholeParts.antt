@@ -22,8 +22,7 @@ use Rattle.isdb_mmt.specs.Sdt.{serviceIn, serviceStep}
 use Rattle.isdb_mmt.specs.Bit.{broadcasterIn, broadcasterStep, bitBody, bitIn, bitOf}
 use Rattle.isdb_mmt.specs.Nit.{streamsPart, streamIn, streamStep, tlvStepAt, nitBody, nitIn, nitOf}
 use Rattle.isdb_mmt.specs.Tot.{totFieldsIn, totFields, totOf}
-use Rattle.isdb_mmt.specs.Whole.{declared}
-use Rattle.isdb_mmt.specs.WholeSections.{sectionBytes}
+use Rattle.isdb_mmt.specs.Kept.{declaredTable, declaredSection}
 use Rattle.isdb_mmt.specs.WholeParts.{UrlLies, LocatedLies, LocationLies, RawLies, TextsLie, UnitsLie, TlvLies, MptLies, AssetLies, PackageLies, BodyLies, EventLies, ServiceLies, BroadcasterLies, StreamLies, BitLies, NitLies, TotLies, PartsTheorem}
 use Rattle.isdb_mmt.specs.declared.location.Location.{Location}
 use Rattle.isdb_mmt.specs.declared.location.Location.the-variants.{SameFlow, Mpeg2Ts, Mpeg2TsIpv6, Url}
@@ -313,19 +312,19 @@ nit-lies : (s : List ℕ) → NitLies s (nitOf s)
 unfolding nitOf
 nit-lies s = nit-section s (longSectionOf s)
 
-tot-lies : (s : List ℕ) → TotLies (sectionBytes s) (totOf s .result)
+tot-lies : (s : List ℕ) → TotLies (declaredSection s) (totOf s .result)
 unfolding totOf totFields
 tot-lies s =
     let n = length12 s 1 + 3 in
-    cond-elim (λ (r : TotParsed). TotLies (sectionBytes s) (r .result)) (ltb (length s) 3) (λ e. tt) (λ e.
-    cond-elim (λ (r : TotParsed). TotLies (sectionBytes s) (r .result)) (ltb n 14) (λ e1. tt) (λ e1.
-    cond-elim (λ (r : TotParsed). TotLies (sectionBytes s) (r .result)) (ltb (length s) n) (λ e2. tt) (λ e2.
-    cond-elim (λ (r : TotParsed). TotLies (sectionBytes s) (r .result)) (not (eqb (crcOf (take n s)) 0)) (λ e3. tt) (λ e3.
-    tot-fields (sectionBytes s)))))
+    cond-elim (λ (r : TotParsed). TotLies (declaredSection s) (r .result)) (ltb (length s) 3) (λ e. tt) (λ e.
+    cond-elim (λ (r : TotParsed). TotLies (declaredSection s) (r .result)) (ltb n 14) (λ e1. tt) (λ e1.
+    cond-elim (λ (r : TotParsed). TotLies (declaredSection s) (r .result)) (ltb (length s) n) (λ e2. tt) (λ e2.
+    cond-elim (λ (r : TotParsed). TotLies (declaredSection s) (r .result)) (not (eqb (crcOf (take n s)) 0)) (λ e3. tt) (λ e3.
+    tot-fields (declaredSection s)))))
 
-mpt-lies : (s : List ℕ) → MptLies (declared s) (mptOf s .mpt)
+mpt-lies : (s : List ℕ) → MptLies (declaredTable s) (mptOf s .mpt)
 unfolding mptOf
-mpt-lies s = cut-elim s (λ p. MptLies (declared s) (mptIn s p .mpt)) tt (table-lies (declared s))
+mpt-lies s = cut-elim s (λ p. MptLies (declaredTable s) (mptIn s p .mpt)) tt (table-lies (declaredTable s))
 
 pub parts : PartsTheorem
 parts =

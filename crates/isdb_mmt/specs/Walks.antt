@@ -5,6 +5,7 @@ use mathlib.Core.Path.{_≡_}
 use mathlib.Core.Bool.{not}
 use mathlib.Core.List.{List}
 use lib.ListN.{length}
+use Rattle.isdb_mmt.specs.Kept.{declaredTable}
 use Rattle.isdb_mmt.specs.Steps.{atEnd, Counts, Ends, AllOf, lastOf}
 use Rattle.isdb_mmt.specs.WholeDescriptors.{locationSeen, timestampSeen, timestampsIn, unitSeen, unitsIn, mpuSeen, wholeExtended, serviceSeen as listedSeen, servicesIn, genreSeen, genresIn, descriptorSeen, loopIn, tlvSeen, tlvsIn}
 use Rattle.isdb_mmt.specs.Part.{partOf}
@@ -18,7 +19,7 @@ use Rattle.isdb_mmt.specs.Nit.{nitOf}
 use Rattle.isdb_mmt.specs.Timestamp.{mpuAt}
 use Rattle.isdb_mmt.specs.Desc.{splitOf, counted, descriptorOf}
 use Rattle.isdb_mmt.specs.WholeSections.{behind, flowSeen, wholeAmt, eventSeen, wholeEit, serviceSeen, wholeSdt, broadcasterSeen, wholeBit, streamSeen, wholeNit}
-use Rattle.isdb_mmt.specs.Whole.{declared, wholeAsset, assetSeen, wholeMpt, packageSeen, deliverySeen, wholePlt}
+use Rattle.isdb_mmt.specs.Whole.{wholeAsset, assetSeen, wholeMpt, packageSeen, deliverySeen, wholePlt}
 use Rattle.isdb_mmt.specs.declared.table.mpt.Asset.{Asset}
 use Rattle.isdb_mmt.specs.declared.table.mpt.AssetStep.the-variants.{Asset as asset}
 use Rattle.isdb_mmt.specs.declared.table.mpt.Mpt.{Mpt}
@@ -49,7 +50,7 @@ abbrev pub LocationsWalk : List ℕ → Asset → Type 0
 LocationsWalk s a = Counts (locationSeen s) (a .locations) (a .«locations_start») (wholeAsset s a .locations)
 
 abbrev pub MptTheorem : Type 0
-MptTheorem = (s : List ℕ) (t : Mpt) → mptOf s .mpt ≡ someMpt t → AssetsWalk (declared s) t
+MptTheorem = (s : List ℕ) (t : Mpt) → mptOf s .mpt ≡ someMpt t → AssetsWalk (declaredTable s) t
 
 abbrev pub AssetTheorem : Type 0
 AssetTheorem = (s : List ℕ) (at next : ℕ) (a : Asset) → assetAt s at ≡ asset a next → LocationsWalk s a
@@ -60,7 +61,7 @@ pub record PltWalks (s : List ℕ) (t : Plt) : Type 0 where
   pub deliveries : Counts (deliverySeen s) (t .«ip_deliveries») (t .«deliveries_start») (wholePlt s t .deliveries)
 
 abbrev pub PltTheorem : Type 0
-PltTheorem = (s : List ℕ) (t : Plt) → pltOf s ≡ somePlt t → PltWalks (declared s) t
+PltTheorem = (s : List ℕ) (t : Plt) → pltOf s ≡ somePlt t → PltWalks (declaredTable s) t
 
 -- of a section whose body is `s`: the services of an AMT, the events of an EIT, the services of an SDT, the broadcasters of a BIT,
 -- which stand behind its first descriptors, and the streams of a NIT, which stand in a part of their own

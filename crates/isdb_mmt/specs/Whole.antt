@@ -1,11 +1,11 @@
 -- MPT and PLT as whole values: every field, id, location and descriptor, with their bytes, as a reader of a kept table gets them
 -- by the steps of Mpt and Plt. That the steps give these values is Walks.
-use Prim.Native.Nat.{ℕ, _+_}
+use Prim.Native.Nat.{ℕ}
 use mathlib.Core.List.{List}
 use mathlib.Core.Option.{Option, none, some}
-use lib.ListN.{take, drop}
-use Rattle.isdb_tlv.specs.Bytes.{be}
+use lib.ListN.{drop}
 use Rattle.isdb_mmt.specs.Part.{partOf}
+use Rattle.isdb_mmt.specs.Kept.{declaredTable}
 use Rattle.isdb_mmt.specs.Steps.{Stood, malformed, element, Found, counted}
 use Rattle.isdb_mmt.specs.WholeDescriptors.{WholeLocation, wholeLocation, locationSeen, WholeDescriptor, loopIn}
 use Rattle.isdb_mmt.specs.Mpt.{assetAt, mptOf}
@@ -24,10 +24,6 @@ use Rattle.isdb_mmt.specs.declared.table.plt.DeliveryStep.the-variants.{
 use Rattle.isdb_mmt.specs.declared.table.plt.Plt.{Plt}
 use Rattle.isdb_mmt.specs.declared.table.plt.MaybePlt.{MaybePlt}
 use Rattle.isdb_mmt.specs.declared.table.plt.MaybePlt.the-variants.{None as noPlt, Some as somePlt}
-
--- the bytes that an MPT or a PLT declares
-abbrev pub declared : List ℕ → List ℕ
-declared s = take (be 2 s 2 + 4) s
 
 -- MPT: its package id and descriptors; of each asset its id, locations and descriptors
 pub record WholeAsset : Type 0 where
@@ -72,7 +68,7 @@ mptTold s noMpt = none
 mptTold s (someMpt t) = some (wholeMpt s t)
 
 abbrev pub mptValue : List ℕ → Option WholeMpt
-mptValue s = mptTold (declared s) (mptOf s .mpt)
+mptValue s = mptTold (declaredTable s) (mptOf s .mpt)
 
 -- PLT: each package by its id and its location; the deliveries
 pub record WholePackage : Type 0 where
@@ -115,4 +111,4 @@ pltTold s noPlt = none
 pltTold s (somePlt t) = some (wholePlt s t)
 
 abbrev pub pltValue : List ℕ → Option WholePlt
-pltValue s = pltTold (declared s) (pltOf s)
+pltValue s = pltTold (declaredTable s) (pltOf s)

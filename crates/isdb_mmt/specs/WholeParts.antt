@@ -16,8 +16,8 @@ use Rattle.isdb_mmt.specs.Sdt.{serviceStep}
 use Rattle.isdb_mmt.specs.Bit.{broadcasterStep, bitOf}
 use Rattle.isdb_mmt.specs.Nit.{streamStep, tlvStepAt, nitOf}
 use Rattle.isdb_mmt.specs.Tot.{totOf}
-use Rattle.isdb_mmt.specs.Whole.{declared}
-use Rattle.isdb_mmt.specs.WholeSections.{behind, sectionBytes}
+use Rattle.isdb_mmt.specs.Kept.{declaredTable, declaredSection}
+use Rattle.isdb_mmt.specs.WholeSections.{behind}
 use Rattle.isdb_mmt.specs.declared.part.Part.{Part}
 use Rattle.isdb_mmt.specs.declared.location.Location.{Location}
 use Rattle.isdb_mmt.specs.declared.location.Location.the-variants.{SameFlow, Ipv4, Ipv6, Mpeg2Ts, Mpeg2TsIpv6, Url}
@@ -161,7 +161,7 @@ pub record PartsTheorem : Type 0 where
   pub texts : (tag : ℕ) (s : List ℕ) → TextsLie s (descriptorOf tag s)
   pub mpus : (s : List ℕ) (own : Bool) (at : ℕ) → UnitsLie s (mpuAt s own at)
   pub tlvs : (s : List ℕ) (at : ℕ) → TlvLies s (tlvStepAt s at)
-  pub mpt : (s : List ℕ) → MptLies (declared s) (mptOf s .mpt)
+  pub mpt : (s : List ℕ) → MptLies (declaredTable s) (mptOf s .mpt)
   pub assets : (s : List ℕ) (at : ℕ) → AssetLies s (assetAt s at)
   pub packages : (s : List ℕ) (at : ℕ) → PackageLies s (packageAt s at)
   pub sections : (s : List ℕ) → BodyLies s (longSectionOf s)
@@ -171,4 +171,4 @@ pub record PartsTheorem : Type 0 where
   pub broadcasters : (s : List ℕ) (at : ℕ) → BroadcasterLies s (broadcasterStep s at)
   pub nit : (s : List ℕ) → NitLies s (nitOf s)
   pub streams : (s : List ℕ) (at : ℕ) → StreamLies s (streamStep s at)
-  pub tot : (s : List ℕ) → TotLies (sectionBytes s) (totOf s .result)
+  pub tot : (s : List ℕ) → TotLies (declaredSection s) (totOf s .result)

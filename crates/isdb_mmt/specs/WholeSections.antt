@@ -3,11 +3,11 @@
 use Prim.Native.Nat.{ℕ, _+_}
 use mathlib.Core.List.{List}
 use mathlib.Core.Option.{Option, none, some}
-use lib.ListN.{length, take}
+use lib.ListN.{length}
 use Rattle.isdb_mmt.specs.Part.{partOf}
+use Rattle.isdb_mmt.specs.Kept.{declaredSection}
 use Rattle.isdb_mmt.specs.Steps.{Stood, atEnd, malformed, element, Found, counted, toEnd}
 use Rattle.isdb_mmt.specs.WholeDescriptors.{WholeDescriptor, loopIn, WholeTlv, tlvsIn}
-use Rattle.isdb_mmt.specs.Section.{length12}
 use Rattle.isdb_mmt.specs.Amt.{serviceAt, amtOf}
 use Rattle.isdb_mmt.specs.Eit.{eventStep, eitOf}
 use Rattle.isdb_mmt.specs.Sdt.{serviceStep, sdtOf}
@@ -49,10 +49,6 @@ use Rattle.isdb_mmt.specs.declared.table.nit.NitResult.the-variants.{Ok 
 use Rattle.isdb_mmt.specs.declared.table.tot.Tot.{Tot}
 use Rattle.isdb_mmt.specs.declared.table.tot.TotResult.{TotResult}
 use Rattle.isdb_mmt.specs.declared.table.tot.TotResult.the-variants.{Ok as totOk, Err as totErr}
-
--- the bytes of a section
-abbrev pub sectionBytes : List ℕ → List ℕ
-sectionBytes s = take (length12 s 1 + 3) s
 
 -- something with the descriptors that stand in a part of `s`
 pub record Described (A : Type 0) : Type 0 where
@@ -210,4 +206,4 @@ totTold s (totErr e) = none
 totTold s (totOk t) = some (wholeTot s t)
 
 abbrev pub totValue : List ℕ → Option (Described Tot)
-totValue s = totTold (sectionBytes s) (totOf s .result)
+totValue s = totTold (declaredSection s) (totOf s .result)
