@@ -14,10 +14,11 @@ use Rattle.isdb_tlv.specs.Walk.{turn}
 use Rattle.isdb_tlv.proofs.Guards.{cond-elim, either}
 use Rattle.isdb_mmt.specs.Part.{partOf}
 use Rattle.isdb_mmt.specs.Timestamp.{timestampAt, unitSize, mpuAt, mpusWhole, isSome, headEnd, extendedOf, unitAt, unitStep}
-use Rattle.isdb_mmt.specs.Desc.{stepAt, RawDescriptor, Split, item, splitFrom, splitOf, counted as told, accessControl, scrambler, streamIdentifier, serviceText, shortEvent, hevc, extendedIn, extendedTimestamp, descriptorOf, serviceAt, genreAt}
+use Rattle.isdb_mmt.specs.Desc.{stepAt, Split, item, splitFrom, splitOf, counted as told, accessControl, scrambler, streamIdentifier, serviceText, shortEvent, hevc, extendedIn, extendedTimestamp, descriptorOf, serviceAt, genreAt}
 use Rattle.isdb_mmt.specs.Nit.{tlvStepAt}
 use Rattle.isdb_mmt.specs.Steps.{Stood, atEnd, malformed, element, Found, counted, onward, toEnd, Ends}
-use Rattle.isdb_mmt.specs.WholeDescriptors.{timestampTold, timestampSeen, timestampsIn, unitTold, unitSeen, mpuTold, mpuSeen, wholeExtended, serviceTold, serviceSeen, genreTold, genreSeen, WholeDescriptor, wholeDescriptor, descriptorTold, descriptorSeen, tlvTold, tlvSeen}
+use Rattle.isdb_mmt.specs.WholeDescriptors.{timestampTold, timestampSeen, timestampsIn, unitTold, unitSeen, mpuTold, mpuSeen, wholeExtended, serviceTold, serviceSeen, genreTold, genreSeen, WholeDescriptor, descriptorTold, descriptorSeen, loopIn, tlvTold, tlvSeen}
+use Rattle.isdb_mmt.specs.WholeLists.{wholeRaw}
 use Rattle.isdb_mmt.specs.Walks.{LoopTheorem, RowsTheorem, ExtendedTheorem, UnitsTheorem}
 use Rattle.isdb_mmt.specs.declared.part.Part.{Part}
 use Rattle.isdb_mmt.specs.declared.timestamp.Extended.{Extended}
@@ -45,11 +46,8 @@ module _ (s : List ℕ) where
   on-descriptor : (at : ℕ) → On (length s) at (descriptorSeen s at)
   on-descriptor at = on-raw at (stepAt s at) (step-inside s at)
 
-  abbrev wholeRaw : RawDescriptor → WholeDescriptor
-  wholeRaw r = wholeDescriptor (r .tag) (partOf s (r .body))
-
   abbrev mapped : Split → Found WholeDescriptor
-  mapped l = record { found = map wholeRaw (l .found); whole = not (isSome (l .broke)) }
+  mapped l = record { found = map (wholeRaw s) (l .found); whole = not (isSome (l .broke)) }
 
   turned : (d : Step) → mapped (turn (splitFrom s) (item d)) ≡ turn (λ p. mapped (splitFrom s p)) (onward (descriptorTold s d))
   turned End = refl
@@ -60,6 +58,10 @@ module _ (s : List ℕ) where
   same =
       same-found (descriptorSeen s) (length s) on-descriptor (λ p. mapped (splitFrom s p))
       (λ at. ap mapped (split-at s at) ∙ turned (stepAt s at))
+
+pub loop-found : (s : List ℕ) → loopIn s .found ≡ map (wholeRaw s) (splitOf s .found)
+unfolding splitOf
+loop-found s = ap (λ (l : Found WholeDescriptor). l .found) (sym (same s 0))
 
 pub loops : LoopTheorem
 unfolding splitOf told

@@ -103,3 +103,4 @@ pub mod Walks
 pub mod SectionWalks
 pub mod DescriptorWalks
 pub mod WholeParts
+pub mod WholeLists

@@ -21,8 +21,7 @@ use Rattle.isdb_mmt.specs.Sdt.{serviceOf, serviceIn, serviceStep, sdtBod
 use Rattle.isdb_mmt.specs.Bit.{broadcasterOf, broadcasterIn, broadcasterStep, bitBody, bitIn, bitOf}
 use Rattle.isdb_mmt.specs.Nit.{streamsPart, streamOf, streamIn, streamStep, nitBody, nitIn, nitOf}
 use Rattle.isdb_mmt.specs.Steps.{Stood, atEnd, malformed, element, Found, counted, onward, toEnd, AllOf}
-use Rattle.isdb_mmt.specs.WholeDescriptors.{tlvsIn}
-use Rattle.isdb_mmt.specs.WholeSections.{Described, described, flowTold, flowSeen, eventTold, eventSeen, serviceTold, serviceSeen, broadcasterTold, broadcasterSeen, WholeStream, streamTold, streamSeen}
+use Rattle.isdb_mmt.specs.WholeSections.{Described, described, flowTold, flowSeen, eventTold, eventSeen, serviceTold, serviceSeen, broadcasterTold, broadcasterSeen, WholeStream, wholeStream, streamTold, streamSeen}
 use Rattle.isdb_mmt.specs.Walks.{FlowsWalk, EventsWalk, ServicesWalk, BroadcastersWalk, StreamsWalk, AmtTheorem, EitTheorem, SdtTheorem, BitTheorem, NitTheorem}
 use Rattle.isdb_mmt.specs.declared.table.section.SectionHeader.{SectionHeader}
 use Rattle.isdb_mmt.specs.declared.table.section.LongSection.{LongSection}
@@ -123,6 +122,9 @@ module _ {A : Type 0} (f : Entry → A) where
     same : (at : ℕ) → mapped (entriesFrom s k at) ≡ toEnd step (length s) at
     same = same-found step (length s) on-step (λ p. mapped (entriesFrom s k p)) turns
 
+    pub entries-found : (at : ℕ) → toEnd step (length s) at .found ≡ map f (entriesFrom s k at .found)
+    entries-found at = ap (λ (l : Found A). l .found) (sym (same at))
+
     pub all-entries : (at : ℕ) → entriesFrom s k at .whole ≡ true
         → AllOf step (length (entriesFrom s k at .found)) at (toEnd step (length s) at .found)
     all-entries at w =
@@ -139,7 +141,7 @@ module _ (s : List ℕ) where
   event-told badEntry = refl
   event-told (entry e next) = refl
 
-  event-tells : (at : ℕ) → eventSeen s at ≡ entryTold (λ e. described s (e .descriptors) (eventOf s e)) (entryAt s 10 at)
+  pub event-tells : (at : ℕ) → eventSeen s at ≡ entryTold (λ e. described s (e .descriptors) (eventOf s e)) (entryAt s 10 at)
   unfolding eventStep
   event-tells at = event-told (entryAt s 10 at)
 
@@ -148,7 +150,7 @@ module _ (s : List ℕ) where
   service-told badEntry = refl
   service-told (entry e next) = refl
 
-  service-tells : (at : ℕ) → serviceSeen s at ≡ entryTold (λ e. described s (e .descriptors) (serviceOf s e)) (entryAt s 3 at)
+  pub service-tells : (at : ℕ) → serviceSeen s at ≡ entryTold (λ e. described s (e .descriptors) (serviceOf s e)) (entryAt s 3 at)
   unfolding serviceStep
   service-tells at = service-told (entryAt s 3 at)
 
@@ -157,19 +159,19 @@ module _ (s : List ℕ) where
   broadcaster-told badEntry = refl
   broadcaster-told (entry e next) = refl
 
-  broadcaster-tells : (at : ℕ) → broadcasterSeen s at ≡ entryTold (λ e. described s (e .descriptors) (broadcasterOf s e)) (entryAt s 1 at)
+  pub broadcaster-tells : (at : ℕ) → broadcasterSeen s at ≡ entryTold (λ e. described s (e .descriptors) (broadcasterOf s e)) (entryAt s 1 at)
   unfolding broadcasterStep
   broadcaster-tells at = broadcaster-told (entryAt s 1 at)
 
-  abbrev streamWith : Entry → WholeStream
-  streamWith e = record { stream = streamOf s e; descriptors = tlvsIn (partOf s (e .descriptors)) }
+  abbrev pub streamWith : Entry → WholeStream
+  streamWith e = wholeStream s (streamOf s e)
 
   stream-told : (d : EntryStep) → streamTold s (streamIn s d) ≡ entryTold streamWith d
   stream-told noEntry = refl
   stream-told badEntry = refl
   stream-told (entry e next) = refl
 
-  stream-tells : (at : ℕ) → streamSeen s at ≡ entryTold streamWith (entryAt s 4 at)
+  pub stream-tells : (at : ℕ) → streamSeen s at ≡ entryTold streamWith (entryAt s 4 at)
   unfolding streamStep
   stream-tells at = stream-told (entryAt s 4 at)
 

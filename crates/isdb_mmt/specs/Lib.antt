@@ -25,6 +25,7 @@ pub mod Whole
 pub mod WholeSections
 pub mod Walks
 pub mod WholeParts
+pub mod WholeLists
 pub mod WholeCases
 pub mod Rfc5905
 pub mod Packet

@@ -16,6 +16,7 @@ use Rattle.isdb_mmt.specs.declared.table.mpt.AssetStep.the-variants.{Mal
 use Rattle.isdb_mmt.specs.declared.table.mpt.Mpt.{Mpt}
 use Rattle.isdb_mmt.specs.declared.table.mpt.MaybeMpt.{MaybeMpt}
 use Rattle.isdb_mmt.specs.declared.table.mpt.MaybeMpt.the-variants.{None as noMpt, Some as someMpt}
+use Rattle.isdb_mmt.specs.declared.table.plt.Package.{Package}
 use Rattle.isdb_mmt.specs.declared.table.plt.PackageStep.{PackageStep}
 use Rattle.isdb_mmt.specs.declared.table.plt.PackageStep.the-variants.{Malformed as noPackage, Package as onePackage}
 use Rattle.isdb_mmt.specs.declared.table.plt.IpDelivery.{IpDelivery}
@@ -75,13 +76,16 @@ pub record WholePackage : Type 0 where
   pub packageId : List ℕ
   pub location : WholeLocation
 
-abbrev pub packageTold : List ℕ → PackageStep → Stood WholePackage
-packageTold s noPackage = malformed
-packageTold s (onePackage p next) =
-    element (record {
+abbrev pub wholePackage : List ℕ → Package → WholePackage
+wholePackage s p =
+    record {
       packageId = partOf s (p .«package_id»);
       location = wholeLocation (drop (p .«location_start») s) (p .location);
-    }) next
+    }
+
+abbrev pub packageTold : List ℕ → PackageStep → Stood WholePackage
+packageTold s noPackage = malformed
+packageTold s (onePackage p next) = element (wholePackage s p) next
 
 abbrev pub packageSeen : List ℕ → ℕ → Stood WholePackage
 packageSeen s at = packageTold s (packageAt s at)

@@ -166,10 +166,13 @@ pub record WholeStream : Type 0 where
   pub stream : NitStream
   pub descriptors : List WholeTlv
 
+abbrev pub wholeStream : List ℕ → NitStream → WholeStream
+wholeStream s x = record { stream = x; descriptors = tlvsIn (partOf s (x .descriptors)) }
+
 abbrev pub streamTold : List ℕ → StreamStep → Stood WholeStream
 streamTold s noStream = atEnd
 streamTold s badStream = malformed
-streamTold s (stream x next) = element (record { stream = x; descriptors = tlvsIn (partOf s (x .descriptors)) }) next
+streamTold s (stream x next) = element (wholeStream s x) next
 
 abbrev pub streamSeen : List ℕ → ℕ → Stood WholeStream
 streamSeen s at = streamTold s (streamStep s at)
