@@ -18,8 +18,9 @@ use Rattle.isdb_mmt.specs.Desc.{stepAt, Split, item, splitFrom, splitOf,
 use Rattle.isdb_mmt.specs.Nit.{tlvStepAt}
 use Rattle.isdb_mmt.specs.Steps.{Stood, atEnd, malformed, element, Found, counted, onward, toEnd, Ends}
 use Rattle.isdb_mmt.specs.WholeDescriptors.{timestampTold, timestampSeen, timestampsIn, unitTold, unitSeen, mpuTold, mpuSeen, wholeExtended, serviceTold, serviceSeen, genreTold, genreSeen, WholeDescriptor, descriptorTold, descriptorSeen, loopIn, tlvTold, tlvSeen}
+use Rattle.isdb_mmt.specs.Kept.{declaredSection}
 use Rattle.isdb_mmt.specs.WholeLists.{wholeRaw}
-use Rattle.isdb_mmt.specs.Walks.{LoopTheorem, RowsTheorem, ExtendedTheorem, UnitsTheorem}
+use Rattle.isdb_mmt.specs.Walks.{LoopTheorem, TotTheorem, RowsTheorem, ExtendedTheorem, UnitsTheorem}
 use Rattle.isdb_mmt.specs.declared.part.Part.{Part}
 use Rattle.isdb_mmt.specs.declared.timestamp.Extended.{Extended}
 use Rattle.isdb_mmt.specs.declared.timestamp.MaybeExtended.{MaybeExtended}
@@ -71,6 +72,9 @@ loops s =
       whole = ap (λ (l : Found WholeDescriptor). l .whole) (sym (same s 0));
       ends = ends (descriptorSeen s) (length s) (on-descriptor s) 0;
     }
+
+pub tot : TotTheorem
+tot s t e = loops (partOf (declaredSection s) (t .descriptors))
 
 -- ---- loops in which nothing is malformed
 

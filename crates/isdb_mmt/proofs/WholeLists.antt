@@ -1,10 +1,11 @@
 -- Whole values and the lists of the parsers: the same elements. Assumes nothing.
 use Prim.Native.Nat.{ℕ, zero, suc, _+_, _%_}
 use mathlib.Core.Path.{_≡_, refl, sym, ap, _∙_}
-use mathlib.Core.Bool.{true, false, cond}
+use mathlib.Core.Bool.{true, false}
 use mathlib.Core.List.{List, [], _∷_, map}
 use mathlib.Core.Option.{Option, none, some}
 use native.Mathlib.Omega.{arith}
+use lib.Dec.{eqb}
 use lib.ListN.{length, take, drop}
 use lib.Seq.{take-take}
 use Rattle.isdb_tlv.specs.Bytes.{be}
@@ -21,12 +22,12 @@ use Rattle.isdb_mmt.specs.Sdt.{serviceOf, servicesOf, sdtOf}
 use Rattle.isdb_mmt.specs.Bit.{broadcasterOf, broadcastersOf, bitOf}
 use Rattle.isdb_mmt.specs.Nit.{streamOf, streamsOf, nitOf}
 use Rattle.isdb_mmt.specs.Tot.{totOf}
-use Rattle.isdb_mmt.specs.Kept.{declaredTable, declaredSection, mptParses, pltParses, totParses, eitBodyOk, sdtBodyOk, bitBodyOk, nitBodyOk, amtBodyOk}
+use Rattle.isdb_mmt.specs.Kept.{declaredTable, declaredSection, bodyRead, mptParses, pltParses, totParses, eitBodyOk, sdtBodyOk, bitBodyOk, nitBodyOk, amtBodyOk}
 use Rattle.isdb_mmt.specs.Steps.{Found, countedOn, counted, toEnd}
 use Rattle.isdb_mmt.specs.WholeDescriptors.{WholeLocation, locationTold, locationSeen}
 use Rattle.isdb_mmt.specs.Whole.{wholeAsset, assetTold, assetSeen, mptTold, wholePackage, packageTold, packageSeen, deliveryTold, deliverySeen, pltTold}
 use Rattle.isdb_mmt.specs.WholeSections.{described, flowTold, flowSeen, amtTold, eventSeen, eitTold, serviceSeen, sdtTold, broadcasterSeen, bitTold, wholeStream, streamSeen, nitTold, totTold}
-use Rattle.isdb_mmt.specs.WholeLists.{ValuesTheorem, CutTheorem, ifWhole, ListsTheorem}
+use Rattle.isdb_mmt.specs.WholeLists.{sectionWhole, ValuesTheorem, CutTheorem, ifWhole, ListsTheorem}
 use Rattle.isdb_mmt.specs.declared.location.Located.{Located}
 use Rattle.isdb_mmt.specs.declared.location.Located.the-variants.{None as notLocated, Some as located}
 use Rattle.isdb_mmt.specs.declared.table.section.Entry.{Entry}
@@ -96,6 +97,17 @@ tot-told : (s : List ℕ) (d : TotResult) → isSome (totTold s d) ≡ totParses
 tot-told s (totErr e) = refl
 tot-told s (totOk t) = refl
 
+section-told : (id : ℕ) (b : List ℕ) → sectionWhole id b ≡ bodyRead id b .ok
+unfolding bodyRead
+section-told id b =
+    either (eqb id 0x9D) (λ e. rw e (bit-told b (bitOf b .result))) (λ e.
+    either (eqb id 0x9F) (λ e1. rw (e, e1) (sdt-told b (sdtOf b .result))) (λ e1.
+    either (eqb id 0xA0) (λ e2. rw (e, e1, e2) (sdt-told b (sdtOf b .result))) (λ e2.
+    either (eqb id 0x40) (λ e3. rw (e, e1, e2, e3) (nit-told b (nitOf b))) (λ e3.
+    either (eqb id 0x41) (λ e4. rw (e, e1, e2, e3, e4) (nit-told b (nitOf b))) (λ e4.
+    either (eqb id 0xFE) (λ e5. rw (e, e1, e2, e3, e4, e5) (amt-told b (amtOf b))) (λ e5.
+    rw (e, e1, e2, e3, e4, e5) (eit-told b (eitOf b .result))))))))
+
 pub values : ValuesTheorem
 values =
     record {
@@ -107,6 +119,7 @@ values =
       bit = λ b. bit-told b (bitOf b .result);
       nit = λ b. nit-told b (nitOf b);
       tot = λ b. tot-told (declaredSection b) (totOf b .result);
+      section = section-told;
     }
 
 -- ---- declared bytes

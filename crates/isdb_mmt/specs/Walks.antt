@@ -5,7 +5,7 @@ use mathlib.Core.Path.{_≡_}
 use mathlib.Core.Bool.{not}
 use mathlib.Core.List.{List}
 use lib.ListN.{length}
-use Rattle.isdb_mmt.specs.Kept.{declaredTable}
+use Rattle.isdb_mmt.specs.Kept.{declaredTable, declaredSection}
 use Rattle.isdb_mmt.specs.Steps.{atEnd, Counts, Ends, AllOf, lastOf}
 use Rattle.isdb_mmt.specs.WholeDescriptors.{locationSeen, timestampSeen, timestampsIn, unitSeen, unitsIn, mpuSeen, wholeExtended, serviceSeen as listedSeen, servicesIn, genreSeen, genresIn, descriptorSeen, loopIn, tlvSeen, tlvsIn}
 use Rattle.isdb_mmt.specs.Part.{partOf}
@@ -16,6 +16,7 @@ use Rattle.isdb_mmt.specs.Eit.{eitOf}
 use Rattle.isdb_mmt.specs.Sdt.{sdtOf}
 use Rattle.isdb_mmt.specs.Bit.{bitOf}
 use Rattle.isdb_mmt.specs.Nit.{nitOf}
+use Rattle.isdb_mmt.specs.Tot.{totOf}
 use Rattle.isdb_mmt.specs.Timestamp.{mpuAt}
 use Rattle.isdb_mmt.specs.Desc.{splitOf, counted, descriptorOf}
 use Rattle.isdb_mmt.specs.WholeSections.{behind, flowSeen, wholeAmt, eventSeen, wholeEit, serviceSeen, wholeSdt, broadcasterSeen, wholeBit, streamSeen, wholeNit}
@@ -37,6 +38,8 @@ use Rattle.isdb_mmt.specs.declared.table.bit.Bit.{Bit}
 use Rattle.isdb_mmt.specs.declared.table.bit.BitResult.the-variants.{Ok as bitOk}
 use Rattle.isdb_mmt.specs.declared.table.nit.Nit.{Nit}
 use Rattle.isdb_mmt.specs.declared.table.nit.NitResult.the-variants.{Ok as nitOk}
+use Rattle.isdb_mmt.specs.declared.table.tot.Tot.{Tot}
+use Rattle.isdb_mmt.specs.declared.table.tot.TotResult.the-variants.{Ok as totOk}
 use Rattle.isdb_mmt.specs.declared.part.Part.{Part}
 use Rattle.isdb_mmt.specs.declared.timestamp.Extended.{Extended}
 use Rattle.isdb_mmt.specs.declared.timestamp.MpuStep.the-variants.{Mpu}
@@ -123,3 +126,7 @@ ExtendedTheorem = (tag : ℕ) (s : List ℕ) (e : Extended) → descriptorOf tag
 abbrev pub UnitsTheorem : Type 0
 UnitsTheorem = (s : List ℕ) (e : Extended) (at q l d n next : ℕ) (units : Part) → mpuAt s (e .«own_pts_offset») at ≡ Mpu q l d n units next
     → Counts (unitSeen (partOf s units) e) n 0 (unitsIn (partOf s units) e n)
+
+-- a TOT has its descriptors alone
+abbrev pub TotTheorem : Type 0
+TotTheorem = (s : List ℕ) (t : Tot) → totOf s .result ≡ totOk t → LoopWalk (partOf (declaredSection s) (t .descriptors))

@@ -2,10 +2,11 @@
 -- of the lists that StdB60 speaks of.
 use Prim.Native.Nat.{ℕ, _+_}
 use mathlib.Core.Path.{_≡_}
+use mathlib.Core.Bool.{Bool}
 use mathlib.Core.List.{List, map}
 use mathlib.Core.Option.{Option, none, some}
 use lib.ListN.{length}
-use Rattle.isdb_tlv.specs.Guards.{if_then_else_}
+use Rattle.isdb_tlv.specs.Guards.{if_then_else_, _=?_}
 use Rattle.isdb_mmt.specs.Part.{partOf}
 use Rattle.isdb_mmt.specs.Timestamp.{isSome}
 use Rattle.isdb_mmt.specs.Steps.{Found, counted, toEnd}
@@ -19,13 +20,24 @@ use Rattle.isdb_mmt.specs.Sdt.{servicesOf, sdtOf}
 use Rattle.isdb_mmt.specs.Bit.{broadcastersOf, bitOf}
 use Rattle.isdb_mmt.specs.Nit.{streamsOf, nitOf}
 use Rattle.isdb_mmt.specs.Tot.{totOf}
-use Rattle.isdb_mmt.specs.Kept.{declaredTable, declaredSection, mptParses, pltParses, totParses, eitBodyOk, sdtBodyOk, bitBodyOk, nitBodyOk, amtBodyOk}
+use Rattle.isdb_mmt.specs.Kept.{declaredTable, declaredSection, bodyRead, mptParses, pltParses, totParses, eitBodyOk, sdtBodyOk, bitBodyOk, nitBodyOk, amtBodyOk}
 use Rattle.isdb_mmt.specs.WholeDescriptors.{WholeLocation, locationSeen, WholeDescriptor, wholeDescriptor, loopIn}
 use Rattle.isdb_mmt.specs.Whole.{wholeAsset, assetSeen, mptValue, wholePackage, packageSeen, deliverySeen, pltValue}
 use Rattle.isdb_mmt.specs.WholeSections.{described, flowSeen, amtValue, eventSeen, eitValue, serviceSeen, sdtValue, broadcasterSeen, bitValue, wholeStream, streamsIn, nitValue, totValue}
 use Rattle.isdb_mmt.specs.declared.table.eit.Event.{Event}
 use Rattle.isdb_mmt.specs.declared.table.sdt.SdtService.{SdtService}
 use Rattle.isdb_mmt.specs.declared.table.bit.Broadcaster.{Broadcaster}
+
+-- a section has the whole value of the table that an id names
+abbrev pub sectionWhole : ℕ → List ℕ → Bool
+sectionWhole id b =
+    if id =? 0x9D then isSome (bitValue b)
+    else if id =? 0x9F then isSome (sdtValue b)
+    else if id =? 0xA0 then isSome (sdtValue b)
+    else if id =? 0x40 then isSome (nitValue b)
+    else if id =? 0x41 then isSome (nitValue b)
+    else if id =? 0xFE then isSome (amtValue b)
+    else isSome (eitValue b)
 
 -- what a reading asks of kept bytes before it hands them out is that they have a whole value
 pub record ValuesTheorem : Type 0 where
@@ -37,6 +49,7 @@ pub record ValuesTheorem : Type 0 where
   pub bit : (b : List ℕ) → isSome (bitValue b) ≡ bitBodyOk (bitOf b .result)
   pub nit : (b : List ℕ) → isSome (nitValue b) ≡ nitBodyOk (nitOf b)
   pub tot : (b : List ℕ) → isSome (totValue b) ≡ totParses (totOf b .result)
+  pub section : (id : ℕ) (b : List ℕ) → sectionWhole id b ≡ bodyRead id b .ok
 
 -- a table is kept as its declared bytes: of those, the declared ones are all
 pub record CutTheorem : Type 0 where
