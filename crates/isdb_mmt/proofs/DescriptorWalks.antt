@@ -47,7 +47,7 @@ module _ (s : List ℕ) where
   on-descriptor : (at : ℕ) → On (length s) at (descriptorSeen s at)
   on-descriptor at = on-raw at (stepAt s at) (step-inside s at)
 
-  abbrev mapped : Split → Found WholeDescriptor
+  abbrev pub mapped : Split → Found WholeDescriptor
   mapped l = record { found = map (wholeRaw s) (l .found); whole = not (isSome (l .broke)) }
 
   turned : (d : Step) → mapped (turn (splitFrom s) (item d)) ≡ turn (λ p. mapped (splitFrom s p)) (onward (descriptorTold s d))
@@ -59,6 +59,10 @@ module _ (s : List ℕ) where
   same =
       same-found (descriptorSeen s) (length s) on-descriptor (λ p. mapped (splitFrom s p))
       (λ at. ap mapped (split-at s at) ∙ turned (stepAt s at))
+
+pub loop-is : (s : List ℕ) → loopIn s ≡ mapped s (splitOf s)
+unfolding splitOf
+loop-is s = sym (same s 0)
 
 pub loop-found : (s : List ℕ) → loopIn s .found ≡ map (wholeRaw s) (splitOf s .found)
 unfolding splitOf

@@ -104,3 +104,4 @@ pub mod SectionWalks
 pub mod DescriptorWalks
 pub mod WholeParts
 pub mod WholeLists
+pub mod AllWalks

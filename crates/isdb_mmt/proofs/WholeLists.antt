@@ -1,7 +1,7 @@
 -- Whole values and the lists of the parsers: the same elements. Assumes nothing.
 use Prim.Native.Nat.{ℕ, zero, suc, _+_, _%_}
 use mathlib.Core.Path.{_≡_, refl, sym, ap, _∙_}
-use mathlib.Core.Bool.{true, false}
+use mathlib.Core.Bool.{true, false, not}
 use mathlib.Core.List.{List, [], _∷_, map}
 use mathlib.Core.Option.{Option, none, some}
 use native.Mathlib.Omega.{arith}
@@ -22,12 +22,14 @@ use Rattle.isdb_mmt.specs.Sdt.{serviceOf, servicesOf, sdtOf}
 use Rattle.isdb_mmt.specs.Bit.{broadcasterOf, broadcastersOf, bitOf}
 use Rattle.isdb_mmt.specs.Nit.{streamOf, streamsOf, nitOf}
 use Rattle.isdb_mmt.specs.Tot.{totOf}
+use Rattle.isdb_mmt.specs.Desc.{splitOf}
+use Rattle.isdb_mmt.specs.StdB60.{loopSent, descriptorIn}
 use Rattle.isdb_mmt.specs.Kept.{declaredTable, declaredSection, bodyRead, mptParses, pltParses, totParses, eitBodyOk, sdtBodyOk, bitBodyOk, nitBodyOk, amtBodyOk}
 use Rattle.isdb_mmt.specs.Steps.{Found, countedOn, counted, toEnd}
 use Rattle.isdb_mmt.specs.WholeDescriptors.{WholeLocation, locationTold, locationSeen}
 use Rattle.isdb_mmt.specs.Whole.{wholeAsset, assetTold, assetSeen, mptTold, wholePackage, packageTold, packageSeen, deliveryTold, deliverySeen, pltTold}
 use Rattle.isdb_mmt.specs.WholeSections.{described, flowTold, flowSeen, amtTold, eventSeen, eitTold, serviceSeen, sdtTold, broadcasterSeen, bitTold, wholeStream, streamSeen, nitTold, totTold}
-use Rattle.isdb_mmt.specs.WholeLists.{sectionWhole, ValuesTheorem, CutTheorem, ifWhole, ListsTheorem}
+use Rattle.isdb_mmt.specs.WholeLists.{sectionWhole, ValuesTheorem, CutTheorem, ifWhole, ListsTheorem, wholeSent, SentTheorem}
 use Rattle.isdb_mmt.specs.declared.location.Located.{Located}
 use Rattle.isdb_mmt.specs.declared.location.Located.the-variants.{None as notLocated, Some as located}
 use Rattle.isdb_mmt.specs.declared.table.section.Entry.{Entry}
@@ -61,7 +63,8 @@ use Rattle.isdb_mmt.specs.declared.table.nit.NitResult.the-variants.{Ok 
 use Rattle.isdb_mmt.specs.declared.table.tot.TotResult.{TotResult}
 use Rattle.isdb_mmt.specs.declared.table.tot.TotResult.the-variants.{Ok as totOk, Err as totErr}
 use Rattle.isdb_mmt.proofs.SectionWalks.{entries-found, event-tells, service-tells, broadcaster-tells, streamWith, stream-tells}
-use Rattle.isdb_mmt.proofs.DescriptorWalks.{loop-found}
+use Rattle.isdb_mmt.proofs.DescriptorWalks.{loop-is, loop-found}
+use Rattle.isdb_mmt.proofs.StdB60.{loops as loops-read}
 
 -- ---- a table that parses has a whole value
 
@@ -235,3 +238,16 @@ lists =
       streams = streams-found;
       descriptors = loop-found;
     }
+
+-- ---- a conforming sender's descriptors
+
+pub sent : SentTheorem
+sent ds h =
+    let s = loopSent ds in
+    let r = loops-read ds h in
+    loop-is s
+    ∙ (λ i.
+    record {
+      found = (map-twice wholeSent (descriptorIn s) (splitOf s .found) ∙ ap (map wholeSent) (r .found)) i;
+      whole = not (isSome (r .whole i));
+    })

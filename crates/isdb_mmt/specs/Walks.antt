@@ -130,3 +130,18 @@ UnitsTheorem = (s : List ℕ) (e : Extended) (at q l d n next : ℕ) (units : Pa
 -- a TOT has its descriptors alone
 abbrev pub TotTheorem : Type 0
 TotTheorem = (s : List ℕ) (t : Tot) → totOf s .result ≡ totOk t → LoopWalk (partOf (declaredSection s) (t .descriptors))
+
+pub record WalksTheorem : Type 0 where
+  pub mpt : MptTheorem
+  pub assets : AssetTheorem
+  pub plt : PltTheorem
+  pub amt : AmtTheorem
+  pub eit : EitTheorem
+  pub sdt : SdtTheorem
+  pub bit : BitTheorem
+  pub nit : NitTheorem
+  pub tot : TotTheorem
+  pub loops : LoopTheorem
+  pub rows : RowsTheorem
+  pub extendedTimestamps : ExtendedTheorem
+  pub units : UnitsTheorem

@@ -2,7 +2,7 @@
 -- of the lists that StdB60 speaks of.
 use Prim.Native.Nat.{ℕ, _+_}
 use mathlib.Core.Path.{_≡_}
-use mathlib.Core.Bool.{Bool}
+use mathlib.Core.Bool.{Bool, true}
 use mathlib.Core.List.{List, map}
 use mathlib.Core.Option.{Option, none, some}
 use lib.ListN.{length}
@@ -20,6 +20,7 @@ use Rattle.isdb_mmt.specs.Sdt.{servicesOf, sdtOf}
 use Rattle.isdb_mmt.specs.Bit.{broadcastersOf, bitOf}
 use Rattle.isdb_mmt.specs.Nit.{streamsOf, nitOf}
 use Rattle.isdb_mmt.specs.Tot.{totOf}
+use Rattle.isdb_mmt.specs.StdB60.{Descriptor, loopSent, LoopConforming}
 use Rattle.isdb_mmt.specs.Kept.{declaredTable, declaredSection, bodyRead, mptParses, pltParses, totParses, eitBodyOk, sdtBodyOk, bitBodyOk, nitBodyOk, amtBodyOk}
 use Rattle.isdb_mmt.specs.WholeDescriptors.{WholeLocation, locationSeen, WholeDescriptor, wholeDescriptor, loopIn}
 use Rattle.isdb_mmt.specs.Whole.{wholeAsset, assetSeen, mptValue, wholePackage, packageSeen, deliverySeen, pltValue}
@@ -74,3 +75,10 @@ pub record ListsTheorem : Type 0 where
   pub broadcasters : (s : List ℕ) → toEnd (broadcasterSeen s) (length s) (length12 s 0 + 2) .found ≡ map (λ (e : Broadcaster). described s (e .descriptors) e) (broadcastersOf s)
   pub streams : (s : List ℕ) → streamsIn s ≡ map (wholeStream s) (streamsOf s)
   pub descriptors : (s : List ℕ) → loopIn s .found ≡ map (wholeRaw s) (splitOf s .found)
+
+-- the descriptors that a conforming sender writes
+abbrev pub wholeSent : Descriptor → WholeDescriptor
+wholeSent d = wholeDescriptor (d .tag) (d .content)
+
+abbrev pub SentTheorem : Type 0
+SentTheorem = (ds : List Descriptor) → LoopConforming ds → loopIn (loopSent ds) ≡ record { found = map wholeSent ds; whole = true }
