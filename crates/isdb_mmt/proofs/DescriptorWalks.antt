@@ -1,10 +1,9 @@
 -- The walks over descriptors and what stands in their bodies: each step gives the next element of the whole value. Assumes
 -- nothing.
-use Prim.Native.Nat.{ℕ, zero, suc, _+_, _-_, _*_, _/_, _%_, _≤_, _<_}
+use Prim.Native.Nat.{ℕ, suc, _+_, _-_, _*_, _/_, _%_, _≤_}
 use mathlib.Core.Path.{_≡_, refl, sym, ap, _∙_}
-use mathlib.Core.Bool.{Bool, true, false, not}
+use mathlib.Core.Bool.{Bool, true, not}
 use mathlib.Core.List.{List, map}
-use mathlib.Core.Option.{none, some}
 use native.Mathlib.Omega.{arith}
 use lib.Dec.{ltb, eqb}
 use lib.ListN.{length, getD, drop, length-map, length-take, length-drop}
@@ -13,15 +12,14 @@ use Rattle.isdb_tlv.specs.Bytes.{be}
 use Rattle.isdb_tlv.specs.Walk.{turn}
 use Rattle.isdb_tlv.proofs.Guards.{cond-elim, either}
 use Rattle.isdb_mmt.specs.Part.{partOf}
-use Rattle.isdb_mmt.specs.Timestamp.{timestampAt, unitSize, mpuAt, mpusWhole, isSome, headEnd, extendedOf, unitAt, unitStep}
+use Rattle.isdb_mmt.specs.Timestamp.{timestampAt, unitSize, mpuAt, mpusWhole, isSome, headEnd, extendedOf, unitStep}
 use Rattle.isdb_mmt.specs.Desc.{stepAt, Split, item, splitFrom, splitOf, counted as told, accessControl, scrambler, streamIdentifier, serviceText, shortEvent, hevc, extendedIn, extendedTimestamp, descriptorOf, serviceAt, genreAt}
 use Rattle.isdb_mmt.specs.Nit.{tlvStepAt}
-use Rattle.isdb_mmt.specs.Steps.{Stood, atEnd, malformed, element, Found, counted, onward, toEnd, Ends}
-use Rattle.isdb_mmt.specs.WholeDescriptors.{timestampTold, timestampSeen, timestampsIn, unitTold, unitSeen, mpuTold, mpuSeen, wholeExtended, serviceTold, serviceSeen, genreTold, genreSeen, WholeDescriptor, descriptorTold, descriptorSeen, loopIn, tlvTold, tlvSeen}
+use Rattle.isdb_mmt.specs.Steps.{Stood, atEnd, Found, counted, onward, toEnd, Ends}
+use Rattle.isdb_mmt.specs.WholeDescriptors.{timestampTold, timestampSeen, unitSeen, mpuTold, mpuSeen, wholeExtended, serviceTold, serviceSeen, genreTold, genreSeen, WholeDescriptor, descriptorTold, descriptorSeen, loopIn, tlvTold, tlvSeen}
 use Rattle.isdb_mmt.specs.Kept.{declaredSection}
 use Rattle.isdb_mmt.specs.WholeLists.{wholeRaw}
 use Rattle.isdb_mmt.specs.Walks.{LoopTheorem, TotTheorem, RowsTheorem, ExtendedTheorem, UnitsTheorem}
-use Rattle.isdb_mmt.specs.declared.part.Part.{Part}
 use Rattle.isdb_mmt.specs.declared.timestamp.Extended.{Extended}
 use Rattle.isdb_mmt.specs.declared.timestamp.MaybeExtended.{MaybeExtended}
 use Rattle.isdb_mmt.specs.declared.timestamp.MaybeExtended.the-variants.{None as notExtended, Some as extended}
@@ -33,7 +31,7 @@ use Rattle.isdb_mmt.specs.declared.desc.Descriptor.{Descriptor}
 use Rattle.isdb_mmt.specs.declared.desc.Descriptor.the-variants.{MpuTimestamp, ExtendedTimestamp, AccessControl, Scrambler, StreamIdentifier, Service, ServiceList, ShortEvent, Content, Hevc, BroadcasterName, Other}
 use Rattle.isdb_mmt.proofs.Names.{clash}
 use Rattle.isdb_mmt.proofs.Descriptors.{Inside, step-inside, split-at}
-use Rattle.isdb_mmt.proofs.Timestamps.{Inside as MpuInside, mpu-inside, mpu-lies, mpus-at, whole-end, whole-broken, whole-on}
+use Rattle.isdb_mmt.proofs.Timestamps.{Inside as MpuInside, mpu-inside, mpu-lies, whole-end, whole-broken, whole-on}
 use Rattle.isdb_mmt.proofs.Steps.{Leads, counts, whole-by, On, wholeOn, same-found, same-whole, ends, ends-whole}
 
 -- ---- descriptor loops

@@ -1,6 +1,6 @@
 -- The walks over what stands in a section's body: where the table parses, each step gives the next element of the whole value.
 -- Assumes nothing.
-use Prim.Native.Nat.{ℕ, zero, suc, _+_, _-_, _*_, _/_, _<_}
+use Prim.Native.Nat.{ℕ, _+_, _-_, _/_}
 use mathlib.Core.Path.{_≡_, refl, sym, ap, _∙_}
 use mathlib.Core.Bool.{true, false, not}
 use mathlib.Core.List.{List, map}
@@ -21,7 +21,7 @@ use Rattle.isdb_mmt.specs.Sdt.{serviceOf, serviceIn, serviceStep, sdtBod
 use Rattle.isdb_mmt.specs.Bit.{broadcasterOf, broadcasterIn, broadcasterStep, bitBody, bitIn, bitOf}
 use Rattle.isdb_mmt.specs.Nit.{streamsPart, streamOf, streamIn, streamStep, nitBody, nitIn, nitOf}
 use Rattle.isdb_mmt.specs.Steps.{Stood, atEnd, malformed, element, Found, counted, onward, toEnd, AllOf}
-use Rattle.isdb_mmt.specs.WholeSections.{Described, described, flowTold, flowSeen, eventTold, eventSeen, serviceTold, serviceSeen, broadcasterTold, broadcasterSeen, WholeStream, wholeStream, streamTold, streamSeen}
+use Rattle.isdb_mmt.specs.WholeSections.{described, flowTold, flowSeen, eventTold, eventSeen, serviceTold, serviceSeen, broadcasterTold, broadcasterSeen, WholeStream, wholeStream, streamTold, streamSeen}
 use Rattle.isdb_mmt.specs.Walks.{FlowsWalk, EventsWalk, ServicesWalk, BroadcastersWalk, StreamsWalk, AmtTheorem, EitTheorem, SdtTheorem, BitTheorem, NitTheorem}
 use Rattle.isdb_mmt.specs.declared.table.section.SectionHeader.{SectionHeader}
 use Rattle.isdb_mmt.specs.declared.table.section.LongSection.{LongSection}

@@ -6,7 +6,7 @@ use mathlib.Core.List.{List, [], _∷_}
 use native.Mathlib.Omega.{arith}
 use lib.ListN.{length}
 use Rattle.isdb_tlv.specs.Walk.{turn, Ahead, walk-at}
-use Rattle.isdb_mmt.specs.Steps.{Stood, atEnd, malformed, element, Found, stopped, also, countedOn, counted, onward, toEnd, Given, Gives, Counts, Ends, lastOf, nextOf, placeOf, elementOf, nth}
+use Rattle.isdb_mmt.specs.Steps.{Stood, atEnd, malformed, element, Found, stopped, also, countedOn, counted, onward, toEnd, Gives, Counts, Ends, lastOf, placeOf, elementOf, nth}
 use Rattle.isdb_mmt.proofs.Names.{clash}
 
 -- what holds behind an element that stands there

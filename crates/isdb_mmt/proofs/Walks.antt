@@ -1,17 +1,17 @@
 -- The walks over an MPT's assets and their locations, a PLT's packages and deliveries: where the table parses, each step gives
 -- the next element of the whole value. Assumes nothing.
-use Prim.Native.Nat.{ℕ, zero, suc, _+_, _-_}
+use Prim.Native.Nat.{ℕ, _+_, _-_}
 use mathlib.Core.Path.{_≡_, refl}
 use mathlib.Core.Bool.{true, false, not}
 use mathlib.Core.List.{List}
 use mathlib.Core.Option.{Option, none, some}
 use lib.Dec.{ltb, eqb}
-use lib.ListN.{length, getD, take, drop}
+use lib.ListN.{length, getD, drop}
 use Rattle.isdb_tlv.specs.Bytes.{be}
 use Rattle.isdb_tlv.proofs.Guards.{cond-elim, either}
 use Rattle.isdb_mmt.specs.Timestamp.{isSome}
 use Rattle.isdb_mmt.specs.Location.{locationOf}
-use Rattle.isdb_mmt.specs.Mpt.{declaredLength, behindLocation, locationsEnd, assetFields, assetBehind, assetType, assetAt, assetThen, assetsFrom, mptIn, mptAssets, mptTable, mptOf}
+use Rattle.isdb_mmt.specs.Mpt.{declaredLength, behindLocation, locationsEnd, assetFields, assetBehind, assetAt, assetThen, assetsFrom, mptIn, mptAssets, mptTable, mptOf}
 use Rattle.isdb_mmt.specs.Plt.{packageAt, behindPackage, packagesEnd, deliveryAt, deliveryThen, alsoDelivery, deliveriesFrom, deliveriesWhole, pltWith, pltDeliveries, pltBehind, pltTable, pltIn, pltOf}
 use Rattle.isdb_mmt.specs.Kept.{declaredTable}
 use Rattle.isdb_mmt.specs.Steps.{counted}

@@ -1,9 +1,8 @@
 -- Whole values and the lists of the parsers: the same elements. Assumes nothing.
 use Prim.Native.Nat.{ℕ, zero, suc, _+_, _%_}
-use mathlib.Core.Path.{_≡_, refl, sym, ap, _∙_}
-use mathlib.Core.Bool.{true, false, not}
+use mathlib.Core.Path.{_≡_, refl, ap, _∙_}
+use mathlib.Core.Bool.{not}
 use mathlib.Core.List.{List, [], _∷_, map}
-use mathlib.Core.Option.{Option, none, some}
 use native.Mathlib.Omega.{arith}
 use lib.Dec.{eqb}
 use lib.ListN.{length, take, drop}
@@ -32,7 +31,6 @@ use Rattle.isdb_mmt.specs.WholeSections.{described, flowTold, flowSeen, 
 use Rattle.isdb_mmt.specs.WholeLists.{sectionWhole, ValuesTheorem, CutTheorem, ifWhole, ListsTheorem, wholeSent, SentTheorem}
 use Rattle.isdb_mmt.specs.declared.location.Located.{Located}
 use Rattle.isdb_mmt.specs.declared.location.Located.the-variants.{None as notLocated, Some as located}
-use Rattle.isdb_mmt.specs.declared.table.section.Entry.{Entry}
 use Rattle.isdb_mmt.specs.declared.table.mpt.AssetStep.{AssetStep}
 use Rattle.isdb_mmt.specs.declared.table.mpt.AssetStep.the-variants.{Malformed as noAsset, Asset as asset}
 use Rattle.isdb_mmt.specs.declared.table.mpt.MaybeMpt.{MaybeMpt}

@@ -1,7 +1,6 @@
 -- Parts lie within their bytes. Assumes nothing.
-use Prim.Native.Nat.{ℕ, _+_, _-_, _*_, _≤_}
-use mathlib.Core.Path.{_≡_, refl}
-use mathlib.Core.Bool.{Bool, true, false, not}
+use Prim.Native.Nat.{ℕ, _+_, _-_, _≤_}
+use mathlib.Core.Bool.{Bool, not}
 use mathlib.Core.List.{List}
 use native.Mathlib.Omega.{arith}
 use lib.Dec.{ltb, eqb, leb}
@@ -15,7 +14,7 @@ use Rattle.isdb_mmt.specs.Location.{sized, urlOf, locationOf, ipv4At, ip
 use Rattle.isdb_mmt.specs.Timestamp.{mpuAt, extendedOf}
 use Rattle.isdb_mmt.specs.Desc.{stepAt, locationIn, accessControl, scrambler, streamIdentifier, serviceText, shortEvent, hevc, extendedIn, extendedTimestamp, descriptorOf}
 use Rattle.isdb_mmt.specs.Section.{length12, longSectionOf, entryAt, entriesFrom}
-use Rattle.isdb_mmt.specs.Mpt.{declaredLength, locationsEnd, assetFields, assetBehind, assetAt, assetsFrom, mptIn, mptAssets, mptTable, mptOf}
+use Rattle.isdb_mmt.specs.Mpt.{locationsEnd, assetFields, assetBehind, assetAt, assetsFrom, mptIn, mptAssets, mptTable, mptOf}
 use Rattle.isdb_mmt.specs.Plt.{packageIn, packageAt}
 use Rattle.isdb_mmt.specs.Eit.{eventIn, eventStep}
 use Rattle.isdb_mmt.specs.Sdt.{serviceIn, serviceStep}

@@ -4,18 +4,18 @@ use Prim.Native.Nat.{ℕ}
 use mathlib.Core.Path.{_≡_, refl}
 use mathlib.Core.Bool.{true, false}
 use mathlib.Core.List.{List, [], _∷_, _++_}
-use mathlib.Core.Option.{none, some}
+use mathlib.Core.Option.{some}
 use Rattle.isdb_tlv.specs.Bytes.{be}
 use Rattle.isdb_tlv.specs.Crc.{feed, feedByte, crcOf}
 use Rattle.isdb_mmt.specs.Part.{part}
-use Rattle.isdb_mmt.specs.Steps.{Found, toEnd}
+use Rattle.isdb_mmt.specs.Steps.{toEnd}
 use Rattle.isdb_mmt.specs.Location.{sized, urlOf, locationOf}
 use Rattle.isdb_mmt.specs.Timestamp.{timestampAt, mpuAt, mpusFrom, mpusWhole, extendedOf, unitStep}
 use Rattle.isdb_mmt.specs.Desc.{lengthWidth, stepAt, splitFrom, splitOf, accessControl, serviceText, extendedTimestamp, descriptorOf}
 use Rattle.isdb_mmt.specs.Section.{longSectionOf, entryAt, entriesFrom}
 use Rattle.isdb_mmt.specs.Mpt.{declaredLength, assetFields, assetAt, mptAssets, mptTable, mptOf}
 use Rattle.isdb_mmt.specs.Sdt.{sdtBody, sdtOf, serviceStep}
-use Rattle.isdb_mmt.specs.WholeDescriptors.{WholeDescriptor, accessControl as control, mpuTimestamp, extendedTimestamp as extended, serviceNames}
+use Rattle.isdb_mmt.specs.WholeDescriptors.{accessControl as control, mpuTimestamp, extendedTimestamp as extended, serviceNames}
 use Rattle.isdb_mmt.specs.Whole.{mptValue}
 use Rattle.isdb_mmt.specs.WholeSections.{sdtValue}
 use Rattle.isdb_mmt.specs.declared.maybe.MaybeU16.the-variants.{None as noU16, Some as someU16}

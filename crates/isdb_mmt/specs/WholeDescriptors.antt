@@ -2,7 +2,7 @@
 -- are walked, are those of Location, Timestamp, Desc and Nit.
 use Prim.Native.Nat.{ℕ, _+_}
 use mathlib.Core.Bool.{Bool}
-use mathlib.Core.List.{List, [], _∷_}
+use mathlib.Core.List.{List, []}
 use mathlib.Core.Option.{Option, none, some}
 use lib.ListN.{length, drop}
 use Rattle.isdb_mmt.specs.Part.{partOf}
