@@ -3,6 +3,7 @@ use Rattle.isdb_mmt.specs.Walks.{WalksTheorem}
 use Rattle.isdb_mmt.proofs.Walks.{mpt, assets, plt}
 use Rattle.isdb_mmt.proofs.SectionWalks.{amt, eit, sdt, bit, nit}
 use Rattle.isdb_mmt.proofs.DescriptorWalks.{tot, loops, rows, extendedTimestamps, units}
+use Rattle.isdb_mmt.proofs.BytesBehind.{behind}
 
 pub walks : WalksTheorem
 walks =
@@ -20,4 +21,5 @@ walks =
       rows = rows;
       extendedTimestamps = extendedTimestamps;
       units = units;
+      behind = behind;
     }

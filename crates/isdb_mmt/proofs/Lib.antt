@@ -105,3 +105,4 @@ pub mod DescriptorWalks
 pub mod WholeParts
 pub mod WholeLists
 pub mod AllWalks
+pub mod BytesBehind

@@ -19,7 +19,7 @@ use Rattle.isdb_mmt.specs.Nit.{nitOf}
 use Rattle.isdb_mmt.specs.Tot.{totOf}
 use Rattle.isdb_mmt.specs.Timestamp.{mpuAt}
 use Rattle.isdb_mmt.specs.Desc.{splitOf, counted, descriptorOf}
-use Rattle.isdb_mmt.specs.WholeSections.{behind, flowSeen, wholeAmt, eventSeen, wholeEit, serviceSeen, wholeSdt, broadcasterSeen, wholeBit, streamSeen, wholeNit}
+use Rattle.isdb_mmt.specs.WholeSections.{behind as endOf, flowSeen, wholeAmt, eventSeen, wholeEit, serviceSeen, wholeSdt, broadcasterSeen, wholeBit, streamSeen, wholeNit, wholeTot}
 use Rattle.isdb_mmt.specs.Whole.{wholeAsset, assetSeen, wholeMpt, packageSeen, deliverySeen, wholePlt}
 use Rattle.isdb_mmt.specs.declared.table.mpt.Asset.{Asset}
 use Rattle.isdb_mmt.specs.declared.table.mpt.AssetStep.the-variants.{Asset as asset}
@@ -78,7 +78,7 @@ abbrev pub ServicesWalk : List ℕ → Sdt → Type 0
 ServicesWalk s t = AllOf (serviceSeen s) (t .services) 3 (wholeSdt s t .services)
 
 abbrev pub BroadcastersWalk : List ℕ → Bit → Type 0
-BroadcastersWalk s t = AllOf (broadcasterSeen s) (t .broadcasters) (behind (t .descriptors)) (wholeBit s t .broadcasters)
+BroadcastersWalk s t = AllOf (broadcasterSeen s) (t .broadcasters) (endOf (t .descriptors)) (wholeBit s t .broadcasters)
 
 abbrev pub StreamsWalk : List ℕ → Nit → Type 0
 StreamsWalk s t = AllOf (streamSeen (partOf s (t .«loop_part»))) (t .streams) 0 (wholeNit s t .streams)
@@ -131,6 +131,14 @@ UnitsTheorem = (s : List ℕ) (e : Extended) (at q l d n next : ℕ) (units : Pa
 abbrev pub TotTheorem : Type 0
 TotTheorem = (s : List ℕ) (t : Tot) → totOf s .result ≡ totOk t → LoopWalk (partOf (declaredSection s) (t .descriptors))
 
+-- a caller may leave bytes behind the declared ones: the walks and the whole values are the same
+pub record BehindTheorem : Type 0 where
+  pub assets : (s : List ℕ) (t : Mpt) → mptOf s .mpt ≡ someMpt t → AssetsWalk s t
+  pub mpt : (s : List ℕ) (t : Mpt) → mptOf s .mpt ≡ someMpt t → wholeMpt s t ≡ wholeMpt (declaredTable s) t
+  pub packages : (s : List ℕ) (t : Plt) → pltOf s ≡ somePlt t → PltWalks s t
+  pub plt : (s : List ℕ) (t : Plt) → pltOf s ≡ somePlt t → wholePlt s t ≡ wholePlt (declaredTable s) t
+  pub tot : (s : List ℕ) (t : Tot) → totOf s .result ≡ totOk t → wholeTot s t ≡ wholeTot (declaredSection s) t
+
 pub record WalksTheorem : Type 0 where
   pub mpt : MptTheorem
   pub assets : AssetTheorem
@@ -145,3 +153,4 @@ pub record WalksTheorem : Type 0 where
   pub rows : RowsTheorem
   pub extendedTimestamps : ExtendedTheorem
   pub units : UnitsTheorem
+  pub behind : BehindTheorem
