@@ -24,6 +24,7 @@ pub mod SectionWalks
 pub mod DescriptorWalks
 pub mod WholeParts
 pub mod WholeLists
+pub mod ReadWhole
 pub mod BytesBehind
 pub mod AllWalks
 pub mod Rfc5905

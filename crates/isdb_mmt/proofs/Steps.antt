@@ -125,3 +125,6 @@ module _ {A : Type 0} (step : ℕ → Stood A) where
   nth-given [] at stop g i h = absurd (omega arith)
   nth-given (x ∷ l) at stop g zero h = ap elementOf (g .here)
   nth-given (x ∷ l) at stop g (suc i) h = rw (g .here) (nth-given l (g .next) stop (g .rest) i (omega arith))
+
+  pub counts-nth : {n at : ℕ} {l : List A} → Counts step n at l → (i : ℕ) → i < n → elementOf (step (placeOf step i at)) ≡ nth l i
+  counts-nth {at = at} {l = l} c i h = nth-given l at (c .stop) (c .gives) i (omega (arith, c .count))

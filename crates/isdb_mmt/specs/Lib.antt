@@ -26,6 +26,7 @@ pub mod WholeSections
 pub mod Walks
 pub mod WholeParts
 pub mod WholeLists
+pub mod ReadWhole
 pub mod WholeCases
 pub mod Rfc5905
 pub mod Packet
