@@ -18,6 +18,15 @@ pub mod Pieces
 pub mod StdB60Tables
 pub mod StdB60Short
 pub mod Rows
+pub mod Steps
+pub mod Walks
+pub mod SectionWalks
+pub mod DescriptorWalks
+pub mod WholeParts
+pub mod WholeLists
+pub mod ReadWhole
+pub mod BytesBehind
+pub mod AllWalks
 pub mod Rfc5905
 pub mod Maps
 pub mod Keeping

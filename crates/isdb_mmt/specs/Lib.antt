@@ -19,7 +19,15 @@ pub mod StdB60Tables
 pub mod Mpu
 pub mod Message
 pub mod Rows
+pub mod Steps
+pub mod WholeDescriptors
 pub mod Whole
+pub mod WholeSections
+pub mod Walks
+pub mod WholeParts
+pub mod WholeLists
+pub mod ReadWhole
+pub mod WholeCases
 pub mod Rfc5905
 pub mod Packet
 pub mod Maps

@@ -1,0 +1,275 @@
+-- The walks over descriptors and what stands in their bodies: each step gives the next element of the whole value. Assumes
+-- nothing.
+use Prim.Native.Nat.{ℕ, suc, _+_, _-_, _*_, _/_, _%_, _≤_}
+use mathlib.Core.Path.{_≡_, refl, sym, ap, _∙_}
+use mathlib.Core.Bool.{Bool, true, not}
+use mathlib.Core.List.{List, map}
+use native.Mathlib.Omega.{arith}
+use lib.Dec.{ltb, eqb}
+use lib.ListN.{length, getD, drop, length-map, length-take, length-drop}
+use borrow.Author.Tests.{ltb-false, le-ltb}
+use Rattle.isdb_tlv.specs.Bytes.{be}
+use Rattle.isdb_tlv.specs.Walk.{turn}
+use Rattle.isdb_tlv.proofs.Guards.{cond-elim, either}
+use Rattle.isdb_mmt.specs.Part.{partOf}
+use Rattle.isdb_mmt.specs.Timestamp.{timestampAt, unitSize, mpuAt, mpusWhole, isSome, headEnd, extendedOf, unitStep}
+use Rattle.isdb_mmt.specs.Desc.{stepAt, Split, item, splitFrom, splitOf, counted as told, accessControl, scrambler, streamIdentifier, serviceText, shortEvent, hevc, extendedIn, extendedTimestamp, descriptorOf, serviceAt, genreAt}
+use Rattle.isdb_mmt.specs.Nit.{tlvStepAt}
+use Rattle.isdb_mmt.specs.Steps.{Stood, atEnd, Found, counted, onward, toEnd, Ends}
+use Rattle.isdb_mmt.specs.WholeDescriptors.{timestampTold, timestampSeen, unitSeen, mpuTold, mpuSeen, wholeExtended, serviceTold, serviceSeen, genreTold, genreSeen, WholeDescriptor, descriptorTold, descriptorSeen, loopIn, tlvTold, tlvSeen}
+use Rattle.isdb_mmt.specs.Kept.{declaredSection}
+use Rattle.isdb_mmt.specs.WholeLists.{wholeRaw}
+use Rattle.isdb_mmt.specs.Walks.{LoopTheorem, TotTheorem, RowsTheorem, ExtendedTheorem, UnitsTheorem}
+use Rattle.isdb_mmt.specs.declared.timestamp.Extended.{Extended}
+use Rattle.isdb_mmt.specs.declared.timestamp.MaybeExtended.{MaybeExtended}
+use Rattle.isdb_mmt.specs.declared.timestamp.MaybeExtended.the-variants.{None as notExtended, Some as extended}
+use Rattle.isdb_mmt.specs.declared.timestamp.MpuStep.{MpuStep}
+use Rattle.isdb_mmt.specs.declared.timestamp.MpuStep.the-variants.{End as noMpu, Broken as brokenMpu, Mpu}
+use Rattle.isdb_mmt.specs.declared.desc.Step.{Step}
+use Rattle.isdb_mmt.specs.declared.desc.Step.the-variants.{End, Broken, Raw}
+use Rattle.isdb_mmt.specs.declared.desc.Descriptor.{Descriptor}
+use Rattle.isdb_mmt.specs.declared.desc.Descriptor.the-variants.{MpuTimestamp, ExtendedTimestamp, AccessControl, Scrambler, StreamIdentifier, Service, ServiceList, ShortEvent, Content, Hevc, BroadcasterName, Other}
+use Rattle.isdb_mmt.proofs.Names.{clash}
+use Rattle.isdb_mmt.proofs.Descriptors.{Inside, step-inside, split-at}
+use Rattle.isdb_mmt.proofs.Timestamps.{Inside as MpuInside, mpu-inside, mpu-lies, whole-end, whole-broken, whole-on}
+use Rattle.isdb_mmt.proofs.Steps.{Leads, counts, whole-by, On, wholeOn, same-found, same-whole, ends, ends-whole}
+
+-- ---- descriptor loops
+
+module _ (s : List ℕ) where
+  on-raw : (at : ℕ) (d : Step) → Inside s at d → On (length s) at (descriptorTold s d)
+  on-raw at End w = tt
+  on-raw at (Broken p) w = tt
+  on-raw at (Raw tag body next) w = (omega (arith, w .ahead, w .within), w .ahead)
+
+  on-descriptor : (at : ℕ) → On (length s) at (descriptorSeen s at)
+  on-descriptor at = on-raw at (stepAt s at) (step-inside s at)
+
+  abbrev pub mapped : Split → Found WholeDescriptor
+  mapped l = record { found = map (wholeRaw s) (l .found); whole = not (isSome (l .broke)) }
+
+  turned : (d : Step) → mapped (turn (splitFrom s) (item d)) ≡ turn (λ p. mapped (splitFrom s p)) (onward (descriptorTold s d))
+  turned End = refl
+  turned (Broken p) = refl
+  turned (Raw tag body next) = refl
+
+  same : (at : ℕ) → mapped (splitFrom s at) ≡ toEnd (descriptorSeen s) (length s) at
+  same =
+      same-found (descriptorSeen s) (length s) on-descriptor (λ p. mapped (splitFrom s p))
+      (λ at. ap mapped (split-at s at) ∙ turned (stepAt s at))
+
+pub loop-is : (s : List ℕ) → loopIn s ≡ mapped s (splitOf s)
+unfolding splitOf
+loop-is s = sym (same s 0)
+
+pub loop-found : (s : List ℕ) → loopIn s .found ≡ map (wholeRaw s) (splitOf s .found)
+unfolding splitOf
+loop-found s = ap (λ (l : Found WholeDescriptor). l .found) (sym (same s 0))
+
+pub loops : LoopTheorem
+unfolding splitOf told
+loops s =
+    record {
+      count = ap (λ (l : Found WholeDescriptor). length (l .found)) (sym (same s 0)) ∙ length-map (splitFrom s 0 .found) (wholeRaw s);
+      whole = ap (λ (l : Found WholeDescriptor). l .whole) (sym (same s 0));
+      ends = ends (descriptorSeen s) (length s) (on-descriptor s) 0;
+    }
+
+pub tot : TotTheorem
+tot s t e = loops (partOf (declaredSection s) (t .descriptors))
+
+-- ---- loops in which nothing is malformed
+
+module _ {A : Type 0} (step : ℕ → Stood A) (n : ℕ) (on : (at : ℕ) → On n at (step at)) (fine : (at : ℕ) → wholeOn (λ p. true) (step at) ≡ true) where
+  ends-fine : (at : ℕ) → Ends step at (toEnd step n at .found) atEnd
+  ends-fine at = ends-whole step n on at (sym (same-whole step n on (λ p. true) (λ p. sym (fine p)) at))
+
+module _ (s : List ℕ) where
+  on-tlv : (at : ℕ) → On (length s) at (tlvSeen s at)
+  unfolding tlvStepAt
+  on-tlv at =
+      cond-elim (λ d. On (length s) at (tlvTold s d)) (ltb (length s - at) 2) (λ e. tt) (λ e.
+      cond-elim (λ d. On (length s) at (tlvTold s d)) (ltb (length s - (at + 2)) (getD s (at + 1) 0)) (λ e1. tt) (λ e1.
+      let l = ltb-false (length s - at) 2 e in omega arith))
+
+  fine-tlv : (at : ℕ) → wholeOn (λ p. true) (tlvSeen s at) ≡ true
+  unfolding tlvStepAt
+  fine-tlv at =
+      cond-elim (λ d. wholeOn (λ p. true) (tlvTold s d) ≡ true) (ltb (length s - at) 2) (λ e. refl) (λ e.
+      cond-elim (λ d. wholeOn (λ p. true) (tlvTold s d) ≡ true) (ltb (length s - (at + 2)) (getD s (at + 1) 0)) (λ e1. refl) (λ e1. refl))
+
+  on-timestamp : (at : ℕ) → On (length s) at (timestampSeen s at)
+  unfolding timestampAt
+  on-timestamp at =
+      cond-elim (λ d. On (length s) at (timestampTold d)) (ltb (length s - at) 12) (λ e. tt) (λ e.
+      let l = ltb-false (length s - at) 12 e in omega arith)
+
+  fine-timestamp : (at : ℕ) → wholeOn (λ p. true) (timestampSeen s at) ≡ true
+  unfolding timestampAt
+  fine-timestamp at =
+      cond-elim (λ d. wholeOn (λ p. true) (timestampTold d) ≡ true) (ltb (length s - at) 12) (λ e. refl) (λ e. refl)
+
+  on-service : (at : ℕ) → On (length s) at (serviceSeen s at)
+  unfolding serviceAt
+  on-service at =
+      cond-elim (λ d. On (length s) at (serviceTold d)) (ltb (length s - at) 3) (λ e. tt) (λ e.
+      let l = ltb-false (length s - at) 3 e in omega arith)
+
+  fine-service : (at : ℕ) → wholeOn (λ p. true) (serviceSeen s at) ≡ true
+  unfolding serviceAt
+  fine-service at =
+      cond-elim (λ d. wholeOn (λ p. true) (serviceTold d) ≡ true) (ltb (length s - at) 3) (λ e. refl) (λ e. refl)
+
+  on-genre : (at : ℕ) → On (length s) at (genreSeen s at)
+  unfolding genreAt
+  on-genre at =
+      cond-elim (λ d. On (length s) at (genreTold d)) (ltb (length s - at) 2) (λ e. tt) (λ e.
+      let l = ltb-false (length s - at) 2 e in omega arith)
+
+  fine-genre : (at : ℕ) → wholeOn (λ p. true) (genreSeen s at) ≡ true
+  unfolding genreAt
+  fine-genre at =
+      cond-elim (λ d. wholeOn (λ p. true) (genreTold d) ≡ true) (ltb (length s - at) 2) (λ e. refl) (λ e. refl)
+
+pub rows : RowsTheorem
+rows s =
+    record {
+      tlvs = ends-fine (tlvSeen s) (length s) (on-tlv s) (fine-tlv s) 0;
+      timestamps = ends-fine (timestampSeen s) (length s) (on-timestamp s) (fine-timestamp s) 0;
+      services = ends-fine (serviceSeen s) (length s) (on-service s) (fine-service s) 0;
+      genres = ends-fine (genreSeen s) (length s) (on-genre s) (fine-genre s) 0;
+    }
+
+-- ---- extended timestamps
+
+module _ (s : List ℕ) (e : Extended) where
+  abbrev own : Bool
+  own = e .«own_pts_offset»
+
+  on-told : (at : ℕ) (d : MpuStep) → MpuInside s own at d → On (length s) at (mpuTold s e d)
+  on-told at noMpu w = tt
+  on-told at brokenMpu w = tt
+  on-told at (Mpu q l d n units next) w = (omega (arith, w .ahead, w .within), w .ahead)
+
+  on-mpu : (at : ℕ) → On (length s) at (mpuSeen s e at)
+  on-mpu at = on-told at (mpuAt s own at) (mpu-inside s own at)
+
+  mpu-turn : (at : ℕ) (d : MpuStep) → mpuAt s own at ≡ d → mpusWhole s own at ≡ wholeOn (mpusWhole s own) (mpuTold s e d)
+  mpu-turn at noMpu h = whole-end s own at h
+  mpu-turn at brokenMpu h = whole-broken s own at h
+  mpu-turn at (Mpu q l d n units next) h = whole-on s own at h
+
+  pub mpus-end : (at : ℕ) → mpusWhole s own at ≡ true → Ends (mpuSeen s e) at (toEnd (mpuSeen s e) (length s) at .found) atEnd
+  mpus-end at w =
+      ends-whole (mpuSeen s e) (length s) on-mpu at
+      (sym (same-whole (mpuSeen s e) (length s) on-mpu (mpusWhole s own) (λ p. mpu-turn p (mpuAt s own p) refl) at) ∙ w)
+
+module _ (s : List ℕ) where
+  abbrev ExtendedGood : MaybeExtended → Type 0
+  ExtendedGood notExtended = Unit {0}
+  ExtendedGood (extended e) = Ends (mpuSeen s e) (e .start) (wholeExtended s e .mpus) atEnd
+
+  extended-good : ExtendedGood (extendedOf s)
+  unfolding extendedOf
+  extended-good =
+      let f = getD s 0 0 in
+      let w = mpusWhole s (eqb (f / 2 % 4) 2) (headEnd f) in
+      cond-elim ExtendedGood (ltb (length s) 1) (λ e. tt) (λ e.
+      cond-elim ExtendedGood (ltb (length s) (headEnd f)) (λ e1. tt) (λ e1.
+      cond-elim ExtendedGood (not w) (λ e2. tt) (λ e2.
+      mpus-end s _ (headEnd f) (either w (λ d. d) (λ d. clash true refl (rw d at e2))))))
+
+  abbrev Good : Descriptor → Type 0
+  Good MpuTimestamp = Unit {0}
+  Good (ExtendedTimestamp e) = Ends (mpuSeen s e) (e .start) (wholeExtended s e .mpus) atEnd
+  Good (AccessControl c l) = Unit {0}
+  Good (Scrambler l i) = Unit {0}
+  Good (StreamIdentifier c) = Unit {0}
+  Good (Service t p n) = Unit {0}
+  Good ServiceList = Unit {0}
+  Good (ShortEvent l n t) = Unit {0}
+  Good Content = Unit {0}
+  Good (Hevc p t l) = Unit {0}
+  Good (BroadcasterName n) = Unit {0}
+  Good (Other t b) = Unit {0}
+
+  in-good : (m : MaybeExtended) → ExtendedGood m → Good (extendedIn s m)
+  in-good notExtended w = tt
+  in-good (extended e) w = w
+
+  timestamp-good : Good (extendedTimestamp s)
+  unfolding extendedTimestamp
+  timestamp-good = in-good (extendedOf s) extended-good
+
+  control-good : Good (accessControl s)
+  unfolding accessControl
+  control-good = cond-elim Good (ltb (length s) 2) (λ e. tt) (λ e. tt)
+
+  scrambler-good : Good (scrambler s)
+  unfolding scrambler
+  scrambler-good = cond-elim Good (ltb (length s) 2) (λ e. tt) (λ e. tt)
+
+  stream-good : Good (streamIdentifier s)
+  unfolding streamIdentifier
+  stream-good = cond-elim Good (ltb (length s) 2) (λ e. tt) (λ e. tt)
+
+  service-good : Good (serviceText s)
+  unfolding serviceText
+  service-good =
+      let n = getD s 1 0 + 3 in
+      cond-elim Good (ltb (length s) 2) (λ e. tt) (λ e.
+      cond-elim Good (ltb (length s) n) (λ e1. tt) (λ e1.
+      cond-elim Good (ltb (length s) (n + getD s (getD s 1 0 + 2) 0)) (λ e2. tt) (λ e2. tt)))
+
+  event-good : Good (shortEvent s)
+  unfolding shortEvent
+  event-good =
+      let n = getD s 3 0 + 6 in
+      cond-elim Good (ltb (length s) 4) (λ e. tt) (λ e.
+      cond-elim Good (ltb (length s) n) (λ e1. tt) (λ e1.
+      cond-elim Good (ltb (length s) (n + be 2 s (getD s 3 0 + 4))) (λ e2. tt) (λ e2. tt)))
+
+  hevc-good : Good (hevc s)
+  unfolding hevc
+  hevc-good = cond-elim Good (ltb (length s) 12) (λ e. tt) (λ e. tt)
+
+  decoded-good : (tag : ℕ) → Good (descriptorOf tag s)
+  unfolding descriptorOf
+  decoded-good tag =
+      cond-elim Good (eqb tag 0x0001) (λ e. tt) (λ e.
+      cond-elim Good (eqb tag 0x8026) (λ e. timestamp-good) (λ e.
+      cond-elim Good (eqb tag 0x8004) (λ e. control-good) (λ e.
+      cond-elim Good (eqb tag 0x8005) (λ e. scrambler-good) (λ e.
+      cond-elim Good (eqb tag 0x8011) (λ e. stream-good) (λ e.
+      cond-elim Good (eqb tag 0x8019) (λ e. service-good) (λ e.
+      cond-elim Good (eqb tag 0x800D) (λ e. tt) (λ e.
+      cond-elim Good (eqb tag 0xF001) (λ e. event-good) (λ e.
+      cond-elim Good (eqb tag 0x8012) (λ e. tt) (λ e.
+      cond-elim Good (eqb tag 0x800A) (λ e. hevc-good) (λ e.
+      cond-elim Good (eqb tag 0x8018) (λ e. tt) (λ e. tt)))))))))))
+
+pub extendedTimestamps : ExtendedTheorem
+extendedTimestamps tag s e h = rw h at (decoded-good s tag)
+
+-- ---- access units, so many as their MPU says
+
+module _ (s : List ℕ) (e : Extended) where
+  abbrev size : ℕ
+  size = unitSize (e .«own_pts_offset»)
+
+  unit-leads : (n at : ℕ) → at + suc n * size ≤ length s → Leads (λ p. p + n * size ≤ length s) (unitSeen s e at)
+  unfolding unitStep
+  unit-leads n at h =
+      let g : size ≤ length s - at = omega arith in
+      rw (le-ltb (length s - at) size g) (omega arith)
+
+  units-whole : (n at : ℕ) → at + n * size ≤ length s → counted (unitSeen s e) n at .whole ≡ true
+  units-whole = whole-by (unitSeen s e) (λ n at. at + n * size ≤ length s) unit-leads
+
+pub units : UnitsTheorem
+units s e at q l d n next u h =
+    let w = mpu-lies s (e .«own_pts_offset») h in
+    counts (unitSeen (partOf s u) e) n 0
+    (units-whole (partOf s u) e n 0
+    (omega
+    (arith, w .within, w .counts, w .ends, length-take (u .length) (drop (u .start) s), length-drop (u .start) s)))
