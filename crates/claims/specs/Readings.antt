@@ -1,7 +1,7 @@
 -- Readings of a session: what is answered after some packets.
 use mathlib.Core.Path.{_≡_, refl}
-use mathlib.Core.Bool.{true, false}
-use mathlib.Core.List.{List, [], _∷_, _++_}
+use mathlib.Core.Bool.{false}
+use mathlib.Core.List.{[], _∷_, _++_}
 use Rattle.isdb_mmt.specs.Part.{part}
 use Rattle.isdb_mmt.specs.Cases.{ab}
 use Rattle.isdb_mmt.specs.ControlCases.{fragment, firstPart, tableMessage, nit1, nitNext, mpt}
@@ -11,15 +11,15 @@ use Rattle.isdb_mmt.specs.ReadingCases.{told, countersIn, timeIn, countIn, medi
 use Rattle.isdb_mmt.specs.declared.maybe.MaybeU16.the-variants.{None as noU16, Some as someU16}
 use Rattle.isdb_mmt.specs.declared.maybe.MaybeU32.the-variants.{None as noU32, Some as someU32}
 use Rattle.isdb_mmt.specs.declared.mpu.MaybeMfu.the-variants.{None as noMfu, Some as someMfu}
-use Rattle.isdb_mmt.specs.declared.decoder.readings.CountersReading.the-variants.{Refused as countersRefused, Counters as theCounters}
+use Rattle.isdb_mmt.specs.declared.decoder.readings.CountersReading.the-variants.{Counters as theCounters}
 use Rattle.isdb_mmt.specs.declared.decoder.readings.TimeReading.the-variants.{Nothing as noTime, Timestamp}
 use Rattle.isdb_mmt.specs.declared.decoder.readings.CountReading.the-variants.{Count}
 use Rattle.isdb_mmt.specs.declared.decoder.readings.NameReading.the-variants.{Nothing as noName, Name}
-use Rattle.isdb_mmt.specs.declared.decoder.readings.MaybeRange.the-variants.{None as noRange, Some as someRange}
-use Rattle.isdb_mmt.specs.declared.decoder.readings.MediaReading.the-variants.{Nothing as noMedia, Media as theMedia}
+use Rattle.isdb_mmt.specs.declared.decoder.readings.MaybeRange.the-variants.{Some as someRange}
+use Rattle.isdb_mmt.specs.declared.decoder.readings.MediaReading.the-variants.{Media as theMedia}
 use Rattle.isdb_mmt.specs.declared.decoder.readings.HeldReading.the-variants.{NoId, Nothing as noObject, Object as theObject}
-use Rattle.isdb_mmt.specs.declared.decoder.readings.ControlReading.the-variants.{Nothing as noControl, Control as theControl}
-use Rattle.isdb_mmt.specs.declared.decoder.readings.AssetReading.the-variants.{Nothing as noAsset, Asset as theAsset}
+use Rattle.isdb_mmt.specs.declared.decoder.readings.ControlReading.the-variants.{Control as theControl}
+use Rattle.isdb_mmt.specs.declared.decoder.readings.AssetReading.the-variants.{Asset as theAsset}
 
 -- decoder::readings::counters, after two packets with a section each
 -- wrong: onlyCounted 2 2 => onlyCounted 1 1 (a packet late)

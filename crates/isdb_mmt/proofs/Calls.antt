@@ -1,8 +1,8 @@
 -- The claim over lists of calls: refusals change nothing, what is accepted and handed out is a run of the model, the session stays one
 -- that passes question 5, and what it keeps parses. Assumes nothing.
-use Prim.Native.Nat.{ℕ, zero, suc, _+_, _*_, _/_, _^_, _≤_, _<_}
+use Prim.Native.Nat.{ℕ, _+_}
 use mathlib.Core.Path.{_≡_, refl, sym, ap, _∙_}
-use mathlib.Core.Bool.{Bool, true, false, not, cond}
+use mathlib.Core.Bool.{Bool, true, false, not}
 use mathlib.Core.Option.{Option, none, some}
 use mathlib.Core.List.{List, [], _∷_, _++_}
 use native.Mathlib.Omega.{arith}
@@ -11,63 +11,48 @@ use lib.Dec.{eqb}
 use borrow.Author.Tests.{eqb-true, eqb-false}
 use Rattle.isdb_tlv.proofs.Guards.{either}
 use Rattle.isdb_mmt.specs.Packet.{Bytes, Packet}
-use Rattle.isdb_mmt.specs.Part.{partOf}
-use Rattle.isdb_mmt.specs.Maps.{find, orElse}
+use Rattle.isdb_mmt.specs.Maps.{find}
 use Rattle.isdb_mmt.specs.Objects.{Rec}
-use Rattle.isdb_mmt.specs.Joins.{idle}
-use Rattle.isdb_mmt.specs.Kept.{Kept, Section, parsesAs}
+use Rattle.isdb_mmt.specs.Kept.{Kept, Section}
 use Rattle.isdb_mmt.specs.Lent.{placesFrom}
-use Rattle.isdb_mmt.specs.Mpt.{mptOf, serviceId, assetsFrom}
-use Rattle.isdb_mmt.specs.Model.{State, Control as ControlState, idleControl, controlOf as controlIn, opened, pushed, gives}
-use Rattle.isdb_mmt.specs.Needs.{needs}
-use Rattle.isdb_mmt.specs.Book.{wellFormed, FirstOfLastRun}
+use Rattle.isdb_mmt.specs.Model.{opened, pushed, gives}
+use Rattle.isdb_mmt.specs.Book.{wellFormed}
 use Rattle.isdb_mmt.specs.Demand.{pushAll, giveAll, EverySmall, Keeps, never, keeps, Holds}
 use Rattle.isdb_mmt.specs.Limits.{asked}
 use Rattle.isdb_mmt.specs.Layout.{mediaPlaces, mediaSize, controlPlaces, controlSize, sectionPlaces, sectionSize}
-use Rattle.isdb_mmt.specs.Session.{Session, limitsOf, usedOf, latestOf, timeOf, mediaAt, controlAt, sectionAt, mediaPlaceOf, controlPlaceOf, sectionPlaceOf}
+use Rattle.isdb_mmt.specs.Session.{Session, limitsOf, usedOf, timeOf, mediaAt, mediaPlaceOf, controlPlaceOf, sectionPlaceOf}
 use Rattle.isdb_mmt.specs.Check.{mediaIn, controlsIn, sectionsIn, lengthsOf, sound}
-use Rattle.isdb_mmt.specs.View.{given, controlStateOf, assetEntry, controlEntry, sectionEntry, viewBy, view}
+use Rattle.isdb_mmt.specs.View.{assetEntry, controlEntry, sectionEntry, viewBy, view}
 use Rattle.isdb_mmt.specs.Opening.{openedSession}
 use Rattle.isdb_mmt.specs.Octets.{Octets, Lent}
 use Rattle.isdb_mmt.specs.Records.{readRows}
 use Rattle.isdb_mmt.specs.Leaves.{packetLeaves}
-use Rattle.isdb_mmt.specs.Push.{Input, packetOf, asks, Taken, Pushed, handed as handedBy}
+use Rattle.isdb_mmt.specs.Push.{Input, packetOf, asks, Taken, handed as handedBy}
 use Rattle.isdb_mmt.specs.Readings.{mediaFound, controlFound, countersRead, timeRead, timeAt, countRead, mediaNames, controlNames, keysIn, leastFrom, mostName, nameTold, nextMediaRead, nextControlRead, nextKeyRead, mediaIf, mediaRead, heldAt, heldIf, heldRead, controlIf, controlRead, sectionRead, mptRead, pltRead, totRead, assetRead, timeNumber, nameNumber, mediaNumber, heldNumber, controlNumber, tableNumber, assetNumber, Told, refused, nothing, these, toldBy}
 use Rattle.isdb_mmt.specs.TableReadingLaws.{sectionBytes, mptBytes, handsOut, AsKept}
-use Rattle.isdb_mmt.specs.Calls.{keptAt, keptIn, droppedIn, lostIn, heldIn, Reading, counters, time, count, nextMedia, nextControl, nextKey, mediaOf, held, controlOf, mpt, plt, tot, section, assetOf, readingNumber, Call, push, read, Reply, Decoder, after, pushes, accepted, handed, AllBytes, leavesOf, replied, replyOf, decoder, Determined, PushDetermined, Tells, none-kept, kept, After, Demand3, AllAsModel, AnswersAsModel}
-use Rattle.isdb_mmt.specs.declared.part.Part.{Part}
+use Rattle.isdb_mmt.specs.Calls.{keptIn, droppedIn, lostIn, heldIn, Reading, counters, time, count, nextMedia, nextControl, nextKey, mediaOf, held, controlOf, mpt, plt, tot, section, assetOf, readingNumber, Call, push, read, after, pushes, accepted, handed, AllBytes, leavesOf, replyOf, decoder, PushDetermined, Tells, none-kept, kept, After, Demand3, AllAsModel, AnswersAsModel}
 use Rattle.isdb_mmt.specs.declared.maybe.MaybeU32.{MaybeU32}
 use Rattle.isdb_mmt.specs.declared.maybe.MaybeU32.the-variants.{None as noU32, Some as someU32}
-use Rattle.isdb_mmt.specs.declared.maybe.MaybeU16.{MaybeU16}
-use Rattle.isdb_mmt.specs.declared.table.mpt.Asset.{Asset}
-use Rattle.isdb_mmt.specs.declared.table.mpt.MaybeMpt.{MaybeMpt}
-use Rattle.isdb_mmt.specs.declared.table.mpt.MaybeMpt.the-variants.{None as noMpt, Some as someMpt}
-use Rattle.isdb_mmt.specs.Kept.{mptParses}
 use Rattle.isdb_mmt.specs.declared.decoder.place.Found.{Found}
 use Rattle.isdb_mmt.specs.declared.decoder.place.Found.the-variants.{At, Nothing}
 use Rattle.isdb_mmt.specs.declared.decoder.limits.Limits.{Limits}
 use Rattle.isdb_mmt.specs.declared.decoder.head.Time.{Time}
 use Rattle.isdb_mmt.specs.declared.decoder.media.Media.{Media}
-use Rattle.isdb_mmt.specs.declared.decoder.control.Control.{Control}
-use Rattle.isdb_mmt.specs.declared.decoder.section.KeptSection.{KeptSection}
 use Rattle.isdb_mmt.specs.declared.decoder.readings.TableReading.{TableReading}
 use Rattle.isdb_mmt.specs.declared.decoder.readings.TableReading.the-variants.{Refused as tableRefused, Nothing as noTable, Bytes as theBytes}
 use Rattle.isdb_mmt.specs.declared.decoder.readings.AssetReading.{AssetReading}
 use Rattle.isdb_mmt.specs.declared.decoder.readings.AssetReading.the-variants.{Refused as assetRefused, Nothing as noAsset, Asset as theAsset}
-use Rattle.isdb_mmt.proofs.Names.{clash}
-use Rattle.isdb_mmt.proofs.Every.{Every, every-found}
 use Rattle.isdb_mmt.proofs.Fits.{mostAdded}
-use Rattle.isdb_mmt.proofs.Stores.{Whole, KeptFits, mptGood, pltGood, totGood}
 use Rattle.isdb_mmt.proofs.Brief.{plain-of, lent-opened}
-use Rattle.isdb_mmt.proofs.Ready.{Ready, Takes, ControlFits, ready-push, ready-opened}
-use Rattle.isdb_mmt.proofs.Stays.{Exact, is-ready, length-view}
+use Rattle.isdb_mmt.proofs.Ready.{Ready, Takes, ready-push, ready-opened}
+use Rattle.isdb_mmt.proofs.Stays.{is-ready, length-view}
 use Rattle.isdb_mmt.proofs.Lasting.{Lasts, lasting, packet-lasts}
 use Rattle.isdb_mmt.proofs.Checks.{sound-session}
 use Rattle.isdb_mmt.proofs.Opening.{opening}
 use Rattle.isdb_mmt.proofs.Smallness.{small-of}
 use Rattle.isdb_mmt.proofs.PacketLeaves.{taken}
 use Rattle.isdb_mmt.proofs.Accepted.{stores-of, push-moved, push-lent, push-gave}
-use Rattle.isdb_mmt.proofs.Said.{mediaEntry, controlAtPlace, keptEntry, control-found, dropped-said, lost-said, held-said, kept-said}
+use Rattle.isdb_mmt.proofs.Said.{dropped-said, lost-said, held-said, kept-said}
 use Rattle.isdb_mmt.proofs.NoneDamaged.{as-kept}
 use Rattle.isdb_mmt.proofs.Demand.{demand}
 

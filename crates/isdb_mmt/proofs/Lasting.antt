@@ -1,40 +1,35 @@
 -- What an accepted packet leaves of limits, buffers and stored lengths: everything that is there still stands within its buffer.
 -- Assumes nothing.
-use Prim.Native.Nat.{ℕ, zero, suc, _+_, _-_, _*_, _^_, _≤_, _<_}
-use mathlib.Core.Path.{_≡_, refl, sym, ap, _∙_}
-use mathlib.Core.Logic.{inl, inr}
-use mathlib.Core.Bool.{Bool, true, false}
+use Prim.Native.Nat.{ℕ, _+_, _-_, _*_, _≤_, _<_}
+use mathlib.Core.Path.{_≡_, refl, sym, _∙_}
+use mathlib.Core.Logic.{inl}
+use mathlib.Core.Bool.{true}
 use mathlib.Core.Option.{Option, none, some}
-use mathlib.Core.List.{List, [], _∷_, _++_, map}
-use native.Mathlib.Nat.{add-zero, mul-le-mul-right}
+use mathlib.Core.List.{List, [], _∷_, map}
+use native.Mathlib.Nat.{mul-le-mul-right}
 use native.Mathlib.Omega.{arith}
-use lib.ListN.{length, set}
+use lib.ListN.{length}
 use Rattle.isdb_tlv.specs.Fields.{written, Fit}
 use Rattle.isdb_tlv.proofs.Fields.{length-written}
-use Rattle.isdb_mmt.specs.Packet.{Bytes, Media as MediaPacket, Ctl, Packet, ipError, ntp, nonMmtp, media, message, control, other}
+use Rattle.isdb_mmt.specs.Packet.{Bytes, Ctl, Packet, ipError, ntp, nonMmtp, media, message, control, other}
 use Rattle.isdb_mmt.specs.Maps.{put, isSome}
 use Rattle.isdb_mmt.specs.Objects.{Mfu, Asset}
 use Rattle.isdb_mmt.specs.Kept.{Kept, Counters as Counts}
 use Rattle.isdb_mmt.specs.Model.{State, Control as ControlState, controlOf, pushed}
-use Rattle.isdb_mmt.specs.Needs.{heldLength, joinLength}
-use Rattle.isdb_mmt.specs.Layout.{latestPlace, timePlace, countersPlace, mediaPlaces, controlPlaces, sectionPlaces, stateSize}
+use Rattle.isdb_mmt.specs.Needs.{heldLength}
+use Rattle.isdb_mmt.specs.Layout.{latestPlace, timePlace, countersPlace, mediaPlaces}
 use Rattle.isdb_mmt.specs.Lent.{over}
-use Rattle.isdb_mmt.specs.Session.{Session, limitsOf, usedOf, latestOf, timeFields, countersFields, controlFields, mediaFields}
+use Rattle.isdb_mmt.specs.Session.{Session, limitsOf, usedOf, latestOf, timeFields, countersFields, mediaFields}
 use Rattle.isdb_mmt.specs.Check.{mediaIn, controlsIn, sectionsIn, lengthsOf, sound, Sound}
-use Rattle.isdb_mmt.specs.View.{view, viewBy}
+use Rattle.isdb_mmt.specs.View.{view}
 use Rattle.isdb_mmt.specs.Opening.{lent}
 use Rattle.isdb_mmt.specs.Placing.{tableLength, placeFor, heldFor, controlFor, latestFor, countersFor}
 use Rattle.isdb_mmt.specs.MediaPush.{heldOver, mediaSeat, leavesAt, assetNext, mediaLeaves}
-use Rattle.isdb_mmt.specs.Leaves.{keptPlace, withTime, withCounters, countedIn, timeLeaves, controlLeaves, messageIn, controlSeat, messageAt, messageLeaves, packetLeaves, joinedIn}
+use Rattle.isdb_mmt.specs.Leaves.{keptPlace, withTime, withCounters, controlLeaves, messageIn, controlSeat, messageAt, messageLeaves, packetLeaves, joinedIn}
 use Rattle.isdb_mmt.specs.Push.{Fits}
 use Rattle.isdb_mmt.specs.declared.decoder.place.Seat.{Seat}
 use Rattle.isdb_mmt.specs.declared.decoder.place.Seat.the-variants.{Old, New, Full}
 use Rattle.isdb_mmt.specs.declared.decoder.limits.Limits.{Limits}
-use Rattle.isdb_mmt.specs.declared.decoder.head.Latest.{Latest}
-use Rattle.isdb_mmt.specs.declared.decoder.media.Media.{Media}
-use Rattle.isdb_mmt.specs.declared.decoder.control.Control.{Control}
-use Rattle.isdb_mmt.specs.declared.decoder.section.KeptSection.{KeptSection}
-use Rattle.isdb_mmt.proofs.Names.{clash}
 use Rattle.isdb_mmt.proofs.Lent.{length-over}
 use Rattle.isdb_mmt.proofs.Limits.{passed, Passed}
 use Rattle.isdb_mmt.proofs.Checks.{is-sound}
@@ -45,7 +40,7 @@ use Rattle.isdb_mmt.proofs.TableAreas.{AllKept, length-laid, length-kep
 use Rattle.isdb_mmt.proofs.StateWrites.{TablesFit, length-tables, latest-tables, limits-tables, sections-tables, long-latest, latest-read}
 use Rattle.isdb_mmt.proofs.Placed.{Tied}
 use Rattle.isdb_mmt.proofs.MediaLeaves.{in-objects, within-old, keeps-old, media-old, new-facts, keeps-new, media-new, seat-free, held-room, tied-next}
-use Rattle.isdb_mmt.proofs.MessageLeaves.{Says, ranges, kept-within, media-same, controls-same, control-says, media-2, sections-t2, long-1, length-1, long-t, len0, len1, len2, in2, in-messages, joined-length, controls-old, message-old, controls-new, all-before, message-new, controlEntries}
+use Rattle.isdb_mmt.proofs.MessageLeaves.{Says, ranges, kept-within, media-same, controls-same, media-2, sections-t2, long-1, length-1, long-t, len0, len1, len2, in2, in-messages, joined-length, controls-old, message-old, controls-new, all-before, message-new, controlEntries}
 use Rattle.isdb_mmt.proofs.PacketLeaves.{Stores, MessageFits, own, seat-free as control-free, old-free, new-free, sections-plt, sections-tot}
 use Rattle.isdb_mmt.proofs.Stays.{Placed, mediaThere, controlThere, sectionThere, Exact, exact-was, placed-set, placed-snoc}
 

@@ -1,28 +1,20 @@
 -- Where every kept table parses, its reading hands it out. Assumes nothing.
-use Prim.Native.Nat.{ℕ, _+_, _≤_}
+use Prim.Native.Nat.{ℕ}
 use mathlib.Core.Path.{_≡_, refl, sym, ap, _∙_, subst}
 use mathlib.Core.Bool.{Bool, true}
 use mathlib.Core.Option.{Option, none, some}
 use mathlib.Core.List.{List, [], _∷_}
-use native.Mathlib.Omega.{arith}
 use lib.Dec.{eqb}
 use borrow.Author.Tests.{eqb-true}
 use Rattle.isdb_tlv.proofs.Guards.{either}
-use Rattle.isdb_mmt.specs.Packet.{Bytes, Packet}
+use Rattle.isdb_mmt.specs.Packet.{Bytes}
 use Rattle.isdb_mmt.specs.Maps.{find}
-use Rattle.isdb_mmt.specs.Joins.{Join}
-use Rattle.isdb_mmt.specs.Objects.{Asset}
 use Rattle.isdb_mmt.specs.Kept.{Kept, parsesAs}
-use Rattle.isdb_mmt.specs.Model.{State, Control, opened, pushed}
-use Rattle.isdb_mmt.specs.Needs.{needs}
-use Rattle.isdb_mmt.specs.Demand.{pushAll}
+use Rattle.isdb_mmt.specs.Model.{State, Control}
 use Rattle.isdb_mmt.specs.Session.{Session}
 use Rattle.isdb_mmt.specs.Check.{sound}
 use Rattle.isdb_mmt.specs.View.{view}
-use Rattle.isdb_mmt.specs.Opening.{openedSession}
 use Rattle.isdb_mmt.specs.Octets.{Lent}
-use Rattle.isdb_mmt.specs.Leaves.{packetLeaves}
-use Rattle.isdb_mmt.specs.Push.{Input, packetOf, packetsOf, leavesAll, AllTaken, AllBytes}
 use Rattle.isdb_mmt.specs.Readings.{tableIdOf, assetRead}
 use Rattle.isdb_mmt.specs.TableReadingLaws.{saysOf, handsOut, sectionBytes, mptBytes, saysAsset, AnswerIs, Damaged, AsKept}
 use Rattle.isdb_mmt.specs.declared.decoder.limits.Limits.{Limits}
@@ -30,13 +22,9 @@ use Rattle.isdb_mmt.specs.declared.decoder.readings.AssetReading.{AssetR
 use Rattle.isdb_mmt.specs.declared.decoder.readings.AssetReading.the-variants.{Refused as assetRefused}
 use Rattle.isdb_mmt.proofs.Names.{clash}
 use Rattle.isdb_mmt.proofs.Seats.{none-some}
-use Rattle.isdb_mmt.proofs.Every.{Every, every-mono}
-use Rattle.isdb_mmt.proofs.Brief.{Plain, plain-of, lent-opened}
-use Rattle.isdb_mmt.proofs.Fits.{AssetFits, mostAdded}
+use Rattle.isdb_mmt.proofs.Every.{Every}
 use Rattle.isdb_mmt.proofs.Stores.{Whole, mptGood, pltGood, totGood, KeptFits}
-use Rattle.isdb_mmt.proofs.Ready.{JoinFits, ControlFits, Ready, ready-opened, ready-push}
-use Rattle.isdb_mmt.proofs.PacketLeaves.{taken}
-use Rattle.isdb_mmt.proofs.Accepted.{push-lent, demand-2}
+use Rattle.isdb_mmt.proofs.Ready.{ControlFits, Ready}
 use Rattle.isdb_mmt.proofs.TableReadings.{kept-tables, first-carriers}
 
 -- ---- what is kept parses

@@ -6,7 +6,7 @@ use mathlib.Core.Option.{none, some}
 use mathlib.Core.List.{List, [], _∷_, map}
 use native.Mathlib.Omega.{arith}
 use lib.Dec.{eqb}
-use lib.ListN.{length, getD}
+use lib.ListN.{length}
 use borrow.Author.Tests.{eqb-true}
 use Rattle.isdb_tlv.specs.Bytes.{be}
 use Rattle.isdb_tlv.proofs.Guards.{either}
@@ -22,7 +22,7 @@ use Rattle.isdb_mmt.specs.Session.{Session, limitsOf, usedOf, timeOf, me
 use Rattle.isdb_mmt.specs.Check.{lengthsOf, sound, Sound, mediaIn, controlsIn, sectionsIn, mediaSound, controlSound}
 use Rattle.isdb_mmt.specs.View.{given, mfuOf, assetOfPlace, controlStateOf, assetEntry, controlEntry, sectionEntry, tableAt, viewBy, view}
 use Rattle.isdb_mmt.specs.Readings.{mediaNames, controlNames, keysIn, mediaFound, controlFound, countersRead, timeAt, timeRead, countRead, leastFrom, nameTold, nameRead, mostName, nextMediaRead, nextControlRead, nextKeyRead, u32If, rangeIf, mediaState, mediaIf, mediaRead, heldObject, heldAt, heldIf, heldRead, controlState, controlIf, controlRead}
-use Rattle.isdb_mmt.specs.ReadingLaws.{timeTold, CountsAreTold, u32Told, rangeTold, objectLength, joinLength, mediaTold, HeldTold, controlTold, IdsAreTold, Least, NextTold, NamesAreTold}
+use Rattle.isdb_mmt.specs.ReadingLaws.{timeTold, CountsAreTold, u32Told, rangeTold, objectLength, joinedLength, mediaTold, HeldTold, controlTold, IdsAreTold, Least, NextTold, NamesAreTold}
 use Rattle.isdb_mmt.specs.declared.maybe.MaybeU32.{MaybeU32}
 use Rattle.isdb_mmt.specs.declared.maybe.MaybeU32.the-variants.{None as noU32, Some as someU32}
 use Rattle.isdb_mmt.specs.declared.decoder.place.Found.{Found}
@@ -36,13 +36,13 @@ use Rattle.isdb_mmt.specs.declared.decoder.readings.NameReading.the-vari
 use Rattle.isdb_mmt.specs.declared.decoder.readings.MediaReading.the-variants.{Media as theMedia}
 use Rattle.isdb_mmt.specs.declared.decoder.readings.ControlReading.the-variants.{Control as theControl}
 use Rattle.isdb_mmt.proofs.Said.{mediaEntry, controlAtPlace, media-found, control-found}
-use Rattle.isdb_mmt.proofs.Lent.{names-of, length-names, length-places}
+use Rattle.isdb_mmt.proofs.Lent.{names-of, length-names}
 use Rattle.isdb_mmt.proofs.Names.{clash}
-use Rattle.isdb_mmt.proofs.Views.{keys, keys-indexed, stands, absent}
+use Rattle.isdb_mmt.proofs.Views.{keys, keys-indexed}
 use Rattle.isdb_mmt.proofs.Sessions.{named}
-use Rattle.isdb_mmt.proofs.Seats.{entries, entry-names, length-map, getD-indexed}
+use Rattle.isdb_mmt.proofs.Seats.{entries, entry-names}
 use Rattle.isdb_mmt.proofs.MessageLeaves.{controlEntries, control-names}
-use Rattle.isdb_mmt.proofs.LinePlaces.{getD-places, in-buffer}
+use Rattle.isdb_mmt.proofs.LinePlaces.{in-buffer}
 use Rattle.isdb_mmt.proofs.Areas.{length-part}
 use Rattle.isdb_mmt.proofs.Limits.{passed}
 use Rattle.isdb_mmt.proofs.Checks.{sound-session, media-was, control-was, place-was}
@@ -76,7 +76,7 @@ object-told : (b : Bool) (n : ℕ) (h : Mfu) → (b ≡ true → length (h .byte
 object-told true n h e = rw (e refl)
 object-told false n h e = refl
 
-join-told : (b : Bool) (n : ℕ) (j : Join) → (b ≡ true → length (j .bytes) ≡ n) → u32If b n ≡ joinLength (given b j)
+join-told : (b : Bool) (n : ℕ) (j : Join) → (b ≡ true → length (j .bytes) ≡ n) → u32If b n ≡ joinedLength (given b j)
 join-told true n j e = rw (e refl)
 join-told false n j e = refl
 

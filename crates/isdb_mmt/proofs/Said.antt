@@ -1,23 +1,23 @@
 -- What the places of a session say of an id and of a key is what the view says. Assumes nothing.
-use Prim.Native.Nat.{ℕ, zero, suc, _+_, _-_, _*_, _≤_, _<_}
+use Prim.Native.Nat.{ℕ, _+_, _-_, _*_, _≤_, _<_}
 use mathlib.Core.Path.{_≡_, refl, sym, ap, _∙_}
 use mathlib.Core.Bool.{Bool, true, false}
 use mathlib.Core.Option.{Option, none, some}
-use mathlib.Core.List.{List, [], _∷_, map}
+use mathlib.Core.List.{List, [], map}
 use native.Mathlib.Omega.{arith}
-use lib.ListN.{length, getD}
+use lib.ListN.{length}
 use Rattle.isdb_tlv.specs.Bytes.{be}
 use Rattle.isdb_mmt.specs.Packet.{Bytes}
 use Rattle.isdb_mmt.specs.Maps.{find, orElse}
 use Rattle.isdb_mmt.specs.Objects.{Mfu, Asset, fresh}
 use Rattle.isdb_mmt.specs.Kept.{Kept}
-use Rattle.isdb_mmt.specs.Model.{State, Control as ControlState, idleControl, assetOf, controlOf}
+use Rattle.isdb_mmt.specs.Model.{Control as ControlState, assetOf}
 use Rattle.isdb_mmt.specs.Demand.{bytesOf, heldOf, droppedOf, lostOf}
 use Rattle.isdb_mmt.specs.Lent.{part, placesFrom, namesFrom, foundFrom, indexed}
 use Rattle.isdb_mmt.specs.Layout.{mediaPlaces, mediaSize, controlPlaces, controlSize, sectionPlaces, sectionSize}
 use Rattle.isdb_mmt.specs.Session.{Session, limitsOf, usedOf, mediaPlaceOf, controlPlaceOf, sectionPlaceOf}
 use Rattle.isdb_mmt.specs.Check.{mediaIn, controlsIn, sectionsIn}
-use Rattle.isdb_mmt.specs.View.{given, mfuOf, assetOfPlace, controlStateOf, assetEntry, controlEntry, sectionEntry, viewBy, view}
+use Rattle.isdb_mmt.specs.View.{given, mfuOf, assetOfPlace, assetEntry, controlEntry, sectionEntry, viewBy, view}
 use Rattle.isdb_mmt.specs.Readings.{mediaFound, controlFound, sectionFound}
 use Rattle.isdb_mmt.specs.Calls.{droppedAt, lostAt, heldAt, keptAt, droppedIn, lostIn, heldIn, keptIn}
 use Rattle.isdb_mmt.specs.declared.decoder.place.Found.{Found}

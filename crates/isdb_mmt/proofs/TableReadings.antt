@@ -3,7 +3,7 @@ use Prim.Native.Nat.{ℕ, _+_, _*_, _≤_, _<_}
 use mathlib.Core.Path.{_≡_, refl, sym, ap, _∙_, subst}
 use mathlib.Core.Bool.{Bool, true, false}
 use mathlib.Core.Option.{Option, none, some}
-use mathlib.Core.List.{List, [], _∷_, map}
+use mathlib.Core.List.{List, [], _∷_}
 use native.Mathlib.Omega.{arith}
 use native.Mathlib.Nat.{mul-le-mul-right}
 use lib.Dec.{eqb, ltb, leb}
@@ -19,11 +19,11 @@ use Rattle.isdb_mmt.specs.Mpt.{mptOf, serviceId, assetsFrom}
 use Rattle.isdb_mmt.specs.Plt.{pltOf}
 use Rattle.isdb_mmt.specs.Tot.{totOf}
 use Rattle.isdb_mmt.specs.Layout.{controlPlaces, controlSize, sectionPlaces, sectionSize}
-use Rattle.isdb_mmt.specs.Lent.{part, placesFrom, namesFrom, foundFrom, among, indexed}
+use Rattle.isdb_mmt.specs.Lent.{part, namesFrom, foundFrom, among}
 use Rattle.isdb_mmt.specs.Session.{Session, limitsOf, usedOf, latestOf, controlPlaceOf, controlAt, sectionPlaceOf, sectionAt}
 use Rattle.isdb_mmt.specs.Check.{controlsIn, sectionsIn, controlSound, sectionSound, lengthsOf, sound, Sound}
 use Rattle.isdb_mmt.specs.Model.{Control as ControlState}
-use Rattle.isdb_mmt.specs.View.{given, controlStateOf, controlEntry, sectionEntry, viewBy, view}
+use Rattle.isdb_mmt.specs.View.{given, controlStateOf, viewBy, view}
 use Rattle.isdb_mmt.specs.Readings.{areaPart, sectionFound, sectionPart, controlFound, mptAt, mptPart, pltPart, totPart, tableIf, tableRead, tableIdOf, sectionRead, mptRead, pltRead, totRead, controlNames, ascending, firstCarried, carried, assetIn, assetIf, assetAmong, assetRead, nothing, toldBy}
 use Rattle.isdb_mmt.specs.ReadingLaws.{namesIn, rises, InOrder}
 use Rattle.isdb_mmt.specs.TableReadingLaws.{saysOf, sectionBytes, mptBytes, Inside, Reads, KeptTables, SaysAsset, saysAsset, carriedBy, mptSays, keptSays, carriedAmong, InsideMpt, AssetRead, CarriedAssets, Passes, PassedBelow, AnswerIs, FirstCarriers}
@@ -41,8 +41,6 @@ use Rattle.isdb_mmt.specs.declared.decoder.place.Found.the-variants.{At,
 use Rattle.isdb_mmt.proofs.Guards.{was-both}
 use Rattle.isdb_mmt.proofs.Names.{clash}
 use Rattle.isdb_mmt.proofs.Seats.{none-some}
-use Rattle.isdb_mmt.proofs.Views.{keys}
-use Rattle.isdb_mmt.proofs.Stays.{names-view, section-name, control-name}
 use Rattle.isdb_mmt.proofs.MessageLeaves.{control-names}
 use Rattle.isdb_mmt.proofs.Said.{controlAtPlace, keptEntry, control-found, section-found}
 use Rattle.isdb_mmt.proofs.Readings.{names-told}

@@ -1,16 +1,16 @@
 -- What demand 3 and the questions rule out: each useless decoder of the scope, whatever else it does. Assumes nothing.
 use Prim.Native.Nat.{ℕ, zero, suc, _+_, _<_}
 use mathlib.Core.Path.{_≡_, refl, sym, ap, _∙_}
-use mathlib.Core.Bool.{Bool, true, false}
-use mathlib.Core.Option.{Option, none, some}
+use mathlib.Core.Bool.{true}
+use mathlib.Core.Option.{none, some}
 use mathlib.Core.List.{List, [], _∷_, _++_, append-nil}
 use native.Mathlib.Omega.{arith}
-use lib.ListN.{length, getD, replicate}
+use lib.ListN.{length, getD}
 use borrow.Author.Tests.{ltb-true}
 use Rattle.isdb_tlv.specs.Guards.{_<?_}
 use Rattle.isdb_mmt.specs.Packet.{Bytes}
 use Rattle.isdb_mmt.specs.Maps.{find, orElse}
-use Rattle.isdb_mmt.specs.Objects.{Rec, fresh as freshAsset}
+use Rattle.isdb_mmt.specs.Objects.{fresh as freshAsset}
 use Rattle.isdb_mmt.specs.Kept.{Section}
 use Rattle.isdb_mmt.specs.Model.{opened, assetOf}
 use Rattle.isdb_mmt.specs.Book.{book, isHeld, deliveredOf, wellFormed, wellFormedIn, reaching, allIdle, sectionsFrom, linesAfter, sectionsAmong}
@@ -18,16 +18,15 @@ use Rattle.isdb_mmt.specs.Demand.{bytesOf}
 use Rattle.isdb_mmt.specs.Lent.{every}
 use Rattle.isdb_mmt.specs.Layout.{stateSize}
 use Rattle.isdb_mmt.specs.Limits.{asked}
-use Rattle.isdb_mmt.specs.Session.{Session}
 use Rattle.isdb_mmt.specs.Check.{lengthsOf}
 use Rattle.isdb_mmt.specs.Octets.{Octets, Lent}
 use Rattle.isdb_mmt.specs.Records.{readRows}
 use Rattle.isdb_mmt.specs.Push.{Input, packetOf, asks}
 use Rattle.isdb_mmt.specs.Readings.{sectionRead, Told, refused, nothing, these, toldBy}
-use Rattle.isdb_mmt.specs.Calls.{lostIn, heldIn, Call, push, Decoder, after, pushes, accepted, handed, Tells, none-kept, kept, After, Demand3}
+use Rattle.isdb_mmt.specs.Calls.{lostIn, heldIn, push, Decoder, after, pushes, accepted, handed, Tells, none-kept, kept, After, Demand3}
 use Rattle.isdb_mmt.specs.Cases.{ab, cd}
 use Rattle.isdb_mmt.specs.PushCases.{small, blank, told}
-use Rattle.isdb_mmt.specs.Useless.{first, second, begins, nit, mediaId, nitKey, start, Accepts, recordsIn, objectsIn, then, NotUseless, Refutations, AsksOnly, TurnsNoneAway}
+use Rattle.isdb_mmt.specs.Useless.{first, second, begins, nit, mediaId, nitKey, start, Accepts, recordsIn, objectsIn, then, NotUseless, Refutations, TurnsNoneAway}
 use Rattle.isdb_mmt.proofs.Guards.{was-both}
 use Rattle.isdb_mmt.proofs.Brief.{octets-blank}
 use Rattle.isdb_mmt.proofs.Run.{deliveredOf-append}

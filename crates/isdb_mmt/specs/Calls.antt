@@ -2,7 +2,7 @@
 -- them. What was accepted and what was handed out is read off the answers; what the session says is read off its bytes.
 use Prim.Native.Nat.{ℕ, _+_, _*_}
 use mathlib.Core.Path.{_≡_}
-use mathlib.Core.Bool.{Bool, true, false, cond}
+use mathlib.Core.Bool.{Bool, true}
 use mathlib.Core.Option.{Option, none, some}
 use mathlib.Core.List.{List, [], _∷_, _++_}
 use lib.ListN.{length}
@@ -25,7 +25,7 @@ use Rattle.isdb_mmt.specs.Records.{rowsFrom, dataFrom, readRows}
 use Rattle.isdb_mmt.specs.Leaves.{packetLeaves}
 use Rattle.isdb_mmt.specs.Push.{Input, packetOf, asks, Pushed}
 use Rattle.isdb_mmt.specs.TableReadingLaws.{AsKept}
-use Rattle.isdb_mmt.specs.Readings.{mediaFound, sectionFound, countersRead, timeRead, countRead, nextMediaRead, nextControlRead, nextKeyRead, mediaRead, heldRead, controlRead, sectionRead, mptRead, pltRead, totRead, assetRead, countersNumber, timeNumber, countNumber, nameNumber, mediaNumber, heldNumber, controlNumber, tableNumber, assetNumber, Told, refused, nothing, these, toldBy}
+use Rattle.isdb_mmt.specs.Readings.{mediaFound, sectionFound, countersRead, timeRead, countRead, nextMediaRead, nextControlRead, nextKeyRead, mediaRead, heldRead, controlRead, sectionRead, mptRead, pltRead, totRead, assetRead, countersNumber, timeNumber, countNumber, nameNumber, mediaNumber, heldNumber, controlNumber, tableNumber, assetNumber, Told, nothing, these, toldBy}
 use Rattle.isdb_mmt.specs.declared.decoder.place.Found.{Found}
 use Rattle.isdb_mmt.specs.declared.decoder.place.Found.the-variants.{At, Nothing as nowhere}
 use Rattle.isdb_mmt.specs.declared.decoder.limits.Limits.{Limits}

@@ -2,7 +2,7 @@
 -- of a session whose kept bytes were overwritten.
 use Prim.Native.Nat.{ℕ, _+_}
 use mathlib.Core.Path.{refl}
-use mathlib.Core.Bool.{true, false}
+use mathlib.Core.Bool.{false}
 use mathlib.Core.List.{List, [], _∷_, _++_}
 use lib.ListN.{replicate}
 use Rattle.isdb_mmt.specs.Worked.{Case, _⇒_, Holds}
@@ -23,7 +23,6 @@ use Rattle.isdb_mmt.specs.PushCases.{input, only, ntp, plt as pltBytes, 
 use Rattle.isdb_mmt.specs.declared.maybe.MaybeU16.the-variants.{Some as someU16}
 use Rattle.isdb_mmt.specs.declared.maybe.MaybeU32.the-variants.{None as noU32, Some as someU32}
 use Rattle.isdb_mmt.specs.declared.mpu.MaybeMfu.the-variants.{Some as someMfu}
-use Rattle.isdb_mmt.specs.declared.table.mpt.Asset.{Asset}
 use Rattle.isdb_mmt.specs.declared.decoder.limits.Limits.{Limits}
 use Rattle.isdb_mmt.specs.declared.decoder.counts.AssetStats.{AssetStats}
 use Rattle.isdb_mmt.specs.declared.decoder.counts.Counters.{Counters}

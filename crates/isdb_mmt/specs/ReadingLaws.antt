@@ -11,18 +11,16 @@ use Rattle.isdb_mmt.specs.Part.{partOf}
 use Rattle.isdb_mmt.specs.Maps.{find}
 use Rattle.isdb_mmt.specs.Objects.{Mfu, Asset}
 use Rattle.isdb_mmt.specs.Joins.{Join}
-use Rattle.isdb_mmt.specs.Kept.{Counters as Counts}
 use Rattle.isdb_mmt.specs.Model.{Control as ControlLine}
 use Rattle.isdb_mmt.specs.Lent.{among}
 use Rattle.isdb_mmt.specs.Octets.{Octets}
 use Rattle.isdb_mmt.specs.Session.{Session}
 use Rattle.isdb_mmt.specs.Check.{sound}
 use Rattle.isdb_mmt.specs.View.{view}
+use Rattle.isdb_mmt.specs.Placing.{statsFor, countersFor}
 use Rattle.isdb_mmt.specs.Readings.{mediaNames, controlNames, keysIn, countersRead, timeRead, countRead, mostName, ascending, nextMediaRead, nextControlRead, nextKeyRead, mediaRead, heldRead, controlRead}
 use Rattle.isdb_mmt.specs.declared.maybe.MaybeU32.{MaybeU32}
 use Rattle.isdb_mmt.specs.declared.maybe.MaybeU32.the-variants.{None as noU32, Some as someU32}
-use Rattle.isdb_mmt.specs.declared.decoder.counts.AssetStats.{AssetStats}
-use Rattle.isdb_mmt.specs.declared.decoder.counts.Counters.{Counters}
 use Rattle.isdb_mmt.specs.declared.decoder.readings.CountersReading.the-variants.{Counters as theCounters}
 use Rattle.isdb_mmt.specs.declared.decoder.readings.TimeReading.{TimeReading}
 use Rattle.isdb_mmt.specs.declared.decoder.readings.TimeReading.the-variants.{Nothing as noTime, Timestamp}
@@ -41,29 +39,12 @@ use Rattle.isdb_mmt.specs.declared.decoder.readings.ControlReading.the-v
 
 -- ---- counts and the time
 
-abbrev pub countersTold : Counts → Counters
-countersTold c =
-    record {
-      «tlv_packets» = c .tlvPackets;
-      «ip_errors» = c .ipErrors;
-      «non_mmtp» = c .nonMmtps;
-      ntp = c .ntps;
-      tables = c .tables;
-      «crc_errors» = c .crcErrors;
-      malformed = c .malformed;
-      «version_changes» = c .versionChanges;
-      «orphan_fragments» = c .orphans;
-      oversize = c .oversizes;
-      «message_malformed» = c .messageMalformed;
-      «split_errors» = c .splitErrors;
-    }
-
 abbrev pub timeTold : Option ℕ → TimeReading
 timeTold none = noTime
 timeTold (some t) = Timestamp t
 
 pub record CountsTold (s : Session) : Type 0 where
-  pub counters : countersRead s ≡ theCounters (countersTold (view s .counters))
+  pub counters : countersRead s ≡ theCounters (countersFor (view s .counters))
   pub time : timeRead s ≡ timeTold (view s .time)
   pub tables : (id : ℕ) → countRead s id ≡ Count (getD (view s .store .others) id 0)
 
@@ -85,30 +66,16 @@ abbrev pub objectLength : Option Mfu → MaybeU32
 objectLength none = noU32
 objectLength (some h) = someU32 (length (h .bytes))
 
-abbrev pub joinLength : Option Join → MaybeU32
-joinLength none = noU32
-joinLength (some j) = someU32 (length (j .bytes))
-
-abbrev pub statsTold : Asset → AssetStats
-statsTold a =
-    record {
-      packets = a .packets;
-      «packets_lost» = a .lost;
-      «scrambled_packets» = a .scrambled;
-      mfus = a .mfus;
-      «scrambled_mfus» = a .scrambledMfus;
-      «mfus_dropped» = a .dropped;
-      mpus = a .mpus;
-      «mpu_sequence_jumps» = a .jumps;
-      malformed = a .malformed;
-    }
+abbrev pub joinedLength : Option Join → MaybeU32
+joinedLength none = noU32
+joinedLength (some j) = someU32 (length (j .bytes))
 
 abbrev pub mediaTold : Option Asset → MediaReading
 mediaTold none = noMedia
 mediaTold (some a) =
     theMedia
     (record {
-      stats = statsTold a;
+      stats = statsFor a;
       sequence = u32Told (a .number);
       «mpu_range» = rangeTold (a .range);
       held = objectLength (a .held);
@@ -140,7 +107,7 @@ HeldTold b r (some a) = HeldIs b r (a .held)
 
 abbrev pub controlTold : Option ControlLine → ControlReading
 controlTold none = noControl
-controlTold (some c) = theControl (record { sequence = u32Told (c .line .number); joined = joinLength (c .line .part) })
+controlTold (some c) = theControl (record { sequence = u32Told (c .line .number); joined = joinedLength (c .line .part) })
 
 pub record IdsTold (s : Session) : Type 0 where
   pub media : (id : ℕ) → mediaRead s id ≡ mediaTold (find id (view s .assets))

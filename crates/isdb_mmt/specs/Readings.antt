@@ -1,11 +1,11 @@
 -- Readings of a session: what each answers. Every one asks question 5 first (of a table also whether its kept bytes still parse);
 -- it answers the number, that there is nothing, or the value.
 use Prim.Native.Nat.{ℕ, zero, suc, _+_, _*_, _/_, _^_}
-use mathlib.Core.Bool.{Bool, true, false, not, cond, _&&_}
+use mathlib.Core.Bool.{Bool, false}
 use mathlib.Core.Option.{Option, none, some}
 use mathlib.Core.List.{List, [], _∷_}
 use lib.ListN.{length, getD}
-use Rattle.isdb_tlv.specs.Guards.{if_then_else_, _<?_, _≤?_, _=?_}
+use Rattle.isdb_tlv.specs.Guards.{if_then_else_, _<?_, _=?_}
 use Rattle.isdb_mmt.specs.Packet.{Bytes}
 use Rattle.isdb_mmt.specs.Part.{part, partOf}
 use Rattle.isdb_mmt.specs.Lent.{namesFrom, foundFrom}
@@ -13,8 +13,7 @@ use Rattle.isdb_mmt.specs.Layout.{mediaPlaces, mediaSize, controlPlaces,
 use Rattle.isdb_mmt.specs.Session.{Session, limitsOf, usedOf, latestOf, timeOf, countersOf, mediaAt, controlAt, sectionAt}
 use Rattle.isdb_mmt.specs.Check.{sound}
 use Rattle.isdb_mmt.specs.View.{given, headerGiven, itemGiven}
-use Rattle.isdb_mmt.specs.Kept.{Kept, parsesAs, mptParses, pltParses, totParses}
-use Rattle.isdb_mmt.specs.Location.{packetId}
+use Rattle.isdb_mmt.specs.Kept.{parsesAs, mptParses, pltParses, totParses}
 use Rattle.isdb_mmt.specs.Mpt.{mptOf, serviceId, locationsOf, firstPacketId, assetsFrom}
 use Rattle.isdb_mmt.specs.Plt.{pltOf}
 use Rattle.isdb_mmt.specs.Tot.{totOf}
@@ -24,17 +23,14 @@ use Rattle.isdb_mmt.specs.declared.maybe.MaybeU16.the-variants.{None as 
 use Rattle.isdb_mmt.specs.declared.maybe.MaybeU32.{MaybeU32}
 use Rattle.isdb_mmt.specs.declared.maybe.MaybeU32.the-variants.{None as noU32, Some as someU32}
 use Rattle.isdb_mmt.specs.declared.table.mpt.Asset.{Asset}
-use Rattle.isdb_mmt.specs.declared.table.mpt.Mpt.{Mpt}
 use Rattle.isdb_mmt.specs.declared.table.mpt.MaybeMpt.{MaybeMpt}
 use Rattle.isdb_mmt.specs.declared.table.mpt.MaybeMpt.the-variants.{None as noMpt, Some as someMpt}
 use Rattle.isdb_mmt.specs.declared.decoder.place.Found.{Found}
 use Rattle.isdb_mmt.specs.declared.decoder.place.Found.the-variants.{At, Nothing as nowhere}
 use Rattle.isdb_mmt.specs.declared.decoder.limits.Limits.{Limits}
 use Rattle.isdb_mmt.specs.declared.decoder.head.Time.{Time}
-use Rattle.isdb_mmt.specs.declared.decoder.counts.Counters.{Counters}
 use Rattle.isdb_mmt.specs.declared.decoder.media.Media.{Media}
 use Rattle.isdb_mmt.specs.declared.decoder.control.Control.{Control}
-use Rattle.isdb_mmt.specs.declared.decoder.section.KeptSection.{KeptSection}
 use Rattle.isdb_mmt.specs.declared.decoder.readings.CountersReading.{CountersReading}
 use Rattle.isdb_mmt.specs.declared.decoder.readings.CountersReading.the-variants.{Refused as countersRefused, Counters as theCounters}
 use Rattle.isdb_mmt.specs.declared.decoder.readings.TimeReading.{TimeReading}
@@ -43,7 +39,6 @@ use Rattle.isdb_mmt.specs.declared.decoder.readings.CountReading.{CountR
 use Rattle.isdb_mmt.specs.declared.decoder.readings.CountReading.the-variants.{Refused as countRefused, Count}
 use Rattle.isdb_mmt.specs.declared.decoder.readings.NameReading.{NameReading}
 use Rattle.isdb_mmt.specs.declared.decoder.readings.NameReading.the-variants.{Refused as nameRefused, Nothing as noName, Name}
-use Rattle.isdb_mmt.specs.declared.decoder.readings.MpuRange.{MpuRange}
 use Rattle.isdb_mmt.specs.declared.decoder.readings.MaybeRange.{MaybeRange}
 use Rattle.isdb_mmt.specs.declared.decoder.readings.MaybeRange.the-variants.{None as noRange, Some as someRange}
 use Rattle.isdb_mmt.specs.declared.decoder.readings.MediaState.{MediaState}
@@ -57,7 +52,6 @@ use Rattle.isdb_mmt.specs.declared.decoder.readings.ControlReading.{Cont
 use Rattle.isdb_mmt.specs.declared.decoder.readings.ControlReading.the-variants.{Refused as controlRefused, Nothing as noControl, Control as theControl}
 use Rattle.isdb_mmt.specs.declared.decoder.readings.TableReading.{TableReading}
 use Rattle.isdb_mmt.specs.declared.decoder.readings.TableReading.the-variants.{Refused as tableRefused, Nothing as noTable, Bytes as theBytes}
-use Rattle.isdb_mmt.specs.declared.decoder.readings.CarriedAsset.{CarriedAsset}
 use Rattle.isdb_mmt.specs.declared.decoder.readings.AssetReading.{AssetReading}
 use Rattle.isdb_mmt.specs.declared.decoder.readings.AssetReading.the-variants.{Refused as assetRefused, Nothing as noAsset, Asset as theAsset}
 

@@ -2,14 +2,14 @@
 -- of them (proofs/Useless.antt). Each is caught with one or two packets, which this decoder takes, in a session opened for nine.
 use Prim.Native.Nat.{ℕ, suc}
 use mathlib.Core.Path.{_≡_}
-use mathlib.Core.List.{List, [], _∷_}
+use mathlib.Core.List.{List, []}
 use Rattle.isdb_mmt.specs.Packet.{Bytes}
 use Rattle.isdb_mmt.specs.Objects.{Rec}
 use Rattle.isdb_mmt.specs.Book.{deliveredOf}
 use Rattle.isdb_mmt.specs.Session.{Session}
 use Rattle.isdb_mmt.specs.Records.{readRows}
 use Rattle.isdb_mmt.specs.Push.{Input, asks}
-use Rattle.isdb_mmt.specs.Readings.{sectionRead, Told, nothing, toldBy}
+use Rattle.isdb_mmt.specs.Readings.{sectionRead, nothing, toldBy}
 use Rattle.isdb_mmt.specs.Calls.{lostIn, Decoder, Demand3}
 use Rattle.isdb_mmt.specs.Cases.{completeOf, headOf, ab, cd}
 use Rattle.isdb_mmt.specs.ControlCases.{nit1}
