@@ -1,6 +1,7 @@
 //! Feeds pushed through the Rust's decoder. A feed is a line with the setting (`1`: scrambled payloads are passed on), then lines of
 //! `KIND HEX` up to a line `--`. For each it writes the numbers that tests/oracle/feeds compares, `|`, and the keys that are kept,
-//! with the version and the bytes of each behind another `|`.
+//! with the version and the bytes of each behind another `|`; behind a last one, for some packet ids, the asset that each carries: the
+//! id, then 0, or 1, the service id and 1 or 0 for none, the asset's type, the length of its id and the id.
 //!
 //! The decoder keeps tables parsed. Their bytes are found among those that the feed carries, and must parse to what is kept.
 use isdb_mmt::decoder::Decoder;
@@ -151,6 +152,26 @@ fn record(m: &Mfu) -> Vec<u64> {
     v
 }
 
+/// What `asset_of` answers of every packet id that a kept MPT names, and of two more.
+fn carried_assets(d: &Decoder) -> Vec<u64> {
+    let mut ids: Vec<u16> = d.mpts.values().flat_map(|m| m.assets.iter().filter_map(|a| a.packet_id())).collect();
+    ids.extend([0xF100, 0xF101]);
+    ids.sort_unstable();
+    ids.dedup();
+    let one = |id: u16| {
+        let mut v = vec![u64::from(id)];
+        match d.asset_of(id) {
+            None => v.push(0),
+            Some((service, a)) => {
+                v.extend([1, service.map_or(0, |s| 1 + u64::from(s)), u64::from(u32::from_be_bytes(a.asset_type))]);
+                v.extend(spelt(Some(&a.asset_id)));
+            }
+        }
+        v
+    };
+    ids.into_iter().flat_map(one).collect()
+}
+
 fn words(v: impl Iterator<Item = u64>) -> String {
     v.map(|x| x.to_string()).collect::<Vec<_>>().join(" ")
 }
@@ -185,7 +206,7 @@ fn answer(feed: &str) -> String {
     v.extend([keys.len() as u64, d.other_tables.values().sum()]);
     v.extend([0, 0x10, 0x21, 0x81, 0xA2, 0xC0].map(|id| d.other_tables.get(&id).copied().unwrap_or(0)));
     let (of, bytes) = (words(keys.iter().map(|k| k.0)), words(keys.iter().flat_map(|k| k.1.clone())));
-    format!("{}|{of}|{bytes}", words(v.into_iter()))
+    format!("{}|{of}|{bytes}|{}", words(v.into_iter()), words(carried_assets(&d).into_iter()))
 }
 
 fn main() {
