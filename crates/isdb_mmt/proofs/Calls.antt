@@ -2,7 +2,7 @@
 -- that passes question 5, and what it keeps parses. Assumes nothing.
 use Prim.Native.Nat.{ℕ, _+_}
 use mathlib.Core.Path.{_≡_, refl, sym, ap, _∙_}
-use mathlib.Core.Bool.{Bool, true, false, not}
+use mathlib.Core.Bool.{Bool, true, false, not, cond}
 use mathlib.Core.Option.{Option, none, some}
 use mathlib.Core.List.{List, [], _∷_, _++_}
 use native.Mathlib.Omega.{arith}
@@ -20,14 +20,16 @@ use Rattle.isdb_mmt.specs.Book.{wellFormed}
 use Rattle.isdb_mmt.specs.Demand.{pushAll, giveAll, EverySmall, Keeps, never, keeps, Holds}
 use Rattle.isdb_mmt.specs.Limits.{asked}
 use Rattle.isdb_mmt.specs.Layout.{mediaPlaces, mediaSize, controlPlaces, controlSize, sectionPlaces, sectionSize}
-use Rattle.isdb_mmt.specs.Session.{Session, limitsOf, usedOf, timeOf, mediaAt, mediaPlaceOf, controlPlaceOf, sectionPlaceOf}
+use Rattle.isdb_mmt.specs.Session.{Session, limitsOf, usedOf, countersOf, timeOf, mediaAt, mediaPlaceOf, controlPlaceOf, sectionPlaceOf}
 use Rattle.isdb_mmt.specs.Check.{mediaIn, controlsIn, sectionsIn, lengthsOf, sound}
 use Rattle.isdb_mmt.specs.View.{assetEntry, controlEntry, sectionEntry, viewBy, view}
 use Rattle.isdb_mmt.specs.Opening.{openedSession}
 use Rattle.isdb_mmt.specs.Octets.{Octets, Lent}
 use Rattle.isdb_mmt.specs.Records.{readRows}
 use Rattle.isdb_mmt.specs.Leaves.{packetLeaves}
-use Rattle.isdb_mmt.specs.Push.{Input, packetOf, asks, Taken, handed as handedBy}
+use Rattle.isdb_tlv.specs.Guards.{_<?_, _≤?_}
+use Rattle.isdb_mmt.specs.Needs.{needs}
+use Rattle.isdb_mmt.specs.Push.{Input, packetOf, mostBytes, hasPlaces, hasAreas, hasOutputs, asksOf, asks, Taken, handed as handedBy}
 use Rattle.isdb_mmt.specs.Readings.{mediaFound, controlFound, countersRead, timeRead, timeAt, countRead, mediaNames, controlNames, keysIn, leastFrom, mostName, nameTold, nextMediaRead, nextControlRead, nextKeyRead, mediaIf, mediaRead, heldAt, heldIf, heldRead, controlIf, controlRead, sectionRead, mptRead, pltRead, totRead, assetRead, timeNumber, nameNumber, mediaNumber, heldNumber, controlNumber, tableNumber, assetNumber, Told, refused, nothing, these, toldBy}
 use Rattle.isdb_mmt.specs.TableReadingLaws.{sectionBytes, mptBytes, handsOut, AsKept}
 use Rattle.isdb_mmt.specs.Calls.{keptIn, droppedIn, lostIn, heldIn, Reading, counters, time, count, nextMedia, nextControl, nextKey, mediaOf, held, controlOf, mpt, plt, tot, section, assetOf, readingNumber, Call, push, read, after, pushes, accepted, handed, AllBytes, leavesOf, replyOf, decoder, PushDetermined, Tells, none-kept, kept, After, Demand3, AllAsModel, AnswersAsModel}
@@ -199,6 +201,24 @@ steps =
       stays = λ s x g o e. stays s x g o e;
     }
 
+-- ---- a session that passes question 5 gets no 5
+
+numbers-other : (a b c d e : Bool) → _≡_ {A = ℕ} (cond a 6 (cond b 7 (cond c 8 (cond d 9 (cond e 10 0))))) 5 → ⊥
+numbers-other true b c d e q = omega arith
+numbers-other false true c d e q = omega arith
+numbers-other false false true d e q = omega arith
+numbers-other false false false true e q = omega arith
+numbers-other false false false false true q = omega arith
+numbers-other false false false false false q = omega arith
+
+never-5 : (s : Session) → sound s ≡ true → (x : Input) → asks s x ≡ 5 → ⊥
+unfolding asks asksOf
+never-5 s ok x e =
+    let l = limitsOf (s .state) in
+    let n = needs (view s) (packetOf x) in
+    numbers-other (not (length (x .bytes) ≤? mostBytes)) (not (countersOf (s .state) .«tlv_packets» <? l .packets)) (not (hasPlaces l (usedOf (s .state)) n))
+    (not (hasAreas l n)) (not (hasOutputs (length (x .rows)) (length (x .out)) n)) (rw ok at e)
+
 -- ---- readings
 
 abbrev keptTold : Option Kept → Told
@@ -314,6 +334,7 @@ module _ (l : Limits) (s : Session) (a : asked l (lengthsOf s) ≡ 0) (o : Lent 
             λ k.
             rw (section-tells s′ (g .session) (g .lent) (g .bound) (g .ready) k) (tells (keptIn s′ k) (wellFormed k (accepted (pushes decoder s0 cs))) (h .keys k));
         session = g .session;
+        next = never-5 s′ (g .session);
         readings = reading-zero s′ (g .session) (g .lent) (g .bound) (g .ready);
       }
 

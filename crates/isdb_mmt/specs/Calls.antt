@@ -197,6 +197,7 @@ pub record After (d : Decoder) (s : Session) (cs : List Call) : Type 0 where
   pub reads : (k : ℕ) → Tells (toldBy (after d s cs .tables) (sectionRead (after d s cs) k)) (wellFormed k (accepted (pushes d s cs)))
   -- calls alone never lead to a 5: not of a push, and not of a reading
   pub session : sound (after d s cs) ≡ true
+  pub next : (x : Input) → asks (after d s cs) x ≡ 5 → ⊥
   pub readings : (r : Reading) → readingNumber (after d s cs) r ≡ 0
 
 -- demand 3, of any decoder; proved of this one in proofs/Calls.antt
