@@ -61,7 +61,7 @@ use Rattle.isdb_mmt.proofs.Demand.{demand}
 -- ---- a push, accepted or not
 
 module _ (s : Session) (x : Input) where
-  reply-number : replyOf s x .number ≡ asks s x
+  pub reply-number : replyOf s x .number ≡ asks s x
   unfolding replyOf
   reply-number = either (eqb (asks s x) 0) (λ t. rw t (sym (eqb-true (asks s x) 0 t))) (λ f. rw f)
 

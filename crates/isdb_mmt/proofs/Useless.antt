@@ -23,15 +23,16 @@ use Rattle.isdb_mmt.specs.Octets.{Octets, Lent}
 use Rattle.isdb_mmt.specs.Records.{readRows}
 use Rattle.isdb_mmt.specs.Push.{Input, packetOf, asks}
 use Rattle.isdb_mmt.specs.Readings.{sectionRead, Told, refused, nothing, these, toldBy}
-use Rattle.isdb_mmt.specs.Calls.{lostIn, heldIn, push, Decoder, after, pushes, accepted, handed, Tells, none-kept, kept, After, Demand3}
+use Rattle.isdb_mmt.specs.Calls.{lostIn, heldIn, push, Decoder, after, pushes, accepted, handed, Tells, none-kept, kept, After, Demand3, decoder, leavesOf}
 use Rattle.isdb_mmt.specs.Cases.{ab, cd}
 use Rattle.isdb_mmt.specs.PushCases.{small, blank, told}
-use Rattle.isdb_mmt.specs.Useless.{first, second, begins, nit, mediaId, nitKey, start, Accepts, recordsIn, objectsIn, then, NotUseless, Refutations, TurnsNoneAway}
+use Rattle.isdb_mmt.specs.Useless.{first, second, begins, nit, mediaId, nitKey, start, Accepts, recordsIn, objectsIn, then, NotUseless, Refutations, TurnsNoneAway, TakesThem}
 use Rattle.isdb_mmt.proofs.Guards.{was-both}
 use Rattle.isdb_mmt.proofs.Brief.{octets-blank}
 use Rattle.isdb_mmt.proofs.Run.{deliveredOf-append}
 use Rattle.isdb_mmt.proofs.Said.{held-said}
 use Rattle.isdb_mmt.proofs.Opening.{opening}
+use Rattle.isdb_mmt.proofs.Calls.{reply-number}
 
 -- ---- what the books say of the packets
 
@@ -159,3 +160,13 @@ takes-nit = refl
 
 pub turns-none-away : TurnsNoneAway
 turns-none-away d h = (h start first ∙ takes-first, h start begins ∙ takes-begins, h start nit ∙ takes-nit)
+
+pub takes-them : TakesThem
+unfolding told leavesOf
+takes-them =
+    record {
+      first = reply-number start first ∙ takes-first;
+      second = reply-number (then decoder) second ∙ refl;
+      begins = reply-number start begins ∙ takes-begins;
+      nit = reply-number start nit ∙ takes-nit;
+    }

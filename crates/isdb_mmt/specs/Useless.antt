@@ -10,7 +10,7 @@ use Rattle.isdb_mmt.specs.Session.{Session}
 use Rattle.isdb_mmt.specs.Records.{readRows}
 use Rattle.isdb_mmt.specs.Push.{Input, asks}
 use Rattle.isdb_mmt.specs.Readings.{sectionRead, nothing, toldBy}
-use Rattle.isdb_mmt.specs.Calls.{lostIn, Decoder, Demand3}
+use Rattle.isdb_mmt.specs.Calls.{lostIn, Decoder, decoder, Demand3}
 use Rattle.isdb_mmt.specs.Cases.{completeOf, headOf, ab, cd}
 use Rattle.isdb_mmt.specs.ControlCases.{nit1}
 use Rattle.isdb_mmt.specs.PushCases.{fresh, input, only}
@@ -72,3 +72,10 @@ AsksOnly d = (s : Session) (x : Input) → d .replies s x .number ≡ asks s x
 
 abbrev pub TurnsNoneAway : Type 0
 TurnsNoneAway = (d : Decoder) → AsksOnly d → Accepts d start first × Accepts d start begins × Accepts d start nit
+
+-- this decoder takes all of them, the second unit behind the first, so that nothing here is said of packets that none would take
+pub record TakesThem : Type 0 where
+  pub first : Accepts decoder start first
+  pub second : Accepts decoder (then decoder) second
+  pub begins : Accepts decoder start begins
+  pub nit : Accepts decoder start nit
