@@ -6,7 +6,7 @@ use mathlib.Core.Option.{none, some}
 use mathlib.Core.List.{List, [], _∷_, _++_, map}
 use lib.ListN.{length}
 use Rattle.isdb_tlv.specs.Fields.{bytesOf}
-use Rattle.isdb_mmt.specs.Objects.{Mfu, continued, grown, unitDoes}
+use Rattle.isdb_mmt.specs.Objects.{Mfu, continued, grown, effectOf}
 use Rattle.isdb_mmt.specs.Model.{opened}
 use Rattle.isdb_mmt.specs.Demand.{packetsOf, pushAll}
 use Rattle.isdb_mmt.specs.Cases.{told, left, passed, sections, needed, given, tables, asks, clearly, headOf, lastOf, completeOf, unreadable, scrambledOf, payload, mediaNeeds, ab, cd}
@@ -50,14 +50,14 @@ scrambled-passed = refl
 
 -- an object of 16,777,216 bytes is held
 -- wrong: .drops ≡ 0 => .drops ≡ 1 (one byte fewer)
-pub object-most : (h u : Mfu) → length (h .bytes) ≡ 16777210 → length (u .bytes) ≡ 6 → unitDoes Middle (some h) u .drops ≡ 0
-unfolding unitDoes continued grown
+pub object-most : (h u : Mfu) → length (h .bytes) ≡ 16777210 → length (u .bytes) ≡ 6 → effectOf Middle (some h) u .drops ≡ 0
+unfolding effectOf continued grown
 object-most h u p q = rw (p, q) refl
 
 -- an object of 16,777,217 bytes is dropped
 -- wrong: .drops ≡ 1 => .drops ≡ 0 (one byte more)
-pub object-above : (h u : Mfu) → length (h .bytes) ≡ 16777210 → length (u .bytes) ≡ 7 → unitDoes Last (some h) u .drops ≡ 1
-unfolding unitDoes continued grown
+pub object-above : (h u : Mfu) → length (h .bytes) ≡ 16777210 → length (u .bytes) ≡ 7 → effectOf Last (some h) u .drops ≡ 1
+unfolding effectOf continued grown
 object-above h u p q = rw (p, q) refl
 
 -- a section whose body fails is not kept, and its version change is counted

@@ -8,7 +8,7 @@ use Rattle.isdb_tlv.specs.Fields.{bytesOf}
 use Rattle.isdb_tlv.specs.Bytes.{be}
 use Rattle.isdb_mmt.specs.Part.{part}
 use Rattle.isdb_mmt.specs.Mpu.{fragmentCode, fragmentType, indicatorCode, indicator, completesOf, payloadHeader, declaredOf, unitIn, unitAt, unitStep, unitsFrom, unitsOf, counted, follows, lostFrom}
-use Rattle.isdb_mmt.specs.Message.{divisionOf, fragmentOf, pieceAt, paTables, sectionTable, contentOf, tableAt}
+use Rattle.isdb_mmt.specs.Message.{divisionOf, fragmentOf, aggregatedAt, paTables, sectionTable, contentOf, tableAt}
 use Rattle.isdb_mmt.specs.declared.maybe.MaybeU32.the-variants.{None as noU32, Some as someU32}
 use Rattle.isdb_mmt.specs.declared.mpu.FragmentType.the-variants.{MpuMetadata, MovieFragmentMetadata, Mfu, Reserved}
 use Rattle.isdb_mmt.specs.declared.mpu.FragmentationIndicator.the-variants.{Complete, Head, Middle, Last}
@@ -18,7 +18,7 @@ use Rattle.isdb_mmt.specs.declared.mpu.MaybeMfu.the-variants.{None as noMfu, So
 use Rattle.isdb_mmt.specs.declared.mpu.UnitStep.the-variants.{End, Malformed, Unit as unit}
 use Rattle.isdb_mmt.specs.declared.mpu.UnitCount.the-variants.{Malformed as notWhole, Count}
 use Rattle.isdb_mmt.specs.declared.message.Division.the-variants.{Undivided, First as first, Middle as middle, Last as last}
-use Rattle.isdb_mmt.specs.declared.message.PieceStep.the-variants.{End as noMore, Malformed as pastEnd, Piece}
+use Rattle.isdb_mmt.specs.declared.message.MessageStep.the-variants.{End as noMore, Malformed as pastEnd, Message}
 use Rattle.isdb_mmt.specs.declared.message.Content.the-variants.{Malformed as badMessage, Nothing, Table as oneTable, Tables}
 use Rattle.isdb_mmt.specs.declared.message.TableStep.the-variants.{End as noTable, Malformed as badTable, Table as table}
 
@@ -118,18 +118,18 @@ pub fragment-of : fragmentOf 0xC2 ≡ record { division = last; «long_length» 
 unfolding divisionOf
 fragment-of = refl
 
--- message::next_piece: a message of one byte behind a length of two
+-- message::next_message: a message of one byte behind a length of two
 -- wrong: part 2 1 => part 0 3 (with its length)
 -- wrong: 3 => 2 (behind the length)
-pub next-piece : pieceAt (bytesOf 3 0x000190) false 0 ≡ Piece (part 2 1) 3
-unfolding bytesOf be pieceAt
-next-piece = refl
+pub next-message : aggregatedAt (bytesOf 3 0x000190) false 0 ≡ Message (part 2 1) 3
+unfolding bytesOf be aggregatedAt
+next-message = refl
 
--- message::next_piece: a tail too short for a length is dropped
+-- message::next_message: a tail too short for a length is dropped
 -- wrong: noMore => pastEnd (as mmtp::messages has it)
-pub next-piece-tail : pieceAt (bytesOf 4 0x00019000) false 3 ≡ noMore
-unfolding bytesOf be pieceAt
-next-piece-tail = refl
+pub next-message-tail : aggregatedAt (bytesOf 4 0x00019000) false 3 ≡ noMore
+unfolding bytesOf be aggregatedAt
+next-message-tail = refl
 
 -- message::content_of: the tables of a PA message stand behind 1 + 4n bytes
 -- wrong: 5 => 4 (without n itself)

@@ -8,13 +8,13 @@ use mathlib.Core.List.{List, [], _∷_, _++_, map}
 use native.Mathlib.Omega.{arith}
 use lib.ListN.{length}
 use Rattle.isdb_tlv.specs.Fields.{Field, field, written, Fit}
-use Rattle.isdb_mmt.specs.Packet.{Bytes, Media as MediaPacket, Ctl, Packet, classify, ipError, ntp, nonMmtp, media, message, control, other}
+use Rattle.isdb_mmt.specs.Packet.{Bytes, MpuPacket, MessagePacket, Packet, classify, ipError, ntp, nonMmtp, media, message, control, other}
 use Rattle.isdb_mmt.specs.Maps.{find, put, orElse}
-use Rattle.isdb_mmt.specs.Joins.{Join}
+use Rattle.isdb_mmt.specs.Joins.{PartialMessage}
 use Rattle.isdb_mmt.specs.Objects.{Mfu, Asset, Rec, fresh, assetAfter}
-use Rattle.isdb_mmt.specs.Kept.{Kept, Store}
+use Rattle.isdb_mmt.specs.Kept.{Kept, KeptTables}
 use Rattle.isdb_mmt.specs.Model.{State, Control as ControlState, opened, assetOf, controlOf, idleControl, pushed, gives}
-use Rattle.isdb_mmt.specs.Needs.{joinLength, needs}
+use Rattle.isdb_mmt.specs.Needs.{partialLength, needs}
 use Rattle.isdb_mmt.specs.Demand.{pushAll, giveAll}
 use Rattle.isdb_mmt.specs.Limits.{asked}
 use Rattle.isdb_mmt.specs.Layout.{mostCount}
@@ -25,11 +25,11 @@ use Rattle.isdb_mmt.specs.View.{assetEntry, controlEntry, sectionEntry, 
 use Rattle.isdb_mmt.specs.Opening.{openedSession}
 use Rattle.isdb_mmt.specs.Octets.{Octets, Lent}
 use Rattle.isdb_mmt.specs.Placing.{placeFor, tableLength, controlFor, latestFor, countersFor}
-use Rattle.isdb_mmt.specs.MediaPush.{heldOver, withUsed, oneMore, withPackets, withPlace, mediaSeat, leavesAt, assetNext, mediaLeaves}
-use Rattle.isdb_mmt.specs.Leaves.{joinedIn, keptPlace, usedFor, withControl, sectionRows, withSections, withLatest, withTime, withCounters, stateOfTables, bytesOver, keptOver, latestOver, countedIn, timeLeaves, controlLeaves, messageIn, controlSeat, messageAt, messageLeaves, packetLeaves}
+use Rattle.isdb_mmt.specs.MediaPush.{heldOver, withUsed, oneMore, withPackets, withPlace, mediaPlaceFor, leavesAt, assetNext, mediaLeaves}
+use Rattle.isdb_mmt.specs.Leaves.{joinedIn, keptPlace, usedFor, withControl, sectionRows, withSections, withLatest, withTime, withCounters, stateOfTables, bytesOver, keptOver, latestOver, countedIn, timeLeaves, controlLeaves, messageIn, controlPlaceFor, messageAt, messageLeaves, packetLeaves}
 use Rattle.isdb_mmt.specs.Push.{Input, packetOf, asks, Fits, Taken, leavesAll, handed, handedAll, AllTaken, AllBytes, packetsOf, AsModel, Demand2}
-use Rattle.isdb_mmt.specs.declared.decoder.place.Seat.{Seat}
-use Rattle.isdb_mmt.specs.declared.decoder.place.Seat.the-variants.{Old, New, Full}
+use Rattle.isdb_mmt.specs.declared.decoder.place.PlaceFor.{PlaceFor}
+use Rattle.isdb_mmt.specs.declared.decoder.place.PlaceFor.the-variants.{Own, Free, NoneFree}
 use Rattle.isdb_mmt.specs.declared.decoder.limits.Limits.{Limits}
 use Rattle.isdb_mmt.proofs.Limits.{passed, Passed}
 use Rattle.isdb_mmt.proofs.Checks.{sound-session}
@@ -42,7 +42,7 @@ use Rattle.isdb_mmt.proofs.Outs.{HeldOk, TimeOk, PacketOk, packet-ok}
 use Rattle.isdb_mmt.proofs.PlaceFits.{TableOk, KeptOk, section-place, control-place}
 use Rattle.isdb_mmt.proofs.Storable.{Storable, HasAreas, control-of, asset-next, storable-view, storable-next}
 use Rattle.isdb_mmt.proofs.SoundFits.{media-fits, counters-fit, rows-read}
-use Rattle.isdb_mmt.proofs.Seats.{length-media, length-indexed}
+use Rattle.isdb_mmt.proofs.PlacesFor.{length-media, length-indexed}
 use Rattle.isdb_mmt.proofs.TableAreas.{SectionFits, AllKept}
 use Rattle.isdb_mmt.proofs.StateWrites.{TablesFit}
 use Rattle.isdb_mmt.proofs.MessageLeaves.{length-controls, length-sections}
@@ -59,7 +59,7 @@ table-short : (area : ℕ) (o : Option Bytes) → TableOk area o → tableLength
 table-short area none h = omega arith
 table-short area (some b) h = h .0
 
-join-short : (area : ℕ) (o : Option Join) → JoinFits area o → joinLength o ≤ area
+join-short : (area : ℕ) (o : Option PartialMessage) → JoinFits area o → partialLength o ≤ area
 join-short area none h = omega arith
 join-short area (some j) h = h .0
 
@@ -140,7 +140,7 @@ module _ (s : Session) (q : Sound (s .state) (s .others) (lengthsOf s)) (h : Len
   laid-lent area at none k t y = y
   laid-lent area at (some u) k t y = octets-over at u t (k .1) y
 
-  joined-lent : (area at : ℕ) (u : Option Join) → JoinFits area u → (t : Bytes) → Octets t → Octets (bytesOver at (joinedIn u) t)
+  joined-lent : (area at : ℕ) (u : Option PartialMessage) → JoinFits area u → (t : Bytes) → Octets t → Octets (bytesOver at (joinedIn u) t)
   joined-lent area at none k t y = y
   joined-lent area at (some j) k t y = octets-over at (j .bytes) t (k .1) y
 
@@ -165,15 +165,15 @@ module _ (s : Session) (q : Sound (s .state) (s .others) (lengthsOf s)) (h : Len
   abbrev packets : List Field
   packets = field 8 (countersOf (s .state) .«tlv_packets» + 1) ∷ []
 
-  seat-lent : (id : ℕ) (a : Asset) → HeldOk (a .held) → (x : Seat) → Lent (leavesAt s id a x)
-  seat-lent id a k (Old i) =
+  place-for-lent : (id : ℕ) (a : Asset) → HeldOk (a .held) → (x : PlaceFor) → Lent (leavesAt s id a x)
+  place-for-lent id a k (Own i) =
       record {
         state = octets-over _ _ _ (octets-written packets) (octets-over _ _ _ (octets-written (mediaFields (placeFor id a))) (h .state));
         objects = held-lent (i * l .«mfu_area») (a .held) k (s .objects) (h .objects);
         messages = h .messages;
         tables = h .tables;
       }
-  seat-lent id a k (New i) =
+  place-for-lent id a k (Free i) =
       record {
         state =
             octets-over _ _ _ (octets-written packets)
@@ -182,7 +182,7 @@ module _ (s : Session) (q : Sound (s .state) (s .others) (lengthsOf s)) (h : Len
         messages = h .messages;
         tables = h .tables;
       }
-  seat-lent id a k Full = h
+  place-for-lent id a k NoneFree = h
 
   message-in : (m : State) → Storable l (mostCount + mostAdded) m → (id : ℕ) → id < 65536 → (i : ℕ) → Lent (messageIn s m id i)
   unfolding messageIn
@@ -202,10 +202,10 @@ module _ (s : Session) (q : Sound (s .state) (s .others) (lengthsOf s)) (h : Len
             (kept-lent (l .«table_area») (m .store .kept) (k .store .kept) 0 (s .tables) (h .tables))));
       }
 
-  message-lent : (m : State) → Storable l (mostCount + mostAdded) m → (id : ℕ) → id < 65536 → (x : Seat) → Lent (messageAt s m id x)
-  message-lent m k id small (Old i) = message-in m k id small i
-  message-lent m k id small (New i) = message-in m k id small i
-  message-lent m k id small Full = h
+  message-lent : (m : State) → Storable l (mostCount + mostAdded) m → (id : ℕ) → id < 65536 → (x : PlaceFor) → Lent (messageAt s m id x)
+  message-lent m k id small (Own i) = message-in m k id small i
+  message-lent m k id small (Free i) = message-in m k id small i
+  message-lent m k id small NoneFree = h
 
   with-state : (t : List ℕ) → Octets t → Lent (record { state = t; others = s .others; objects = s .objects; messages = s .messages; tables = s .tables })
   with-state t y = record { state = y; objects = h .objects; messages = h .messages; tables = h .tables }
@@ -222,10 +222,10 @@ module _ (s : Session) (q : Sound (s .state) (s .others) (lengthsOf s)) (h : Len
       let y : PacketOk (media m) = rw e at (packet-ok kind b (omega (arith, short)) o) in
       let z : Plain (media m) = rw e at (plain-of kind b (omega (arith, short)) o) in
       let a = asset-next l mostCount (view s) (storable-view s q h) m y z (rw e at (f .object)) in
-      seat-lent (m .id) (assetAfter (assetOf (m .id) (view s)) m) (a .1 .held) (mediaSeat (s .state) (m .id))
+      place-for-lent (m .id) (assetAfter (assetOf (m .id) (view s)) m) (a .1 .held) (mediaPlaceFor (s .state) (m .id))
   by-packet (message c) e k =
       let y : PacketOk (message c) = rw e at (packet-ok kind b (omega (arith, short)) o) in
-      message-lent (pushed (view s) (message c)) k (c .id) (y .0) (controlSeat (s .state) (c .id))
+      message-lent (pushed (view s) (message c)) k (c .id) (y .0) (controlPlaceFor (s .state) (c .id))
   by-packet (control bs) e k =
       record {
         state = tables-lent (pushed (view s) (control bs)) (s .state) (h .state);

@@ -16,7 +16,7 @@ use Rattle.isdb_tlv.proofs.Guards.{cond-elim}
 use Rattle.isdb_mmt.specs.Part.{part, partOf}
 use Rattle.isdb_mmt.specs.Packet.{Bytes}
 use Rattle.isdb_mmt.specs.Mpu.{unitStep, item, also, unitsFrom, unitsOf}
-use Rattle.isdb_mmt.specs.Message.{prefixWidth, pieceAt, bodyPart, paTables, sectionTable, contentOf, tableAt, Pieces, pieceItem, piecesFrom, tableItem, tablesFrom}
+use Rattle.isdb_mmt.specs.Message.{prefixWidth, aggregatedAt, bodyPart, paTables, sectionTable, contentOf, tableAt, Aggregated, aggregatedItem, aggregatedFrom, tableItem, tablesFrom}
 use Rattle.isdb_mmt.specs.Section.{length12, longSectionOf, entriesFrom, entriesTold}
 use Rattle.isdb_mmt.specs.Eit.{eitOf, eitIn, eitBody}
 use Rattle.isdb_mmt.specs.Sdt.{sdtOf, sdtIn, sdtBody}
@@ -24,12 +24,12 @@ use Rattle.isdb_mmt.specs.Bit.{bitOf, bitIn, bitBody}
 use Rattle.isdb_mmt.specs.Tot.{totOf, totFields}
 use Rattle.isdb_mmt.specs.Mpt.{mptOf, mptIn, mptTable as mptWhole, mptAssets, declaredLength, locationsEnd, behindLocation, assetFields, assetBehind, assetAt, assetThen, assetsFrom}
 use Rattle.isdb_mmt.specs.Location.{locationOf}
-use Rattle.isdb_mmt.specs.Joins.{Join, Cut, partsOf, tablesIn, tablesOf, tablesOfAll, messagesOf, cutOf}
-use Rattle.isdb_mmt.specs.Kept.{sectionOf, bodyRead, Body, Table, emptyTable, mptTable, pltTable, totTable, cutSection, aSection, otherTable, longTable, tableById, tableRead}
+use Rattle.isdb_mmt.specs.Joins.{PartialMessage, TablesFound, partsOf, tablesIn, tablesOf, tablesOfAll, messagesOf, cutOf}
+use Rattle.isdb_mmt.specs.Kept.{sectionOf, bodyRead, Body, Table, emptyTable, mptTable, pltTable, totTable, truncatedSection, aSection, otherTable, longTable, tableById, tableRead}
 use Rattle.isdb_mmt.specs.declared.part.Part.{Part}
 use Rattle.isdb_mmt.specs.declared.location.Located.{Located}
 use Rattle.isdb_mmt.specs.declared.location.Located.the-variants.{None as notLocated, Some as located}
-use Rattle.isdb_mmt.specs.declared.message.PieceStep.{PieceStep}
+use Rattle.isdb_mmt.specs.declared.message.MessageStep.{MessageStep}
 use Rattle.isdb_mmt.specs.declared.message.TableStep.{TableStep}
 use Rattle.isdb_mmt.specs.declared.message.TableStep.the-variants.{Table as table}
 use Rattle.isdb_mmt.specs.declared.message.Content.{Content}
@@ -50,7 +50,7 @@ use Rattle.isdb_mmt.specs.declared.table.mpt.Place.the-variants.{None as
 use Rattle.isdb_mmt.specs.declared.table.mpt.AssetStep.{AssetStep}
 use Rattle.isdb_mmt.specs.declared.table.mpt.AssetStep.the-variants.{Malformed as badAsset, Asset as asset}
 use Rattle.isdb_mmt.proofs.Units.{Inside, unit-inside}
-use Rattle.isdb_mmt.proofs.Pieces.{width-ge}
+use Rattle.isdb_mmt.proofs.AggregatedMessages.{width-ge}
 use Rattle.isdb_mmt.proofs.Entries.{broken-le, breaks-le}
 
 -- ---- a walk whose answer grows by no more than it moves ahead
@@ -124,23 +124,23 @@ length-parts s [] = refl
 length-parts s (p ∷ ps) = omega (arith, length-parts s ps)
 
 -- the messages, their bytes and what is malformed
-abbrev spread : Pieces → ℕ
+abbrev spread : Aggregated → ℕ
 spread l = totalParts (l .found) + length (l .found) + l .malformed
 
 -- of tables, which have no prefix: how many, what is malformed, and apart from that their bytes
-abbrev count : Pieces → ℕ
+abbrev count : Aggregated → ℕ
 count l = length (l .found) + l .malformed
 
-abbrev covered : Pieces → ℕ
+abbrev covered : Aggregated → ℕ
 covered l = totalParts (l .found)
 
 module _ (s : Bytes) (long : Bool) where
-  piece-grows : (at : ℕ) → Grows spread (length s) at (pieceItem (pieceAt s long at))
-  unfolding pieceAt
+  piece-grows : (at : ℕ) → Grows spread (length s) at (aggregatedItem (aggregatedAt s long at))
+  unfolding aggregatedAt
   piece-grows at =
       let w = prefixWidth long in
       let n = be w s at in
-      let G : PieceStep → Type 0 = λ d. Grows spread (length s) at (pieceItem d) in
+      let G : MessageStep → Type 0 = λ d. Grows spread (length s) at (aggregatedItem d) in
       cond-elim G (ltb (length s - at) w) (λ e. omega arith) (λ e.
       let a = ltb-false (length s - at) w e in
       let g = width-ge long in
@@ -148,10 +148,10 @@ module _ (s : Bytes) (long : Bool) where
       let b = ltb-false (length s - (at + w)) n d in
       (omega arith, omega arith, λ r. omega arith)))
 
-  pieces-le : spread (piecesFrom s long 0) ≤ length s
-  unfolding piecesFrom
+  pieces-le : spread (aggregatedFrom s long 0) ≤ length s
+  unfolding aggregatedFrom
   pieces-le =
-      omega (arith, grows-within spread (length s) (λ p. pieceItem (pieceAt s long p)) (record { found = []; malformed = 0 }) refl piece-grows (suc (length s)) 0)
+      omega (arith, grows-within spread (length s) (λ p. aggregatedItem (aggregatedAt s long p)) (record { found = []; malformed = 0 }) refl piece-grows (suc (length s)) 0)
 
 module _ (s : Bytes) where
   table-counts : (at : ℕ) → Grows count (length s) at (tableItem (tableAt s at))
@@ -187,7 +187,7 @@ module _ (s : Bytes) where
       omega (arith, grows-within covered (length s) (λ p. tableItem (tableAt s p)) (record { found = []; malformed = 0 }) refl table-covers (suc (length s)) at)
 
 -- of a message: its tables, their bytes, what is malformed
-pub record Fills (n bad : ℕ) (c : Cut) : Type 0 where
+pub record Fills (n bad : ℕ) (c : TablesFound) : Type 0 where
   pub many : length (c .tables) ≤ n
   pub long : total (c .tables) ≤ n
   pub malformed : c .malformed ≤ bad
@@ -242,10 +242,10 @@ fills-all (m ∷ ms) =
       malformed = omega (arith, x .malformed, y .malformed);
     }
 
-pub fills-cut : (j : Join) → Fills (length (j .bytes)) (suc (length (j .bytes))) (cutOf j)
+pub fills-cut : (j : PartialMessage) → Fills (length (j .bytes)) (suc (length (j .bytes))) (cutOf j)
 unfolding cutOf messagesOf
 fills-cut j =
-    let ps = piecesFrom (j .bytes) (j .long) 0 in
+    let ps = aggregatedFrom (j .bytes) (j .long) 0 in
     let h = pieces-le (j .bytes) (j .long) in
     let x = fills-all (partsOf (j .bytes) (ps .found)) in
     let t = total-parts (j .bytes) (ps .found) in
@@ -388,7 +388,7 @@ breaksOf emptyTable = 0
 breaksOf (mptTable ok n b) = n
 breaksOf (pltTable ok b) = 0
 breaksOf (totTable ok c n b) = n
-breaksOf cutSection = 0
+breaksOf truncatedSection = 0
 breaksOf (aSection x) = x .breaks
 breaksOf (otherTable id) = 0
 

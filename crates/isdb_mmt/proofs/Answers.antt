@@ -1,4 +1,4 @@
--- The seat, the place and the answer of a media packet, as the code has them. Assumes nothing.
+-- The place, the place and the answer of a media packet, as the code has them. Assumes nothing.
 use Prim.Native.Nat.{ℕ, _+_, _-_, _*_, _≤_, _<_}
 use mathlib.Core.Path.{_≡_, sym, ap, _∙_}
 use mathlib.Core.Bool.{Bool, true, false, cond}
@@ -15,9 +15,9 @@ use Rattle.isdb_mmt.specs.Layout.{mostMediaIds, countersPlace, mediaPlac
 use Rattle.isdb_mmt.specs.Lent.{over}
 use Rattle.isdb_mmt.specs.Session.{usedOf, countersOf, mediaFields, mediaAt}
 use Rattle.isdb_mmt.specs.MediaPush.{oneMore, withUsed, withPackets}
-use Rattle.isdb_mmt.specs.MediaCommit.{CanSeat, blank, placeIn, indexOf, passesOn, fitsNumber, numberOf, refused, accepted, answerBy, answerOf, Small, stateAfter, CanStore}
-use Rattle.isdb_mmt.specs.declared.decoder.place.Seat.{Seat}
-use Rattle.isdb_mmt.specs.declared.decoder.place.Seat.the-variants.{Old, New, Full}
+use Rattle.isdb_mmt.specs.MediaCommit.{CanTakePlace, blank, placeIn, indexOf, passesOn, fitsNumber, numberOf, refused, accepted, answerBy, answerOf, Small, stateAfter, CanStore}
+use Rattle.isdb_mmt.specs.declared.decoder.place.PlaceFor.{PlaceFor}
+use Rattle.isdb_mmt.specs.declared.decoder.place.PlaceFor.the-variants.{Own, Free, NoneFree}
 use Rattle.isdb_mmt.specs.declared.decoder.head.Used.{Used}
 use Rattle.isdb_mmt.specs.declared.decoder.limits.Limits.{Limits}
 use Rattle.isdb_mmt.specs.declared.decoder.media.Media.{Media}
@@ -28,34 +28,34 @@ use Rattle.isdb_mmt.proofs.Surveys.{one-le}
 
 -- ---- the place
 
-pub seats-there : (s : List ℕ) (l : Limits) (u : Used) → CanSeat s l → u ≡ usedOf s → mediaPlaces + u .«media_ids» * mediaSize ≤ length s
-seats-there s l u h e =
+pub places-for-there : (s : List ℕ) (l : Limits) (u : Used) → CanTakePlace s l → u ≡ usedOf s → mediaPlaces + u .«media_ids» * mediaSize ≤ length s
+places-for-there s l u h e =
     let k : u .«media_ids» ≡ usedOf s .«media_ids» = ap (λ (x : Used). x .«media_ids») e in
     omega (arith, k, h .there .long, h .there .media)
 
-module _ (seat : Seat) (i : ℕ) where
-  pub old-low : seat ≡ Old i → indexOf seat < mostMediaIds → i < mostMediaIds
+module _ (place-for : PlaceFor) (i : ℕ) where
+  pub old-low : place-for ≡ Own i → indexOf place-for < mostMediaIds → i < mostMediaIds
   old-low e h = rw e at h
 
-  pub new-low : seat ≡ New i → indexOf seat < mostMediaIds → i < mostMediaIds
+  pub new-low : place-for ≡ Free i → indexOf place-for < mostMediaIds → i < mostMediaIds
   new-low e h = rw e at h
 
-module _ (l : List ℕ) (seat : Seat) (r : Media) where
-  pub place-old : (i : ℕ) → seat ≡ Old i → r ≡ mediaAt l i → r ≡ placeIn l seat
+module _ (l : List ℕ) (place-for : PlaceFor) (r : Media) where
+  pub place-old : (i : ℕ) → place-for ≡ Own i → r ≡ mediaAt l i → r ≡ placeIn l place-for
   unfolding placeIn
   place-old i e er = er ∙ ap (placeIn l) (sym e)
 
-  pub place-new : (i : ℕ) → seat ≡ New i → r ≡ blank → r ≡ placeIn l seat
+  pub place-new : (i : ℕ) → place-for ≡ Free i → r ≡ blank → r ≡ placeIn l place-for
   unfolding placeIn
   place-new i e er = er ∙ ap (placeIn l) (sym e)
 
-  pub place-none : seat ≡ Full → r ≡ blank → r ≡ placeIn l seat
+  pub place-none : place-for ≡ NoneFree → r ≡ blank → r ≡ placeIn l place-for
   unfolding placeIn
   place-none e er = er ∙ ap (placeIn l) (sym e)
 
 -- ---- the state
 
-module _ (l : List ℕ) (seat : Seat) (can : CanStore l seat) where
+module _ (l : List ℕ) (place-for : PlaceFor) (can : CanStore l place-for) where
   packets-is : (n : ℕ) → n ≡ be 8 l countersPlace → n ≡ countersOf l .«tlv_packets»
   unfolding countersOf
   packets-is n e = e
@@ -66,22 +66,22 @@ module _ (l : List ℕ) (seat : Seat) (can : CanStore l seat) where
   pub can-more : (u : Used) → u ≡ usedOf l → u .«media_ids» ≤ mostMediaIds
   can-more u e = omega (arith, ap (λ (x : Used). x .«media_ids») e, can .used)
 
-  pub can-old : (i : ℕ) → seat ≡ Old i → (i < mostMediaIds) × (stateSize ≤ length l)
-  can-old i e = (old-low seat i e (can .index), can .long)
+  pub can-old : (i : ℕ) → place-for ≡ Own i → (i < mostMediaIds) × (stateSize ≤ length l)
+  can-old i e = (old-low place-for i e (can .index), can .long)
 
-  pub can-new : (i : ℕ) → seat ≡ New i → (i < mostMediaIds) × (stateSize ≤ length l)
-  can-new i e = (new-low seat i e (can .index), can .long)
+  pub can-new : (i : ℕ) → place-for ≡ Free i → (i < mostMediaIds) × (stateSize ≤ length l)
+  can-new i e = (new-low place-for i e (can .index), can .long)
 
-module _ (l : List ℕ) (seat : Seat) (m : Media) (n : ℕ) (en : n ≡ be 8 l countersPlace) (l′ : List ℕ) where
-  pub store-is-old : (i : ℕ) → seat ≡ Old i → l′ ≡ withPackets (n + 1) (over (mediaPlaces + mediaSize * i) (written (mediaFields m)) l)
-      → l′ ≡ stateAfter l m seat
+module _ (l : List ℕ) (place-for : PlaceFor) (m : Media) (n : ℕ) (en : n ≡ be 8 l countersPlace) (l′ : List ℕ) where
+  pub store-is-old : (i : ℕ) → place-for ≡ Own i → l′ ≡ withPackets (n + 1) (over (mediaPlaces + mediaSize * i) (written (mediaFields m)) l)
+      → l′ ≡ stateAfter l m place-for
   unfolding stateAfter countersOf
   store-is-old i e el =
       el ∙ ap (λ k. withPackets (k + 1) (over (mediaPlaces + mediaSize * i) (written (mediaFields m)) l)) en ∙ ap (stateAfter l m) (sym e)
 
-  pub store-is-new : (i : ℕ) → seat ≡ New i → (u : Used) → u ≡ usedOf l → (v : Used) → v ≡ oneMore u
+  pub store-is-new : (i : ℕ) → place-for ≡ Free i → (u : Used) → u ≡ usedOf l → (v : Used) → v ≡ oneMore u
       → l′ ≡ withPackets (n + 1) (withUsed v (over (mediaPlaces + mediaSize * i) (written (mediaFields m)) l))
-      → l′ ≡ stateAfter l m seat
+      → l′ ≡ stateAfter l m place-for
   unfolding stateAfter countersOf
   store-is-new i e u eu v ev el =
       el
@@ -90,9 +90,9 @@ module _ (l : List ℕ) (seat : Seat) (m : Media) (n : ℕ) (en : n ≡ be 8 l c
       (ev ∙ ap oneMore eu)
       ∙ ap (stateAfter l m) (sym e)
 
-pub store-is-none : (l : List ℕ) (seat : Seat) (m : Media) → seat ≡ Full → l ≡ stateAfter l m seat
+pub store-is-none : (l : List ℕ) (place-for : PlaceFor) (m : Media) → place-for ≡ NoneFree → l ≡ stateAfter l m place-for
 unfolding stateAfter
-store-is-none l seat m e = ap (stateAfter l m) (sym e)
+store-is-none l place-for m e = ap (stateAfter l m) (sym e)
 
 -- ---- the number
 
@@ -115,19 +115,19 @@ module _ (area longest rows given records bytes : ℕ) where
       unfolding fitsNumber
       fits-all h = rw (le-ltb area longest a, le-ltb rows (36 * records) b, le-ltb given bytes h)
 
-  pub number-8 : (seat : Seat) → seat ≡ Full → 8 ≡ numberOf seat area longest rows given records bytes
+  pub number-8 : (place-for : PlaceFor) → place-for ≡ NoneFree → 8 ≡ numberOf place-for area longest rows given records bytes
   unfolding numberOf
-  number-8 seat e = ap (λ (s : Seat). numberOf s area longest rows given records bytes) (sym e)
+  number-8 place-for e = ap (λ (s : PlaceFor). numberOf s area longest rows given records bytes) (sym e)
 
-  pub number-old : (seat : Seat) (i r : ℕ) → seat ≡ Old i → r ≡ fitsNumber area longest rows given records bytes
-      → r ≡ numberOf seat area longest rows given records bytes
+  pub number-old : (place-for : PlaceFor) (i r : ℕ) → place-for ≡ Own i → r ≡ fitsNumber area longest rows given records bytes
+      → r ≡ numberOf place-for area longest rows given records bytes
   unfolding numberOf
-  number-old seat i r e er = er ∙ ap (λ (s : Seat). numberOf s area longest rows given records bytes) (sym e)
+  number-old place-for i r e er = er ∙ ap (λ (s : PlaceFor). numberOf s area longest rows given records bytes) (sym e)
 
-  pub number-new : (seat : Seat) (i r : ℕ) → seat ≡ New i → r ≡ fitsNumber area longest rows given records bytes
-      → r ≡ numberOf seat area longest rows given records bytes
+  pub number-new : (place-for : PlaceFor) (i r : ℕ) → place-for ≡ Free i → r ≡ fitsNumber area longest rows given records bytes
+      → r ≡ numberOf place-for area longest rows given records bytes
   unfolding numberOf
-  number-new seat i r e er = er ∙ ap (λ (s : Seat). numberOf s area longest rows given records bytes) (sym e)
+  number-new place-for i r e er = er ∙ ap (λ (s : PlaceFor). numberOf s area longest rows given records bytes) (sym e)
 
 -- ---- the answer
 
@@ -158,18 +158,18 @@ module _ (passed : Bool) (n : ℕ) where
     pub add-bytes : (d : ℕ) → d ≡ cond passed (n - 8) 0 → Fits w64 (d + t .bytes)
     add-bytes d e = record { fits = omega (arith, e, passed-le, s .bytes) }
 
-module _ (seat : Seat) (l : Limits) (scrambled : Bool) (r : Look) (n rows given : ℕ)
+module _ (place-for : PlaceFor) (l : Limits) (scrambled : Bool) (r : Look) (n rows given : ℕ)
     (passed : Bool) (ep : passed ≡ passesOn (l .«pass_scrambled») scrambled (r .header))
     (o d : ℕ) (eo : o ≡ one passed) (ed : d ≡ cond passed (n - 8) 0)
-    (k : ℕ) (ek : k ≡ numberOf seat (l .«mfu_area») (r .units .longest) rows given (o + r .units .records) (d + r .units .bytes)) (a : Answer) where
-  answer-is : a ≡ answerBy k (o + r .units .records) (d + r .units .bytes) → a ≡ answerOf seat l scrambled r n rows given
+    (k : ℕ) (ek : k ≡ numberOf place-for (l .«mfu_area») (r .units .longest) rows given (o + r .units .records) (d + r .units .bytes)) (a : Answer) where
+  answer-is : a ≡ answerBy k (o + r .units .records) (d + r .units .bytes) → a ≡ answerOf place-for l scrambled r n rows given
   unfolding answerOf
   answer-is ea = ea ∙ rw (ek, eo, ed, ep)
 
-  pub answer-yes : k ≡ 0 → a ≡ accepted (o + r .units .records) (d + r .units .bytes) → a ≡ answerOf seat l scrambled r n rows given
+  pub answer-yes : k ≡ 0 → a ≡ accepted (o + r .units .records) (d + r .units .bytes) → a ≡ answerOf place-for l scrambled r n rows given
   answer-yes z ea =
       answer-is (ea ∙ ap (λ b. cond b (accepted (o + r .units .records) (d + r .units .bytes)) (refused k)) (sym (eq-eqb k 0 z)))
 
-  pub answer-no : (k ≡ 0 → ⊥) → a ≡ refused k → a ≡ answerOf seat l scrambled r n rows given
+  pub answer-no : (k ≡ 0 → ⊥) → a ≡ refused k → a ≡ answerOf place-for l scrambled r n rows given
   answer-no z ea =
       answer-is (ea ∙ ap (λ b. cond b (accepted (o + r .units .records) (d + r .units .bytes)) (refused k)) (sym (ne-eqb k 0 z)))

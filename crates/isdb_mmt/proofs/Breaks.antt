@@ -18,7 +18,7 @@ use Rattle.isdb_mmt.specs.Maps.{one}
 use Rattle.isdb_mmt.specs.Desc.{broken}
 use Rattle.isdb_mmt.specs.Lent.{foundFrom}
 use Rattle.isdb_mmt.specs.Section.{length12, longSectionOf, entriesTold, entriesFrom}
-use Rattle.isdb_mmt.specs.Kept.{Section, sectionOf, Body, bodyRead, Table, emptyTable, mptTable, pltTable, totTable, cutSection, aSection, otherTable, longTable, tableById, tableRead}
+use Rattle.isdb_mmt.specs.Kept.{Section, sectionOf, Body, bodyRead, Table, emptyTable, mptTable, pltTable, totTable, truncatedSection, aSection, otherTable, longTable, tableById, tableRead}
 use Rattle.isdb_mmt.specs.Eit.{eitBody, eitIn, eitOf}
 use Rattle.isdb_mmt.specs.Sdt.{sdtBody, sdtIn, sdtOf}
 use Rattle.isdb_mmt.specs.Bit.{bitBody, bitIn, bitOf}
@@ -133,7 +133,7 @@ BreaksIn n emptyTable = Unit {0}
 BreaksIn n (mptTable ok breaks b) = breaks ≤ n
 BreaksIn n (pltTable ok b) = Unit {0}
 BreaksIn n (totTable ok crc breaks b) = breaks ≤ n
-BreaksIn n cutSection = Unit {0}
+BreaksIn n truncatedSection = Unit {0}
 BreaksIn n (aSection x) = x .breaks ≤ n
 BreaksIn n (otherTable id) = Unit {0}
 
@@ -194,7 +194,7 @@ module _ (ks : List KeptSection) (used : ℕ) (eu : length ks ≡ used) where
     small-section : Fine (sectionTold ks x)
     unfolding sectionTold
     small-section =
-        cond-elim Fine (x .headOk) (λ e. small-version (foundFrom 0 (keysOf ks) (x .key)) refl) (λ e.
+        cond-elim Fine (x .headerAndCrcGood) (λ e. small-version (foundFrom 0 (keysOf ks) (x .key)) refl) (λ e.
         cond-elim Fine (x .crcBad)
         (λ z. record { crcErrors = omega arith; malformed = omega arith; changes = omega arith; breaks = omega arith; within = tt })
         (λ z. record { crcErrors = omega arith; malformed = omega arith; changes = omega arith; breaks = omega arith; within = tt }))
@@ -208,7 +208,7 @@ module _ (ks : List KeptSection) (used : ℕ) (eu : length ks ≡ used) where
   small-table m p (pltTable false b) f = record { crcErrors = omega arith; malformed = omega arith; changes = omega arith; breaks = omega arith; within = tt }
   small-table m p (totTable true crc n b) f = record { crcErrors = omega (arith, one-le crc); malformed = omega arith; changes = omega arith; breaks = f; within = tt }
   small-table m p (totTable false crc n b) f = record { crcErrors = omega (arith, one-le crc); malformed = omega (arith, one-le (not crc)); changes = omega arith; breaks = f; within = tt }
-  small-table m p cutSection f = record { crcErrors = omega arith; malformed = omega arith; changes = omega arith; breaks = omega arith; within = tt }
+  small-table m p truncatedSection f = record { crcErrors = omega arith; malformed = omega arith; changes = omega arith; breaks = omega arith; within = tt }
   small-table m p (aSection x) f = small-section x f
   small-table m p (otherTable id) f = record { crcErrors = omega arith; malformed = omega arith; changes = omega arith; breaks = omega arith; within = tt }
 
@@ -217,7 +217,7 @@ module _ (ks : List KeptSection) (used : ℕ) (eu : length ks ≡ used) where
   more n k h (mptTable ok breaks b) f = omega arith
   more n k h (pltTable ok b) f = tt
   more n k h (totTable ok crc breaks b) f = omega arith
-  more n k h cutSection f = tt
+  more n k h truncatedSection f = tt
   more n k h (aSection x) f = omega arith
   more n k h (otherTable id) f = tt
 

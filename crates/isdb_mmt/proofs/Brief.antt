@@ -38,7 +38,7 @@ use Rattle.isdb_mmt.specs.declared.mpu.FragmentType.{FragmentType}
 use Rattle.isdb_mmt.specs.declared.mpu.FragmentType.the-variants.{MpuMetadata, MovieFragmentMetadata, Mfu, Reserved as reservedType}
 use Rattle.isdb_mmt.specs.declared.mpu.PayloadHeader.{PayloadHeader}
 use Rattle.isdb_mmt.specs.declared.mpu.Unit.{Unit as DataUnit}
-use Rattle.isdb_mmt.specs.Packet.{Bytes, Packet, ipError, nonMmtp, media, message, control, other, ntp, headerIn, pieceOf, piecesOf, unitsFor, unitsRead, mediaOf, byType, mmtpIn, toPort, inFlow, datagramIn, byKind, classify, clear, readable}
+use Rattle.isdb_mmt.specs.Packet.{Bytes, Packet, ipError, nonMmtp, media, message, control, other, ntp, headerIn, payloadUnit, payloadUnits, unitsFor, unitsRead, mediaOf, byType, mmtpIn, toPort, inFlow, datagramIn, byKind, classify, clear, readable}
 use Rattle.isdb_tlv.specs.Fields.{Field, bytesOf, written}
 use Rattle.isdb_mmt.specs.Lent.{over}
 use Rattle.isdb_mmt.specs.Session.{Session, limitsFields}
@@ -127,11 +127,11 @@ drop-short n b l = omega (arith, length-drop n b)
 
 -- a media payload
 
-length-pieces : (h : PayloadHeader) (q : Bytes) (us : List DataUnit) → length (map (pieceOf h q) us) ≡ length us
+length-pieces : (h : PayloadHeader) (q : Bytes) (us : List DataUnit) → length (map (payloadUnit h q) us) ≡ length us
 length-pieces h q [] = refl
 length-pieces h q (u ∷ us) = omega (arith, length-pieces h q us)
 
-clear-pieces : (h : PayloadHeader) (q : Bytes) (o : Option (List DataUnit)) → unitCount o < 65536 → length (clear false (piecesOf h q o)) < 65536
+clear-pieces : (h : PayloadHeader) (q : Bytes) (o : Option (List DataUnit)) → unitCount o < 65536 → length (clear false (payloadUnits h q o)) < 65536
 unfolding clear
 clear-pieces h q none l = omega arith
 clear-pieces h q (some us) l = omega (arith, length-pieces h q us)

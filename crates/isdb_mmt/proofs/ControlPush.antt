@@ -18,7 +18,7 @@ use Rattle.isdb_tlv.specs.declared.si.Section.{Section as Found}
 use Rattle.isdb_tlv.proofs.Guards.{either}
 use Rattle.isdb_mmt.specs.Layout.{mostSections, mostMessageArea, mostCount, tableIds, countersPlace, sectionPlaces, sectionSize, stateSize}
 use Rattle.isdb_mmt.specs.Packet.{Bytes, Packet, control}
-use Rattle.isdb_mmt.specs.Kept.{Kept, Counters as Counts, Store, Table, storedAll, countedAll}
+use Rattle.isdb_mmt.specs.Kept.{Kept, Counters as Counts, KeptTables, Table, storedAll, countedAll}
 use Rattle.isdb_mmt.specs.GivenTables.{controlTables}
 use Rattle.isdb_mmt.specs.Model.{State, packetCounted, pushed, gives}
 use Rattle.isdb_mmt.specs.Needs.{Needs, needs, tablesNeed}
@@ -48,7 +48,7 @@ use Rattle.isdb_mmt.specs.declared.decoder.walk.Going.{Going}
 use Rattle.isdb_mmt.proofs.Limits.{Passed}
 use Rattle.isdb_mmt.proofs.Checks.{count-was}
 use Rattle.isdb_mmt.proofs.Questions.{asks-zero, asks-places, asks-areas}
-use Rattle.isdb_mmt.proofs.Seats.{length-media, length-indexed}
+use Rattle.isdb_mmt.proofs.PlacesFor.{length-media, length-indexed}
 use Rattle.isdb_mmt.proofs.MessageLeaves.{length-controls, length-sections}
 use Rattle.isdb_mmt.proofs.Placing.{bytes-sections, sections-placed}
 use Rattle.isdb_mmt.proofs.Drawn.{sections-stand}
@@ -164,16 +164,16 @@ module _ (state others objects messages tables : List ℕ) (b : Bytes) (can : Ca
 
     store-next : storedAll (before .store) ts ≡ next .store
     unfolding pushed
-    store-next = ap (λ (x : Store). storedAll x ts) same-store ∙ ap (storedAll (view s .store)) same-tables
+    store-next = ap (λ (x : KeptTables). storedAll x ts) same-store ∙ ap (storedAll (view s .store)) same-tables
 
     counters-next : countedAll (before .mpt) (before .store) (before .counters) ts ≡ next .counters
     unfolding pushed drawn packetCounted view viewBy
     counters-next =
-        ap (λ (x : Store). countedAll none x c₁ ts) same-store ∙ ap (λ (x : List Table). countedAll none (view s .store) c₁ x) same-tables
+        ap (λ (x : KeptTables). countedAll none x c₁ ts) same-store ∙ ap (λ (x : List Table). countedAll none (view s .store) c₁ x) same-tables
 
     need-next : tablesNeed (before .store) ts ≡ needs (view s) p .table
     unfolding needs
-    need-next = ap (λ (x : Store). tablesNeed x ts) same-store ∙ ap (tablesNeed (view s .store)) same-tables
+    need-next = ap (λ (x : KeptTables). tablesNeed x ts) same-store ∙ ap (tablesNeed (view s .store)) same-tables
 
     versions : Versions b a (dryOf ix₀ log₀ others g₀)
     versions = versions-view s ok b log₀ (no-log mostSections) noRecent 0 c₁ (countersFor c₁) refl
@@ -189,7 +189,7 @@ module _ (state others objects messages tables : List ℕ) (b : Bytes) (can : Ca
     kept-now = length (next .store .kept)
 
     kept-is : length (storedAll (before .store) ts .kept) ≡ kept-now
-    kept-is = ap (λ (x : Store). length (x .kept)) store-next
+    kept-is = ap (λ (x : KeptTables). length (x .kept)) store-next
 
     -- ---- what it asks for
 
@@ -381,17 +381,17 @@ module _ (state others objects messages tables : List ℕ) (b : Bytes) (can : Ca
               ∙ ap (λ (es : List Logged). putTables (l .«table_area») 0 es b tables) (logged-all (r .used) ix log (omega (arith, some-sections)))
               ∙ committed-kept sectionRead sections-stand ix₀ log₀ others g₀ (placedSections b 0) n 0 r ix log mine w b a c₁ versions (sections-placed b) not-full
               held fits room
-              ∙ ap (λ (x : Store). keptOver (l .«table_area») 0 (x .kept) tables) store-next
+              ∙ ap (λ (x : KeptTables). keptOver (l .«table_area») 0 (x .kept) tables) store-next
 
           others-left : others′ ≡ next .store .others
           unfolding drawn
-          others-left = left .counts ∙ ap (λ (x : Store). x .others) (is not-full .store ∙ store-next)
+          others-left = left .counts ∙ ap (λ (x : KeptTables). x .others) (is not-full .store ∙ store-next)
 
           rows-left : take (sectionSize * r .used) ix ≡ sectionRows kept
           rows-left =
               committed-rows sectionRead sections-stand ix₀ log₀ others g₀ (placedSections b 0) n 0 r ix log mine w b a c₁ versions (sections-placed b) not-full held
               fits o (omega (arith, some-sections)) room
-              ∙ ap (λ (x : Store). sectionRows (x .kept)) store-next
+              ∙ ap (λ (x : KeptTables). sectionRows (x .kept)) store-next
 
           counters-left : countersWith c r ≡ countersFor (next .counters)
           unfolding drawn packetCounted

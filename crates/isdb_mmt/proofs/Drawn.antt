@@ -18,7 +18,7 @@ use Rattle.isdb_mmt.specs.Part.{partOf}
 use Rattle.isdb_mmt.specs.Lent.{part, foundFrom, indexed}
 use Rattle.isdb_mmt.specs.View.{given}
 use Rattle.isdb_mmt.specs.Section.{length12}
-use Rattle.isdb_mmt.specs.Kept.{Section, sectionOf, declaredSection, declaredTable, Kept, Counters, Store, Table, emptyTable, mptTable, pltTable, totTable, cutSection, aSection, otherTable, otherVersion, keepIf, keep, adds, tabled, sectionAdds, changes, tableAdds, mptAfter, stored, tableById, tableRead, longTable}
+use Rattle.isdb_mmt.specs.Kept.{Section, sectionOf, declaredSection, declaredTable, Kept, Counters, KeptTables, Table, emptyTable, mptTable, pltTable, totTable, truncatedSection, aSection, otherTable, otherVersion, keepIf, keep, increments, tableCounted, sectionIncrements, changes, tableIncrements, mptAfter, stored, tableById, tableRead, longTable}
 use Rattle.isdb_mmt.specs.Needs.{tableArea}
 use Rattle.isdb_mmt.specs.declared.decoder.place.Found.{Found}
 use Rattle.isdb_mmt.specs.declared.decoder.place.Found.the-variants.{At, Nothing as notFound}
@@ -33,7 +33,7 @@ use Rattle.isdb_mmt.specs.declared.decoder.verdict.Told.{Told}
 use Rattle.isdb_mmt.specs.Placed.{Placed, StandsAt, AllStand, bytesOf}
 use Rattle.isdb_mmt.specs.Tally.{Tally, taken, takenAll}
 use Rattle.isdb_mmt.specs.Verdict.{keysOf, noSection, told, changesTo, placeOf, bodyTold, versionTold, sectionTold, toldOf}
-use Rattle.isdb_mmt.specs.Dry.{sectionRead, mptAfter as recentMpt, pltAfter as recentPlt, Logged, logged, placesOf, Dry, recent, putAt, noted, notedOne, notedAll, bytesAt, drawnEntry, drawnKept, drawnRecent, Areas, drawnCounters, drawn, VersionOf, Versions}
+use Rattle.isdb_mmt.specs.Dry.{sectionRead, mptAfter as recentMpt, pltAfter as recentPlt, Logged, logged, placesOf, Dry, recent, putAt, afterHeaders, notedOne, notedAll, bytesAt, drawnEntry, drawnKept, drawnRecent, Areas, drawnCounters, drawn, VersionOf, Versions}
 use Rattle.isdb_mmt.proofs.Placing.{part-stands}
 use Rattle.isdb_mmt.proofs.Verdicts.{found-within}
 
@@ -44,7 +44,7 @@ TableAt m at emptyTable = Unit {0}
 TableAt m at (mptTable ok breaks b) = StandsAt m at b
 TableAt m at (pltTable ok b) = StandsAt m at b
 TableAt m at (totTable ok crc breaks b) = StandsAt m at b
-TableAt m at cutSection = Unit {0}
+TableAt m at truncatedSection = Unit {0}
 TableAt m at (aSection x) = StandsAt m at (x .bytes)
 TableAt m at (otherTable id) = Unit {0}
 
@@ -100,7 +100,7 @@ Same t r f = (recentMpt r (t .act) f ≡ r) × (recentPlt r (t .act) f ≡ r)
 no-recent : (ks : List KeptSection) (x : Section) (r : Recent) (f : ℕ) → Same (sectionTold ks x) r f
 unfolding sectionTold
 no-recent ks x r f =
-    cond-elim (λ t. Same t r f) (x .headOk) (λ e. by-version (foundFrom 0 (keysOf ks) (x .key)))
+    cond-elim (λ t. Same t r f) (x .headerAndCrcGood) (λ e. by-version (foundFrom 0 (keysOf ks) (x .key)))
     (λ e. cond-elim (λ t. Same t r f) (x .crcBad) (λ e. (refl, refl)) (λ e. (refl, refl)))
   where
     by-body : (n i : ℕ) → Same (bodyTold x n i) r f
@@ -247,16 +247,16 @@ module _ (m : Bytes) (a : Areas) (c : Counters) (d : Dry) (at : ℕ) where
       (d .breaks + breaks) (max (d .longest) n)
 
   abbrev after : Told → Tally
-  after t = drawn m a c (noted d t (at + 1))
+  after t = drawn m a c (afterHeaders d t (at + 1))
 
   module _ (key : ℕ) (cb : Bool) (v : ℕ) (br : ℕ) (bs : Bytes) (stood : StandsAt m at bs) where
     abbrev sect : Bool → Bool → Section
-    sect h ok = record { key = key; headOk = h; crcBad = cb; version = v; bodyOk = ok; breaks = br; bytes = bs }
+    sect h ok = record { key = key; headerAndCrcGood = h; crcBad = cb; version = v; bodyOk = ok; breaks = br; bytes = bs }
 
     abbrev model : Bool → Bool → Option Kept → Tally
     model h ok o =
-        left (cond h (keepIf (otherVersion o v) ok (sect h ok) (kepts es)) (kepts es)) (sectionAdds (sect h ok) o .crcErrors)
-        (sectionAdds (sect h ok) o .malformed) (sectionAdds (sect h ok) o .versionChanges) (sectionAdds (sect h ok) o .breaks)
+        left (cond h (keepIf (otherVersion o v) ok (sect h ok) (kepts es)) (kepts es)) (sectionIncrements (sect h ok) o .crcErrors)
+        (sectionIncrements (sect h ok) o .malformed) (sectionIncrements (sect h ok) o .versionChanges) (sectionIncrements (sect h ok) o .breaks)
         (cond (h && (otherVersion o v && ok)) (length bs) 0)
 
     abbrev index : Bool → Bool → Found → Told
@@ -265,20 +265,20 @@ module _ (m : Bytes) (a : Areas) (c : Counters) (d : Dry) (at : ℕ) where
     old : (ok q : Bool) (k : Kept) (i : ℕ) → foundFrom 0 (keysOf ks) key ≡ At i
         → k .version ≡ getD ks i noSection .version → eqb (getD ks i noSection .version) v ≡ q
         → model true ok (some k) ≡ after (index true ok (At i))
-    unfolding keepIf otherVersion sectionAdds isSome drawn
+    unfolding keepIf otherVersion sectionIncrements isSome drawn
     old ok true k i e w q = rw (w, q)
     old true false k i e w q =
         rw (w, q) (ap (λ (l : List (ℕ × Kept)). left l 0 0 1 br (length bs)) (put-old key v bs stood i e))
     old false false k i e w q = rw (w, q)
 
     fresh : (ok : Bool) → foundFrom 0 (keysOf ks) key ≡ notFound → model true ok none ≡ after (index true ok notFound)
-    unfolding keepIf otherVersion sectionAdds isSome drawn
+    unfolding keepIf otherVersion sectionIncrements isSome drawn
     fresh true e = ap (λ (l : List (ℕ × Kept)). left l 0 0 0 br (length bs)) (put-new key v bs stood e)
     fresh false e = refl
 
     sec : (h ok : Bool) (o : Option Kept) (f : Found) → foundFrom 0 (keysOf ks) key ≡ f → Agree o f
         → model h ok o ≡ after (index h ok f)
-    unfolding keepIf otherVersion sectionAdds isSome drawn
+    unfolding keepIf otherVersion sectionIncrements isSome drawn
     sec true ok none notFound e g = fresh ok e
     sec true ok none (At i) e g = absurd g
     sec true ok (some k) notFound e g = absurd g
@@ -291,9 +291,9 @@ module _ (m : Bytes) (a : Areas) (c : Counters) (d : Dry) (at : ℕ) where
         bad false = refl
 
   one-section : (x : Section) → StandsAt m at (x .bytes) → taken (drawn m a c d) (aSection x) ≡ after (toldOf ks (d .mpt) (d .plt) (aSection x))
-  unfolding stored tableAdds tabled mptAfter tableArea keep toldOf sectionTold drawn
+  unfolding stored tableIncrements tableCounted mptAfter tableArea keep toldOf sectionTold drawn
   one-section x h =
-      sec (x .key) (x .crcBad) (x .version) (x .breaks) (x .bytes) h (x .headOk) (x .bodyOk) (find (x .key) (kepts es))
+      sec (x .key) (x .crcBad) (x .version) (x .breaks) (x .bytes) h (x .headerAndCrcGood) (x .bodyOk) (find (x .key) (kepts es))
       (foundFrom 0 (keysOf ks) (x .key)) refl (agree (x .key) (foundFrom 0 (keysOf ks) (x .key)) refl)
 
   -- a version change is the model's
@@ -302,7 +302,7 @@ module _ (m : Bytes) (a : Areas) (c : Counters) (d : Dry) (at : ℕ) where
   changed (some old) r w b = rw (w .0, w .1)
 
   pub one-table : Versions m a d → (t : Table) → TableAt m at t → taken (drawn m a c d) t ≡ after (toldOf ks (d .mpt) (d .plt) t)
-  unfolding stored tableAdds tabled mptAfter tableArea toldOf drawn
+  unfolding stored tableIncrements tableCounted mptAfter tableArea toldOf drawn
   one-table w emptyTable h = refl
   one-table w (mptTable true breaks b) h =
       let n = bytes-new m (a .bytes) (a .mpt) at b h in
@@ -324,7 +324,7 @@ module _ (m : Bytes) (a : Areas) (c : Counters) (d : Dry) (at : ℕ) where
       mk mptD pltD (some (n i)) (kepts es) (d .others) (d .tables + 1) (d .crcErrors + one crc) (d .malformed + 0) (d .changes + 0)
       (d .breaks + breaks) (max (d .longest) (length b))
   one-table w (totTable false crc breaks b) h = refl
-  one-table w cutSection h = refl
+  one-table w truncatedSection h = refl
   one-table w (aSection x) h = one-section x h
   one-table w (otherTable id) h = refl
 
@@ -332,7 +332,7 @@ module _ (m : Bytes) (a : Areas) (c : Counters) (d : Dry) (at : ℕ) where
   kept-version : (areaAt : ℕ) (b : Bytes) → StandsAt m at b → VersionOf (drawnRecent m (a .bytes) areaAt (recent (getD b 1 0) (at + 1) (length b))) (recent (getD b 1 0) (at + 1) (length b))
   kept-version areaAt b h = (refl, ap (λ (x : Bytes). getD x 1 0) (bytes-new m (a .bytes) areaAt at b h))
 
-  pub versions-stay : Versions m a d → (t : Table) → TableAt m at t → Versions m a (noted d (toldOf ks (d .mpt) (d .plt) t) (at + 1))
+  pub versions-stay : Versions m a d → (t : Table) → TableAt m at t → Versions m a (afterHeaders d (toldOf ks (d .mpt) (d .plt) t) (at + 1))
   unfolding toldOf
   versions-stay w emptyTable h = record { mpt = w .mpt; plt = w .plt }
   versions-stay w (mptTable true breaks b) h = record { mpt = kept-version (a .mpt) b h; plt = w .plt }
@@ -341,10 +341,10 @@ module _ (m : Bytes) (a : Areas) (c : Counters) (d : Dry) (at : ℕ) where
   versions-stay w (pltTable false b) h = record { mpt = w .mpt; plt = w .plt }
   versions-stay w (totTable true crc breaks b) h = record { mpt = w .mpt; plt = w .plt }
   versions-stay w (totTable false crc breaks b) h = record { mpt = w .mpt; plt = w .plt }
-  versions-stay w cutSection h = record { mpt = w .mpt; plt = w .plt }
+  versions-stay w truncatedSection h = record { mpt = w .mpt; plt = w .plt }
   versions-stay w (aSection x) h = of-section (sectionTold ks x) (no-recent ks x)
     where
-      of-section : (t : Told) → ((r : Recent) (f : ℕ) → Same t r f) → Versions m a (noted d t (at + 1))
+      of-section : (t : Told) → ((r : Recent) (f : ℕ) → Same t r f) → Versions m a (afterHeaders d t (at + 1))
       of-section t s = record { mpt = rw (s (d .mpt) (at + 1) .0) (w .mpt); plt = rw (s (d .plt) (at + 1) .1) (w .plt) }
   versions-stay w (otherTable id) h = record { mpt = w .mpt; plt = w .plt }
 

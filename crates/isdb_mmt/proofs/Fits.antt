@@ -8,9 +8,9 @@ use lib.ListN.{length}
 use lib.Dec.{leb}
 use Rattle.isdb_tlv.proofs.Guards.{cond-elim}
 use Rattle.isdb_mmt.specs.Mpu.{follows, lostFrom}
-use Rattle.isdb_mmt.specs.Packet.{Piece, Media, readable}
+use Rattle.isdb_mmt.specs.Packet.{PayloadUnit, MpuPacket, readable}
 use Rattle.isdb_mmt.specs.Maps.{one, isSome}
-use Rattle.isdb_mmt.specs.Objects.{Mfu, Asset, fresh, mostObject, gap, lostBy, Did, grown, continued, unitDoes, didTo, objectOf, did, unitsDo, noted, newMpu, jumped, malformedPayload, assetAfter, mpuIn, completes}
+use Rattle.isdb_mmt.specs.Objects.{Mfu, Asset, fresh, mostObject, gap, lostBy, UnitEffect, grown, continued, effectOf, afterUnit, objectOf, unitEffect, afterUnits, afterHeaders, newMpu, jumped, malformedPayload, assetAfter, mpuIn, completes}
 use Rattle.isdb_mmt.specs.Needs.{heldLength, unitArea, unitsNeed}
 use Rattle.isdb_mmt.specs.declared.mpu.FragmentationIndicator.{FragmentationIndicator}
 use Rattle.isdb_mmt.specs.declared.mpu.FragmentationIndicator.the-variants.{Complete, Head, Middle, Last}
@@ -67,13 +67,13 @@ fresh-fits area n =
     }
 
 -- a unit drops one object, delivers one, and holds what its area counts
-record Mild (f : FragmentationIndicator) (r : Did) : Type 0 where
+record Mild (f : FragmentationIndicator) (r : UnitEffect) : Type 0 where
   held : heldLength (r .held) ≤ unitArea f r
   drops : r .drops ≤ 1
   outs : length (r .outs) ≤ 1
 
-mild : (f : FragmentationIndicator) (h : Option Mfu) (u : Mfu) → Mild f (unitDoes f h u)
-unfolding unitDoes continued
+mild : (f : FragmentationIndicator) (h : Option Mfu) (u : Mfu) → Mild f (effectOf f h u)
+unfolding effectOf continued
 mild Complete h u = record { held = omega arith; drops = one-le (isSome h); outs = omega arith }
 mild Head h u = record { held = omega arith; drops = one-le (isSome h); outs = omega arith }
 mild Middle none u = record { held = omega arith; drops = omega arith; outs = omega arith }
@@ -89,14 +89,14 @@ mild Last (some h) u = go (leb (length (h .bytes) + length (u .bytes)) mostObjec
     go true = record { held = omega arith; drops = omega arith; outs = omega arith }
     go false = record { held = omega arith; drops = omega arith; outs = omega arith }
 
-units-fit : (area : ℕ) (m : Media) (us : List Piece) (n : ℕ) (a : Asset) → AssetFits area n a → unitsNeed m a us ≤ area
-    → AssetFits area (n + length us) (unitsDo m a us)
-unfolding unitsDo unitsNeed didTo did
+units-fit : (area : ℕ) (m : MpuPacket) (us : List PayloadUnit) (n : ℕ) (a : Asset) → AssetFits area n a → unitsNeed m a us ≤ area
+    → AssetFits area (n + length us) (afterUnits m a us)
+unfolding afterUnits unitsNeed afterUnit unitEffect
 units-fit area m [] n a h k = asset-more area n (n + 0) a (omega arith) h
 units-fit area m (u ∷ us) n a h k =
-    let r = did m a u in
+    let r = unitEffect m a u in
     let q = mild (u .fragment) (a .held) (objectOf m u) in
-    let next : AssetFits area (n + 1) (didTo a r) =
+    let next : AssetFits area (n + 1) (afterUnit a r) =
     record {
       held = omega (arith, q .held);
       packets = omega (arith, h .packets);
@@ -109,8 +109,8 @@ units-fit area m (u ∷ us) n a h k =
       jumps = omega (arith, h .jumps);
       malformed = omega (arith, h .malformed);
     } in
-    asset-more area (n + 1 + length us) (n + suc (length us)) (unitsDo m (didTo a r) us) (omega arith)
-    (units-fit area m us (n + 1) (didTo a r) next (omega arith))
+    asset-more area (n + 1 + length us) (n + suc (length us)) (afterUnits m (afterUnit a r) us) (omega arith)
+    (units-fit area m us (n + 1) (afterUnit a r) next (omega arith))
 
 lost-le : (o : Option ℕ) (n : ℕ) → lostBy o n ≤ 1048576
 unfolding lostBy lostFrom
@@ -121,8 +121,8 @@ gone-le : (b : Bool) (h : Option Mfu) → heldLength (cond b none h) ≤ heldLen
 gone-le true h = omega arith
 gone-le false h = omega arith
 
-noted-fits : (area n : ℕ) (a : Asset) (m : Media) → AssetFits area n a → AssetFits area (n + 1048576) (noted a m)
-unfolding noted
+noted-fits : (area n : ℕ) (a : Asset) (m : MpuPacket) → AssetFits area n a → AssetFits area (n + 1048576) (afterHeaders a m)
+unfolding afterHeaders
 noted-fits area n a m h =
     record {
       held = omega (arith, gone-le (gap (a .number) (m .number)) (a .held), h .held);
@@ -137,9 +137,9 @@ noted-fits area n a m h =
       malformed = omega (arith, h .malformed, one-le (malformedPayload m));
     }
 
-pub asset-fits : (area n : ℕ) (a : Asset) (m : Media) → AssetFits area n a → length (readable m) < 65536
-    → unitsNeed m (noted a m) (readable m) ≤ area → AssetFits area (n + mostAdded) (assetAfter a m)
+pub asset-fits : (area n : ℕ) (a : Asset) (m : MpuPacket) → AssetFits area n a → length (readable m) < 65536
+    → unitsNeed m (afterHeaders a m) (readable m) ≤ area → AssetFits area (n + mostAdded) (assetAfter a m)
 unfolding assetAfter
 asset-fits area n a m h l k =
     asset-more area (n + 1048576 + length (readable m)) (n + mostAdded) (assetAfter a m) (omega arith)
-    (units-fit area m (readable m) (n + 1048576) (noted a m) (noted-fits area n a m h) k)
+    (units-fit area m (readable m) (n + 1048576) (afterHeaders a m) (noted-fits area n a m h) k)

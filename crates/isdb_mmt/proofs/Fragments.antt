@@ -9,16 +9,16 @@ use lib.Dec.{ltb, leb}
 use lib.ListN.{length, take, drop, length-append, length-drop, take-append-drop}
 use borrow.Author.Tests.{le-ltb, le-leb, lt-leb, ltb-true, ltb-false, not-true, not-false}
 use Rattle.isdb_tlv.proofs.Guards.{cond-elim}
-use Rattle.isdb_mmt.specs.Packet.{Bytes, Ctl}
+use Rattle.isdb_mmt.specs.Packet.{Bytes, MessagePacket}
 use Rattle.isdb_mmt.specs.Maps.{isSome}
 use Rattle.isdb_mmt.specs.Objects.{gap}
-use Rattle.isdb_mmt.specs.Joins.{Join, Line, short, flagsOf, partBefore, joinedOn, partAfter, wholeOf, lineAfter, lineGives, continues, orphan, oversize, mostMessage}
-use Rattle.isdb_mmt.specs.Needs.{joinLength, fragmentArea, lineNeeds}
+use Rattle.isdb_mmt.specs.Joins.{PartialMessage, Reassembly, short, flagsOf, partBefore, joinedOn, partAfter, wholeOf, reassemblyAfter, messageCompleted, continues, orphan, oversize, mostMessage}
+use Rattle.isdb_mmt.specs.Needs.{partialLength, fragmentArea, reassemblyNeeds}
 use Rattle.isdb_mmt.specs.Lent.{part, over}
 use Rattle.isdb_mmt.specs.View.{given, controlStateOf}
 use Rattle.isdb_mmt.specs.Place.{gapAfter}
 use Rattle.isdb_mmt.specs.Leaves.{joinedIn, bytesOver}
-use Rattle.isdb_mmt.specs.Fragments.{goesOn, grownLength, continued, byDivision, flagsIn, fateOf, joinedWith, noneJoined, joinedBy, joinedAs, laidBy, areaBy, wholeBy, completes, faultsOf}
+use Rattle.isdb_mmt.specs.Fragments.{continuedBy, grownLength, continued, byDivision, flagsIn, fateOf, joinedWith, noneJoined, joinedBy, joinedAs, laidBy, areaBy, wholeBy, completes, faultsOf}
 use Rattle.isdb_mmt.specs.declared.message.Division.{Division}
 use Rattle.isdb_mmt.specs.declared.message.Division.the-variants.{Undivided as undivided, First as first, Middle as middle, Last as last}
 use Rattle.isdb_mmt.specs.declared.message.Fragment.{Fragment}
@@ -70,39 +70,39 @@ taken-away true false a = refl
 taken-away false true a = refl
 taken-away false false a = refl
 
--- ---- all that the model does with a packet of a line, by what becomes of the fragment
+-- ---- all that the model does with a message packet, by what becomes of the fragment
 
-pub record Does (l : Line) (x : Ctl) (c : Control) (m : Bytes) (f : Fate) : Type 0 where
-  pub joined : joinedAs (lineAfter l x .part) ≡ joinedBy f c (x .payload)
-  pub area : lineNeeds l x ≡ areaBy f c (x .payload)
+pub record Does (l : Reassembly) (x : MessagePacket) (c : Control) (m : Bytes) (f : Fate) : Type 0 where
+  pub joined : joinedAs (reassemblyAfter l x .part) ≡ joinedBy f c (x .payload)
+  pub area : reassemblyNeeds l x ≡ areaBy f c (x .payload)
   pub orphans : orphan l x ≡ faultsOf f .orphan
   pub oversizes : oversize l x ≡ faultsOf f .oversize
   pub shorts : short x ≡ faultsOf f .malformed
-  pub whole : lineGives l x ≡ wholeBy f c m (x .payload)
+  pub whole : messageCompleted l x ≡ wholeBy f c m (x .payload)
   pub bytes : (at : ℕ) (t : Bytes) → (c .joining ≡ true → m ≡ part at (c .length) t) → at + areaBy f c (x .payload) ≤ length t
-      → bytesOver at (joinedIn (lineAfter l x .part)) t ≡ laidBy f at c (x .payload) t
+      → bytesOver at (joinedIn (reassemblyAfter l x .part)) t ≡ laidBy f at c (x .payload) t
 
-module _ (c : Control) (m mpt : Bytes) (long : c .joining ≡ true → length m ≡ c .length) (x : Ctl) where
-  abbrev l : Line
+module _ (c : Control) (m mpt : Bytes) (long : c .joining ≡ true → length m ≡ c .length) (x : MessagePacket) where
+  abbrev l : Reassembly
   l = controlStateOf c m mpt .line
 
   abbrev b : Bytes
   b = x .payload
 
   abbrev g : Bool
-  g = goesOn c (x .number)
+  g = continuedBy c (x .number)
 
-  abbrev now-joined : Join
+  abbrev now-joined : PartialMessage
   now-joined = record { long = c .«long_length»; aggregated = c .aggregated; bytes = m }
 
   part-before : partBefore l x ≡ given g now-joined
-  unfolding partBefore controlStateOf goesOn
+  unfolding partBefore controlStateOf continuedBy
   part-before =
       ap (λ (y : Bool). cond y none (given (c .joining) now-joined)) (given-gap (c .seen) (c .sequence) (x .number))
       ∙ taken-away (c .joining) (gapAfter (c .seen) (c .sequence) (x .number)) now-joined
 
   was-joining : g ≡ true → c .joining ≡ true
-  unfolding goesOn
+  unfolding continuedBy
   was-joining e = go (c .joining) e
     where
       go : (j : Bool) → cond j (not (gapAfter (c .seen) (c .sequence) (x .number))) false ≡ true → j ≡ true
@@ -111,7 +111,7 @@ module _ (c : Control) (m mpt : Bytes) (long : c .joining ≡ true → length m 
 
   -- a payload below 2 bytes
   short-does : short x ≡ true → Does l x c m Short
-  unfolding lineAfter lineGives orphan oversize lineNeeds wholeBy joinedBy areaBy laidBy controlStateOf isSome
+  unfolding reassemblyAfter messageCompleted orphan oversize reassemblyNeeds wholeBy joinedBy areaBy laidBy controlStateOf isSome
   short-does e =
       record {
         joined = rw e (go (c .joining) long);
@@ -134,16 +134,16 @@ module _ (c : Control) (m mpt : Bytes) (long : c .joining ≡ true → length m 
 
   module _ (e : short x ≡ false) where
     module _ (d : Division) (f : flagsOf x .division ≡ d) where
-      after-is : lineAfter l x .part ≡ partAfter d (given g now-joined) x
-      unfolding lineAfter
+      after-is : reassemblyAfter l x .part ≡ partAfter d (given g now-joined) x
+      unfolding reassemblyAfter
       after-is = rw (e, f, part-before)
 
-      pub gives-is : lineGives l x ≡ wholeOf d (given g now-joined) x
-      unfolding lineGives
+      pub gives-is : messageCompleted l x ≡ wholeOf d (given g now-joined) x
+      unfolding messageCompleted
       gives-is = rw (e, f, part-before)
 
-      needs-is : lineNeeds l x ≡ fragmentArea d (given g now-joined) (drop 2 b)
-      unfolding lineNeeds
+      needs-is : reassemblyNeeds l x ≡ fragmentArea d (given g now-joined) (drop 2 b)
+      unfolding reassemblyNeeds
       needs-is = rw (e, f, part-before)
 
       orphan-is : orphan l x ≡ (continues d && not (isSome (given g now-joined)))
@@ -164,7 +164,7 @@ module _ (c : Control) (m mpt : Bytes) (long : c .joining ≡ true → length m 
           oversizes = oversize-is undivided f;
           shorts = e;
           whole = gives-is undivided f;
-          bytes = λ at t h w. ap (λ (o : Option Join). bytesOver at (joinedIn o) t) (after-is undivided f);
+          bytes = λ at t h w. ap (λ (o : Option PartialMessage). bytesOver at (joinedIn o) t) (after-is undivided f);
         }
 
     first-does : flagsOf x .division ≡ first → Does l x c m First
@@ -177,7 +177,7 @@ module _ (c : Control) (m mpt : Bytes) (long : c .joining ≡ true → length m 
           oversizes = oversize-is first f;
           shorts = e;
           whole = gives-is first f;
-          bytes = λ at t h w. ap (λ (o : Option Join). bytesOver at (joinedIn o) t) (after-is first f);
+          bytes = λ at t h w. ap (λ (o : Option PartialMessage). bytesOver at (joinedIn o) t) (after-is first f);
         }
 
     -- a continuing fragment: without a message, with one that it makes too long, with one that it fits
@@ -195,7 +195,7 @@ module _ (c : Control) (m mpt : Bytes) (long : c .joining ≡ true → length m 
           oversizes = oversize-is middle f ∙ rw off;
           shorts = e;
           whole = gives-is middle f;
-          bytes = λ at t h w. ap (λ (o : Option Join). bytesOver at (joinedIn o) t) (after-is middle f ∙ gone off);
+          bytes = λ at t h w. ap (λ (o : Option PartialMessage). bytesOver at (joinedIn o) t) (after-is middle f ∙ gone off);
         }
     orphan-does last k off f =
         record {
@@ -205,7 +205,7 @@ module _ (c : Control) (m mpt : Bytes) (long : c .joining ≡ true → length m 
           oversizes = oversize-is last f ∙ rw off;
           shorts = e;
           whole = gives-is last f ∙ gone off;
-          bytes = λ at t h w. ap (λ (o : Option Join). bytesOver at (joinedIn o) t) (after-is last f);
+          bytes = λ at t h w. ap (λ (o : Option PartialMessage). bytesOver at (joinedIn o) t) (after-is last f);
         }
     orphan-does undivided k off f = clash false k refl
     orphan-does first k off f = clash false k refl
@@ -229,28 +229,28 @@ module _ (c : Control) (m mpt : Bytes) (long : c .joining ≡ true → length m 
         oversize-does middle k f =
             record {
               joined = ap joinedAs (after-is middle f ∙ no-more);
-              area = needs-is middle f ∙ ap joinLength no-more;
+              area = needs-is middle f ∙ ap partialLength no-more;
               orphans = orphan-is middle f ∙ rw yes;
               oversizes = oversize-is middle f ∙ rw no-more (rw yes);
               shorts = e;
               whole = gives-is middle f;
-              bytes = λ at t h w. ap (λ (o : Option Join). bytesOver at (joinedIn o) t) (after-is middle f ∙ no-more);
+              bytes = λ at t h w. ap (λ (o : Option PartialMessage). bytesOver at (joinedIn o) t) (after-is middle f ∙ no-more);
             }
         oversize-does last k f =
             record {
               joined = ap joinedAs (after-is last f);
-              area = needs-is last f ∙ ap joinLength no-more;
+              area = needs-is last f ∙ ap partialLength no-more;
               orphans = orphan-is last f ∙ rw yes;
               oversizes = oversize-is last f ∙ rw no-more (rw yes);
               shorts = e;
               whole = gives-is last f ∙ no-more;
-              bytes = λ at t h w. ap (λ (o : Option Join). bytesOver at (joinedIn o) t) (after-is last f);
+              bytes = λ at t h w. ap (λ (o : Option PartialMessage). bytesOver at (joinedIn o) t) (after-is last f);
             }
         oversize-does undivided k f = clash false k refl
         oversize-does first k f = clash false k refl
 
       module _ (fits : grownLength c b ≤ mostMessage) where
-        abbrev more : Join
+        abbrev more : PartialMessage
         more = record { long = c .«long_length»; aggregated = c .aggregated; bytes = m ++ drop 2 b }
 
         pub one-more : joinedOn (given g now-joined) (drop 2 b) ≡ some more
@@ -264,14 +264,14 @@ module _ (c : Control) (m mpt : Bytes) (long : c .joining ≡ true → length m 
         grown-does f =
             record {
               joined = ap joinedAs (after-is middle f ∙ one-more) ∙ ap (joinedWith (c .«long_length») (c .aggregated)) length-more;
-              area = needs-is middle f ∙ ap joinLength one-more ∙ length-more;
+              area = needs-is middle f ∙ ap partialLength one-more ∙ length-more;
               orphans = orphan-is middle f ∙ rw yes;
               oversizes = oversize-is middle f ∙ rw one-more (rw yes);
               shorts = e;
               whole = gives-is middle f;
               bytes =
                   λ at t h w.
-                  ap (λ (o : Option Join). bytesOver at (joinedIn o) t) (after-is middle f ∙ one-more)
+                  ap (λ (o : Option PartialMessage). bytesOver at (joinedIn o) t) (after-is middle f ∙ one-more)
                   ∙ over-grown at (c .length) m (drop 2 b) t (h (was-joining yes)) (long (was-joining yes)) (omega (arith, length-drop 2 b));
             }
 
@@ -280,12 +280,12 @@ module _ (c : Control) (m mpt : Bytes) (long : c .joining ≡ true → length m 
         whole-does f =
             record {
               joined = ap joinedAs (after-is last f);
-              area = needs-is last f ∙ ap joinLength one-more ∙ length-more;
+              area = needs-is last f ∙ ap partialLength one-more ∙ length-more;
               orphans = orphan-is last f ∙ rw yes;
               oversizes = oversize-is last f ∙ rw one-more (rw yes);
               shorts = e;
               whole = gives-is last f ∙ one-more;
-              bytes = λ at t h w. ap (λ (o : Option Join). bytesOver at (joinedIn o) t) (after-is last f);
+              bytes = λ at t h w. ap (λ (o : Option PartialMessage). bytesOver at (joinedIn o) t) (after-is last f);
             }
 
     continued-does : (d : Division) → continues d ≡ true → flagsOf x .division ≡ d → (ends : Bool)

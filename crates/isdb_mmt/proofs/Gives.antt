@@ -11,10 +11,10 @@ use lib.ListN.{length}
 use borrow.Rule.Slice.PartMut.{putMid}
 use Rattle.isdb_tlv.specs.Fields.{written}
 use Rattle.isdb_mmt.specs.Part.{partOf}
-use Rattle.isdb_mmt.specs.Packet.{Bytes, Media as MediaPacket, pieceOf}
+use Rattle.isdb_mmt.specs.Packet.{Bytes, MpuPacket, payloadUnit}
 use Rattle.isdb_mmt.specs.Maps.{isSome}
 use Rattle.isdb_mmt.specs.Mpu.{unitStep, also, unitsFrom, unitsOf}
-use Rattle.isdb_mmt.specs.Objects.{Rec, Asset, mpuNumber, unitDoes, did, didTo, objectOf, unitsGive, tagged}
+use Rattle.isdb_mmt.specs.Objects.{Rec, Asset, mpuNumber, effectOf, unitEffect, afterUnit, objectOf, deliveredBy, tagged}
 use Rattle.isdb_mmt.specs.Needs.{dataOf}
 use Rattle.isdb_mmt.specs.Lent.{over}
 use Rattle.isdb_mmt.specs.Records.{rowFields, rowOf, rowsFrom, dataFrom}
@@ -218,10 +218,10 @@ module _ (q : Bytes) (timed aggregated : Bool) (id mpu : ℕ) (rap : Bool) (rows
 
 -- ---- these are the records of the model
 
-pub complete-gives : (m : MediaPacket) (h : PayloadHeader) (q : Bytes) → h .fragmentation ≡ Complete → (us : List DataUnit) (a : Asset)
-    → tagged (m .id) (unitsGive m a (map (pieceOf h q) us)) ≡ unitRecs (m .id) (mpuNumber (m .header)) (m .rap) q (some us)
-unfolding unitsGive tagged unitRecs did unitDoes objectOf
+pub complete-gives : (m : MpuPacket) (h : PayloadHeader) (q : Bytes) → h .fragmentation ≡ Complete → (us : List DataUnit) (a : Asset)
+    → tagged (m .id) (deliveredBy m a (map (payloadUnit h q) us)) ≡ unitRecs (m .id) (mpuNumber (m .header)) (m .rap) q (some us)
+unfolding deliveredBy tagged unitRecs unitEffect effectOf objectOf
 complete-gives m h q e [] a = refl
 complete-gives m h q e (u ∷ us) a =
-    let i = complete-gives m h q e us (didTo a (did m a (pieceOf h q u))) in
+    let i = complete-gives m h q e us (afterUnit a (unitEffect m a (payloadUnit h q u))) in
     rw e (ap (λ (rs : List Rec). unitRec (m .id) (mpuNumber (m .header)) (m .rap) q u ∷ rs) (rw e at i))

@@ -7,13 +7,13 @@ use mathlib.Core.Option.{Option, none, some}
 use mathlib.Core.List.{List, [], _∷_, _++_, map, append-nil, append-assoc}
 use lib.Dec.{eqb}
 use mir.Facts.{eqb-no}
-use Rattle.isdb_mmt.specs.Packet.{Bytes, Ctl, Packet, ipError, ntp, nonMmtp, media, message, control, other}
+use Rattle.isdb_mmt.specs.Packet.{Bytes, MessagePacket, Packet, ipError, ntp, nonMmtp, media, message, control, other}
 use Rattle.isdb_mmt.specs.Maps.{orElse, find, put}
-use Rattle.isdb_mmt.specs.Joins.{Line, lineAfter}
-use Rattle.isdb_mmt.specs.Kept.{Section, sectionOf, Kept, Store, otherVersion, keepIf, keep, keepAll, Table, emptyTable, mptTable, pltTable, totTable, cutSection, aSection, otherTable, stored, storedAll}
+use Rattle.isdb_mmt.specs.Joins.{Reassembly, reassemblyAfter}
+use Rattle.isdb_mmt.specs.Kept.{Section, sectionOf, Kept, KeptTables, otherVersion, keepIf, keep, keepAll, Table, emptyTable, mptTable, pltTable, totTable, truncatedSection, aSection, otherTable, stored, storedAll}
 use Rattle.isdb_mmt.specs.GivenTables.{tablesGiven, controlTables}
-use Rattle.isdb_mmt.specs.Model.{State, opened, idleControl, controlOf, lineOf, pushed}
-use Rattle.isdb_mmt.specs.Book.{wellFormedIn, sectionsAmong, Lines, allIdle, linesAfter, sectionsFrom, reaching, wellFormed, AllOf, EndsOff, FirstOfLastRun}
+use Rattle.isdb_mmt.specs.Model.{State, opened, idleControl, controlOf, reassemblyOf, pushed}
+use Rattle.isdb_mmt.specs.Book.{wellFormedIn, sectionsAmong, Reassemblies, allIdle, reassembliesAfter, sectionsFrom, reaching, wellFormed, AllOf, LastDiffers, FirstOfLastRun}
 use Rattle.isdb_mmt.specs.Demand.{pushAll, Keeps, never, keeps}
 use Rattle.isdb_mmt.proofs.Maps.{eqb-true, find-put, find-put-other}
 
@@ -26,12 +26,12 @@ all-snoc : (v : ℕ) (xs : List Section) (x : Section) → AllOf v xs → x .ver
 all-snoc v [] x a e = (e, tt)
 all-snoc v (y ∷ ys) x a e = (a .0, all-snoc v ys x (a .1) e)
 
-ends-run : (v w : ℕ) (x : Section) (run : List Section) → w ≢ v → x .version ≡ w → AllOf w run → EndsOff v (x ∷ run)
+ends-run : (v w : ℕ) (x : Section) (run : List Section) → w ≢ v → x .version ≡ w → AllOf w run → LastDiffers v (x ∷ run)
 ends-run v w x [] n e a = rw e n
 ends-run v w x (y ∷ ys) n e a = ends-run v w y ys n (a .0) (a .1)
 
 ends-off : (v : ℕ) (before : List Section) (x : Section) (run : List Section)
-    → x .version ≢ v → AllOf (x .version) run → EndsOff v (before ++ x ∷ run)
+    → x .version ≢ v → AllOf (x .version) run → LastDiffers v (before ++ x ∷ run)
 ends-off v [] x run n a = ends-run v (x .version) x run n refl a
 ends-off v (b ∷ []) x run n a = ends-off v [] x run n a
 ends-off v (b ∷ c ∷ cs) x run n a = ends-off v (c ∷ cs) x run n a
@@ -61,7 +61,7 @@ anew x y xs n f =
 -- one section, at one key
 
 abbrev tracked : Option Kept → Section → Option Kept
-tracked o x = cond (x .headOk) (cond (otherVersion o (x .version)) (cond (x .bodyOk) (some (keptOf x)) o) o) o
+tracked o x = cond (x .headerAndCrcGood) (cond (otherVersion o (x .version)) (cond (x .bodyOk) (some (keptOf x)) o) o) o
 
 keep-same : (x : Section) (m : List (ℕ × Kept)) (h n b : Bool)
     → find (x .key) (cond h (keepIf n b x m) m)
@@ -85,19 +85,19 @@ unfolding keep
 keep-tracks k x m = go (eqb k (x .key)) refl
   where
     go : (b : Bool) → eqb k (x .key) ≡ b → find k (keep x m) ≡ cond b (tracked (find k m) x) (find k m)
-    go true e = rw (eqb-true k (x .key) e) (keep-same x m (x .headOk) (otherVersion (find (x .key) m) (x .version)) (x .bodyOk))
-    go false e = keep-other k x m (x .headOk) (otherVersion (find (x .key) m) (x .version)) (x .bodyOk) e
+    go true e = rw (eqb-true k (x .key) e) (keep-same x m (x .headerAndCrcGood) (otherVersion (find (x .key) m) (x .version)) (x .bodyOk))
+    go false e = keep-other k x m (x .headerAndCrcGood) (otherVersion (find (x .key) m) (x .version)) (x .bodyOk) e
 
 tracks : (o : Option Kept) (xs : List Section) (x : Section) → Keeps o xs
-    → Keeps (tracked o x) (xs ++ cond (x .headOk && x .bodyOk) (x ∷ []) [])
+    → Keeps (tracked o x) (xs ++ cond (x .headerAndCrcGood && x .bodyOk) (x ∷ []) [])
 unfolding otherVersion
-tracks o xs x never = go (x .headOk) (x .bodyOk)
+tracks o xs x never = go (x .headerAndCrcGood) (x .bodyOk)
   where
     go : (h b : Bool) → Keeps (cond h (cond b (some (keptOf x)) none) none) (cond (h && b) (x ∷ []) [])
     go true true = keeps x (record { before = []; run = []; is = refl; alike = tt; starts = tt })
     go true false = never
     go false b = never
-tracks o xs x (keeps y f) = go (x .headOk) (x .bodyOk) (eqb (y .version) (x .version)) refl
+tracks o xs x (keeps y f) = go (x .headerAndCrcGood) (x .bodyOk) (eqb (y .version) (x .version)) refl
   where
     go : (h b n : Bool) → eqb (y .version) (x .version) ≡ n
         → Keeps (cond h (cond (not n) (cond b (some (keptOf x)) (some (keptOf y))) (some (keptOf y))) (some (keptOf y)))
@@ -115,13 +115,13 @@ keep-one : (k : ℕ) (m : List (ℕ × Kept)) (past : List Section) (x : Section
 unfolding wellFormedIn
 keep-one k m past x q = rw keep-tracks (go (eqb k (x .key)))
   where
-    go : (b : Bool) → Keeps (cond b (tracked (find k m) x) (find k m)) (past ++ cond (b && (x .headOk && x .bodyOk)) (x ∷ []) [])
+    go : (b : Bool) → Keeps (cond b (tracked (find k m) x) (find k m)) (past ++ cond (b && (x .headerAndCrcGood && x .bodyOk)) (x ∷ []) [])
     go true = tracks (find k m) past x q
     go false = rw append-nil q
 
 well-cons : (k : ℕ) (x : Section) (xs : List Section) → wellFormedIn k (x ∷ xs) ≡ wellFormedIn k (x ∷ []) ++ wellFormedIn k xs
 unfolding wellFormedIn
-well-cons k x xs = go (eqb k (x .key) && (x .headOk && x .bodyOk))
+well-cons k x xs = go (eqb k (x .key) && (x .headerAndCrcGood && x .bodyOk))
   where
     go : (b : Bool) → cond b (x ∷ wellFormedIn k xs) (wellFormedIn k xs) ≡ cond b (x ∷ []) [] ++ wellFormedIn k xs
     go true = refl
@@ -146,14 +146,14 @@ well-append k (x ∷ xs) ys =
 
 -- tables: only the sections among them are kept by key
 
-stored-kept : (s : Store) (ts : List Table) → storedAll s ts .kept ≡ keepAll (sectionsAmong ts) (s .kept)
+stored-kept : (s : KeptTables) (ts : List Table) → storedAll s ts .kept ≡ keepAll (sectionsAmong ts) (s .kept)
 unfolding storedAll stored keepAll sectionsAmong
 stored-kept s [] = refl
 stored-kept s (emptyTable ∷ ts) = stored-kept s ts
 stored-kept s (mptTable ok n b ∷ ts) = stored-kept s ts
 stored-kept s (pltTable ok b ∷ ts) = stored-kept (stored s (pltTable ok b)) ts
 stored-kept s (totTable ok c n b ∷ ts) = stored-kept (stored s (totTable ok c n b)) ts
-stored-kept s (cutSection ∷ ts) = stored-kept s ts
+stored-kept s (truncatedSection ∷ ts) = stored-kept s ts
 stored-kept s (aSection x ∷ ts) = stored-kept (stored s (aSection x)) ts
 stored-kept s (otherTable id ∷ ts) = stored-kept (stored s (otherTable id)) ts
 
@@ -163,23 +163,23 @@ among-control [] = refl
 among-control (b ∷ bs) = ap (λ (l : List Section). sectionOf b ∷ l) (among-control bs)
 
 -- the control ids of a state hold what the packets say
-abbrev Agree : State → Lines → Type 0
-Agree s ls = (i : ℕ) → lineOf i s ≡ ls i
+abbrev Agree : State → Reassemblies → Type 0
+Agree s ls = (i : ℕ) → reassemblyOf i s ≡ ls i
 
-agree-put : (s : State) (ls : Lines) (c : Ctl) (m : Option Bytes) (i : ℕ) → Agree s ls
-    → orElse idleControl (find i (put (c .id) (record { line = lineAfter (lineOf (c .id) s) c; mpt = m }) (s .controls))) .line
-    ≡ cond (eqb i (c .id)) (lineAfter (ls (c .id)) c) (ls i)
+agree-put : (s : State) (ls : Reassemblies) (c : MessagePacket) (m : Option Bytes) (i : ℕ) → Agree s ls
+    → orElse idleControl (find i (put (c .id) (record { line = reassemblyAfter (reassemblyOf (c .id) s) c; mpt = m }) (s .controls))) .line
+    ≡ cond (eqb i (c .id)) (reassemblyAfter (ls (c .id)) c) (ls i)
 unfolding orElse controlOf
 agree-put s ls c m i h = go (eqb i (c .id)) refl
   where
     go : (b : Bool) → eqb i (c .id) ≡ b
-        → orElse idleControl (find i (put (c .id) (record { line = lineAfter (lineOf (c .id) s) c; mpt = m }) (s .controls))) .line
-        ≡ cond b (lineAfter (ls (c .id)) c) (ls i)
-    go true e = rw (eqb-true i (c .id) e, find-put) (ap (λ (l : Line). lineAfter l c) (h (c .id)))
+        → orElse idleControl (find i (put (c .id) (record { line = reassemblyAfter (reassemblyOf (c .id) s) c; mpt = m }) (s .controls))) .line
+        ≡ cond b (reassemblyAfter (ls (c .id)) c) (ls i)
+    go true e = rw (eqb-true i (c .id) e, find-put) (ap (λ (l : Reassembly). reassemblyAfter l c) (h (c .id)))
     go false e = rw (find-put-other i (c .id) _ _ e) (h i)
 
-agree-push : (s : State) (ls : Lines) (p : Packet) → Agree s ls → Agree (pushed s p) (linesAfter ls p)
-unfolding pushed linesAfter controlOf
+agree-push : (s : State) (ls : Reassemblies) (p : Packet) → Agree s ls → Agree (pushed s p) (reassembliesAfter ls p)
+unfolding pushed reassembliesAfter controlOf
 agree-push s ls ipError h i = h i
 agree-push s ls (ntp t) h i = h i
 agree-push s ls nonMmtp h i = h i
@@ -188,32 +188,32 @@ agree-push s ls (message c) h i = agree-put s ls c _ i h
 agree-push s ls (control bs) h i = h i
 agree-push s ls other h i = h i
 
-push-kept : (s : State) (ls : Lines) (p : Packet) → Agree s ls → pushed s p .store .kept ≡ keepAll (sectionsFrom ls p) (s .store .kept)
+push-kept : (s : State) (ls : Reassemblies) (p : Packet) → Agree s ls → pushed s p .store .kept ≡ keepAll (sectionsFrom ls p) (s .store .kept)
 unfolding pushed sectionsFrom keepAll
 push-kept s ls ipError h = refl
 push-kept s ls (ntp t) h = refl
 push-kept s ls nonMmtp h = refl
 push-kept s ls (media m) h = refl
 push-kept s ls (message c) h =
-    stored-kept (s .store) (tablesGiven (lineOf (c .id) s) c)
-    ∙ ap (λ (l : Line). keepAll (sectionsAmong (tablesGiven l c)) (s .store .kept)) (h (c .id))
+    stored-kept (s .store) (tablesGiven (reassemblyOf (c .id) s) c)
+    ∙ ap (λ (l : Reassembly). keepAll (sectionsAmong (tablesGiven l c)) (s .store .kept)) (h (c .id))
 push-kept s ls (control bs) h =
     stored-kept (s .store) (controlTables bs) ∙ ap (λ (xs : List Section). keepAll xs (s .store .kept)) (among-control bs)
 push-kept s ls other h = refl
 
 -- all packets
 
-keep-from : (k : ℕ) (ps : List Packet) (s : State) (ls : Lines) (past : List Section)
+keep-from : (k : ℕ) (ps : List Packet) (s : State) (ls : Reassemblies) (past : List Section)
     → Agree s ls → Keeps (find k (s .store .kept)) past
     → Keeps (find k (pushAll s ps .store .kept)) (past ++ wellFormedIn k (reaching ls ps))
 unfolding pushAll reaching wellFormedIn
 keep-from k [] s ls past h q = rw append-nil q
 keep-from k (p ∷ ps) s ls past h q =
     rw (
-      well-append k (sectionsFrom ls p) (reaching (linesAfter ls p) ps),
-      ← (append-assoc past (wellFormedIn k (sectionsFrom ls p)) (wellFormedIn k (reaching (linesAfter ls p) ps))),
+      well-append k (sectionsFrom ls p) (reaching (reassembliesAfter ls p) ps),
+      ← (append-assoc past (wellFormedIn k (sectionsFrom ls p)) (wellFormedIn k (reaching (reassembliesAfter ls p) ps))),
     )
-    (keep-from k ps (pushed s p) (linesAfter ls p) (past ++ wellFormedIn k (sectionsFrom ls p)) (agree-push s ls p h)
+    (keep-from k ps (pushed s p) (reassembliesAfter ls p) (past ++ wellFormedIn k (sectionsFrom ls p)) (agree-push s ls p h)
     (rw (push-kept s ls p h) (keep-all k (sectionsFrom ls p) (s .store .kept) past q)))
 
 pub keys : (pass : Bool) (ps : List Packet) (k : ℕ) → Keeps (find k (pushAll (opened pass) ps .store .kept)) (wellFormed k ps)

@@ -11,7 +11,7 @@ use native.Mathlib.Omega.{arith}
 use lib.ListN.{length}
 use Rattle.isdb_tlv.specs.Fields.{written, Fit}
 use Rattle.isdb_tlv.proofs.Fields.{length-written}
-use Rattle.isdb_mmt.specs.Packet.{Bytes, Ctl, Packet, ipError, ntp, nonMmtp, media, message, control, other}
+use Rattle.isdb_mmt.specs.Packet.{Bytes, MessagePacket, Packet, ipError, ntp, nonMmtp, media, message, control, other}
 use Rattle.isdb_mmt.specs.Maps.{put, isSome}
 use Rattle.isdb_mmt.specs.Objects.{Mfu, Asset}
 use Rattle.isdb_mmt.specs.Kept.{Kept, Counters as Counts}
@@ -24,24 +24,24 @@ use Rattle.isdb_mmt.specs.Check.{mediaIn, controlsIn, sectionsIn, length
 use Rattle.isdb_mmt.specs.View.{view}
 use Rattle.isdb_mmt.specs.Opening.{lent}
 use Rattle.isdb_mmt.specs.Placing.{tableLength, placeFor, heldFor, controlFor, latestFor, countersFor}
-use Rattle.isdb_mmt.specs.MediaPush.{heldOver, mediaSeat, leavesAt, assetNext, mediaLeaves}
-use Rattle.isdb_mmt.specs.Leaves.{keptPlace, withTime, withCounters, controlLeaves, messageIn, controlSeat, messageAt, messageLeaves, packetLeaves, joinedIn}
+use Rattle.isdb_mmt.specs.MediaPush.{heldOver, mediaPlaceFor, leavesAt, assetNext, mediaLeaves}
+use Rattle.isdb_mmt.specs.Leaves.{keptPlace, withTime, withCounters, controlLeaves, messageIn, controlPlaceFor, messageAt, messageLeaves, packetLeaves, joinedIn}
 use Rattle.isdb_mmt.specs.Push.{Fits}
-use Rattle.isdb_mmt.specs.declared.decoder.place.Seat.{Seat}
-use Rattle.isdb_mmt.specs.declared.decoder.place.Seat.the-variants.{Old, New, Full}
+use Rattle.isdb_mmt.specs.declared.decoder.place.PlaceFor.{PlaceFor}
+use Rattle.isdb_mmt.specs.declared.decoder.place.PlaceFor.the-variants.{Own, Free, NoneFree}
 use Rattle.isdb_mmt.specs.declared.decoder.limits.Limits.{Limits}
 use Rattle.isdb_mmt.proofs.Lent.{length-over}
 use Rattle.isdb_mmt.proofs.Limits.{passed, Passed}
 use Rattle.isdb_mmt.proofs.Checks.{is-sound}
 use Rattle.isdb_mmt.proofs.Stored.{apart, limits-own, latest-own}
 use Rattle.isdb_mmt.proofs.Sessions.{Sort, media as mediaSort, controls as controlSort, sections as sectionSort, inUse, named, place-apart, used-apart}
-use Rattle.isdb_mmt.proofs.Seats.{length-media}
+use Rattle.isdb_mmt.proofs.PlacesFor.{length-media}
 use Rattle.isdb_mmt.proofs.TableAreas.{AllKept, length-laid, length-kept}
 use Rattle.isdb_mmt.proofs.StateWrites.{TablesFit, length-tables, latest-tables, limits-tables, sections-tables, long-latest, latest-read}
 use Rattle.isdb_mmt.proofs.Placed.{Tied}
-use Rattle.isdb_mmt.proofs.MediaLeaves.{in-objects, within-old, keeps-old, media-old, new-facts, keeps-new, media-new, seat-free, held-room, tied-next}
+use Rattle.isdb_mmt.proofs.MediaLeaves.{in-objects, within-old, keeps-old, media-old, new-facts, keeps-new, media-new, place-for-free, held-room, tied-next}
 use Rattle.isdb_mmt.proofs.MessageLeaves.{Says, ranges, kept-within, media-same, controls-same, media-2, sections-t2, long-1, length-1, long-t, len0, len1, len2, in2, in-messages, joined-length, controls-old, message-old, controls-new, all-before, message-new, controlEntries}
-use Rattle.isdb_mmt.proofs.PacketLeaves.{Stores, MessageFits, own, seat-free as control-free, old-free, new-free, sections-plt, sections-tot}
+use Rattle.isdb_mmt.proofs.PacketLeaves.{Stores, MessageFits, own, place-for-free as control-free, old-free, new-free, sections-plt, sections-tot}
 use Rattle.isdb_mmt.proofs.Stays.{Placed, mediaThere, controlThere, sectionThere, Exact, exact-was, placed-set, placed-snoc}
 
 -- a session after another: limits and lengths of buffers as before, and what is there stands within them
@@ -168,8 +168,8 @@ module _ (s : Session) (ok : Sound (s .state) (s .others) (lengthsOf s)) where
     objects-long i free =
         length-held (a .held) (i * l .«mfu_area») (l .«mfu_area») (s .objects) room (omega (arith, in-objects s ok id a tied fits room i free))
 
-    seat-lasts : (x : Seat) → mediaSeat (s .state) id ≡ x → (x ≡ Full → ⊥) → Lasts s (leavesAt s id a x)
-    seat-lasts (Old i) e n =
+    place-for-lasts : (x : PlaceFor) → mediaPlaceFor (s .state) id ≡ x → (x ≡ NoneFree → ⊥) → Lasts s (leavesAt s id a x)
+    place-for-lasts (Own i) e n =
         let k = keeps-old s ok id a tied fits room i e in
         let free : i < l .«media_ids» = omega (arith, within-old s ok id a tied fits room i e, ok .media) in
         record {
@@ -184,7 +184,7 @@ module _ (s : Session) (ok : Sound (s .state) (s .others) (lengthsOf s)) where
           plt = rw (k .latest) (ok .plt);
           tot = rw (k .latest) (ok .tot);
         }
-    seat-lasts (New i) e n =
+    place-for-lasts (Free i) e n =
         let k = keeps-new s ok id a tied fits room i e in
         let f = new-facts s ok id a tied fits room i e in
         let z : length (mediaIn (s .state)) ≡ i = length-media (s .state) ∙ sym (f .is) in
@@ -202,7 +202,7 @@ module _ (s : Session) (ok : Sound (s .state) (s .others) (lengthsOf s)) where
           plt = rw (k .latest) (ok .plt);
           tot = rw (k .latest) (ok .tot);
         }
-    seat-lasts Full e n = absurd (n refl)
+    place-for-lasts NoneFree e n = absurd (n refl)
 
   -- ---- tables
 
@@ -289,7 +289,7 @@ module _ (s : Session) (ok : Sound (s .state) (s .others) (lengthsOf s)) where
           tot = rw lt (λ b. t .tot);
         }
 
-    pub old-lasts : controlSeat (s .state) id ≡ Old i → Lasts s (messageIn s n id i)
+    pub old-lasts : controlPlaceFor (s .state) id ≡ Own i → Lasts s (messageIn s n id i)
     unfolding messageIn
     old-lasts e =
         let t = f .tables in
@@ -298,7 +298,7 @@ module _ (s : Session) (ok : Sound (s .state) (s .others) (lengthsOf s)) where
         (rw (controls-old s ok n t id c (p .fields) (p .joins) (p .mpt) ep ea ec ei i free e)
         (placed-set (controlThere l s) (controlsIn (s .state)) 0 i (controlFor id c) control-own (was .controls)))
 
-    pub new-lasts : controlSeat (s .state) id ≡ New i → Lasts s (messageIn s n id i)
+    pub new-lasts : controlPlaceFor (s .state) id ≡ Free i → Lasts s (messageIn s n id i)
     unfolding messageIn
     new-lasts e =
         let t = f .tables in
@@ -308,14 +308,14 @@ module _ (s : Session) (ok : Sound (s .state) (s .others) (lengthsOf s)) where
         (rw (controls-new s ok n t id c (p .fields) (p .joins) (p .mpt) ep ea ec ei i free e)
         (placed-snoc (controlThere l s) (controlsIn (s .state)) 0 (controlFor id c) (rw z control-own) (was .controls)))
 
-  module _ (c : Ctl) (rows out : ℕ) (q : Fits s rows out (message c)) (f : MessageFits l (c .id) (pushed (view s) (message c))) where
-    message-seat : (x : Seat) → controlSeat (s .state) (c .id) ≡ x → Lasts s (messageAt s (pushed (view s) (message c)) (c .id) x)
+  module _ (c : MessagePacket) (rows out : ℕ) (q : Fits s rows out (message c)) (f : MessageFits l (c .id) (pushed (view s) (message c))) where
+    message-place-for : (x : PlaceFor) → controlPlaceFor (s .state) (c .id) ≡ x → Lasts s (messageAt s (pushed (view s) (message c)) (c .id) x)
     unfolding pushed
-    message-seat (Old i) e =
+    message-place-for (Own i) e =
         old-lasts (pushed (view s) (message c)) (c .id) f refl refl (own s ok c rows out q f) refl i (old-free s ok c rows out q f i e) e
-    message-seat (New i) e =
+    message-place-for (Free i) e =
         new-lasts (pushed (view s) (message c)) (c .id) f refl refl (own s ok c rows out q f) refl i (new-free s ok c rows out q f i e) e
-    message-seat Full e = absurd (control-free s ok c rows out q f e)
+    message-place-for NoneFree e = absurd (control-free s ok c rows out q f e)
 
   -- ---- all of them
   pub packet-lasts : (p : Packet) (rows out : ℕ) → Fits s rows out p → Stores s p → Lasts s (packetLeaves s p)
@@ -325,8 +325,8 @@ module _ (s : Session) (ok : Sound (s .state) (s .others) (lengthsOf s)) where
   packet-lasts other rows out h f = head-lasts _ (counted (pushed (view s) other .counters) (s .state) untouched)
   packet-lasts (ntp t) rows out h f = head-lasts _ (counted (pushed (view s) (ntp t) .counters) (withTime t (s .state)) (timed t))
   packet-lasts (media m) rows out h f =
-      seat-lasts (m .id) (assetNext s m) (tied-next s ok m (h .media) (h .object)) f (held-room s ok m (h .media) (h .object)) (mediaSeat (s .state) (m .id)) refl
-      (seat-free s ok m (h .media) (h .object))
-  packet-lasts (message c) rows out h f = message-seat c rows out h f (controlSeat (s .state) (c .id)) refl
+      place-for-lasts (m .id) (assetNext s m) (tied-next s ok m (h .media) (h .object)) f (held-room s ok m (h .media) (h .object)) (mediaPlaceFor (s .state) (m .id)) refl
+      (place-for-free s ok m (h .media) (h .object))
+  packet-lasts (message c) rows out h f = message-place-for c rows out h f (controlPlaceFor (s .state) (c .id)) refl
   packet-lasts (control bs) rows out h f =
       control-lasts (pushed (view s) (control bs)) f refl refl refl (sym (sections-plt s ok bs (view s .store))) (sym (sections-tot s ok bs (view s .store))) refl

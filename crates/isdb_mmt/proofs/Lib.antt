@@ -14,7 +14,7 @@ pub mod StdB60
 pub mod StdB60Sections
 pub mod Places
 pub mod Units
-pub mod Pieces
+pub mod AggregatedMessages
 pub mod StdB60Tables
 pub mod StdB60Short
 pub mod Rows
@@ -43,7 +43,7 @@ pub mod Views
 pub mod Limits
 pub mod Checks
 pub mod Opening
-pub mod Seats
+pub mod PlacesFor
 pub mod MediaLeaves
 pub mod TableAreas
 pub mod StateWrites

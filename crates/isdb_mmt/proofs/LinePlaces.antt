@@ -7,17 +7,17 @@ use native.Mathlib.Nat.{add-zero, mul-le-mul-right, mul-zero, mul-suc}
 use native.Mathlib.Omega.{arith}
 use lib.ListN.{length, getD, length-set, length-append}
 use Rattle.isdb_tlv.specs.Guards.{if_then_else_, _<?_}
-use Rattle.isdb_mmt.specs.Packet.{Bytes, Ctl, message}
+use Rattle.isdb_mmt.specs.Packet.{Bytes, MessagePacket, message}
 use Rattle.isdb_mmt.specs.Lent.{part, namesFrom, placesFrom, foundFrom}
 use Rattle.isdb_mmt.specs.Layout.{controlPlaces, controlSize, sectionPlaces, sectionSize}
 use Rattle.isdb_mmt.specs.Session.{Session, limitsOf, usedOf, controlAt, controlPlaceOf, sectionPlaceOf}
 use Rattle.isdb_mmt.specs.Check.{Sound, lengthsOf, controlsIn, controlSound, mediaIn, sectionsIn}
-use Rattle.isdb_mmt.specs.Leaves.{withSections, keptOver, latestOver, messageIn, messageAt, messageLeaves, packetLeaves, controlSeat, joinedIn, bytesOver, usedFor}
+use Rattle.isdb_mmt.specs.Leaves.{withSections, keptOver, latestOver, messageIn, messageAt, messageLeaves, packetLeaves, controlPlaceFor, joinedIn, bytesOver, usedFor}
 use Rattle.isdb_mmt.specs.Fragments.{laidBy, areaBy, fateOf, joinedBy, controlWith}
 use Rattle.isdb_mmt.specs.Lines.{blankPlace, withLine, withCounts}
 use Rattle.isdb_mmt.specs.Maps.{put, orElse, isSome, one}
-use Rattle.isdb_mmt.specs.Joins.{idle, lineAfter}
-use Rattle.isdb_mmt.specs.Model.{State, Control as ControlState, controlOf, idleControl, lineOf, pushed, gives}
+use Rattle.isdb_mmt.specs.Joins.{idle, reassemblyAfter}
+use Rattle.isdb_mmt.specs.Model.{State, Control as ControlState, controlOf, idleControl, reassemblyOf, pushed, gives}
 use Rattle.isdb_mmt.specs.View.{given, controlStateOf, controlEntry, tableAt, viewBy, view, assetEntry, sectionEntry}
 use Rattle.isdb_mmt.specs.Kept.{mptAfterAll}
 use Rattle.isdb_mmt.specs.GivenTables.{tablesGiven}
@@ -28,16 +28,16 @@ use Rattle.isdb_mmt.specs.Opening.{lent}
 use Rattle.isdb_mmt.specs.declared.decoder.limits.Limits.{Limits}
 use Rattle.isdb_mmt.specs.declared.decoder.control.Control.{Control}
 use Rattle.isdb_mmt.specs.declared.decoder.messages.Fate.{Fate}
-use Rattle.isdb_mmt.specs.declared.decoder.place.Seat.the-variants.{Old, New, Full}
+use Rattle.isdb_mmt.specs.declared.decoder.place.PlaceFor.the-variants.{Own, Free, NoneFree}
 use Rattle.isdb_mmt.specs.declared.decoder.place.Found.the-variants.{At, Nothing}
 use Rattle.isdb_mmt.specs.declared.decoder.messages.Joined.{Joined}
-use Rattle.isdb_mmt.specs.declared.decoder.place.Seat.{Seat}
+use Rattle.isdb_mmt.specs.declared.decoder.place.PlaceFor.{PlaceFor}
 use Rattle.isdb_mmt.proofs.Lent.{length-names, length-places}
 use Rattle.isdb_mmt.proofs.Names.{clash}
 use Rattle.isdb_mmt.proofs.Limits.{passed}
 use Rattle.isdb_mmt.proofs.Checks.{control-was, place-was}
 use Rattle.isdb_mmt.proofs.Views.{keys, Stands, stands, absent}
-use Rattle.isdb_mmt.proofs.Seats.{seat-was-old, seat-was-new, length-indexed, getD-indexed, length-media, length-map, seat-was-full}
+use Rattle.isdb_mmt.proofs.PlacesFor.{place-for-was-old, place-for-was-new, length-indexed, getD-indexed, length-media, length-map, place-for-was-full}
 use Rattle.isdb_mmt.proofs.MessageLeaves.{controlEntries, control-names, length-controls}
 use Rattle.isdb_mmt.proofs.Maps.{find-put}
 use Rattle.isdb_mmt.proofs.Fragments.{Does, fate-does}
@@ -85,13 +85,13 @@ module _ (s : Session) (ok : Sound (s .state) (s .others) (lengthsOf s)) (id : �
   unfolding view viewBy
   length-all = length-indexed (controlEntry l s) 0 (controlsIn st) ∙ length-controls st
 
-  pub sits-old : (i : ℕ) → controlSeat st id ≡ Old i → Sits s id i 0 (controlAt st i)
-  unfolding controlSeat controlOf orElse view viewBy controlsIn
-  sits-old i seat =
+  pub sits-old : (i : ℕ) → controlPlaceFor st id ≡ Own i → Sits s id i 0 (controlAt st i)
+  unfolding controlPlaceFor controlOf orElse view viewBy controlsIn
+  sits-old i place-for =
       let c : Control = controlAt st i in
       let e : foundFrom 0 (keys (controlEntries s)) id ≡ At i =
       ap (λ (ns : List ℕ). foundFrom 0 ns id) (control-names s)
-      ∙ seat-was-old (namesFrom (usedOf st .«control_ids») controlSize controlPlaces st) (l .«control_ids») id i seat in
+      ∙ place-for-was-old (namesFrom (usedOf st .«control_ids») controlSize controlPlaces st) (l .«control_ids») id i place-for in
       let z : i - 0 ≡ i = omega arith in
       let w : Stands (controlEntries s) id i = rw z at (stands (controlEntries s) id 0 i e .1) in
       let lu : length (controlEntries s) ≡ usedOf st .«control_ids» = length-indexed (controlEntry l s) 0 (controlsIn st) ∙ length-controls st in
@@ -118,10 +118,10 @@ module _ (s : Session) (ok : Sound (s .state) (s .others) (lengthsOf s)) (id : �
         room = omega (arith, ok .controls);
       }
 
-  pub sits-new : (i : ℕ) → controlSeat st id ≡ New i → Sits s id i 1 blankPlace
-  unfolding controlSeat controlOf orElse view viewBy
-  sits-new i seat =
-      let w = seat-was-new (namesFrom (usedOf st .«control_ids») controlSize controlPlaces st) (l .«control_ids») id i seat in
+  pub sits-new : (i : ℕ) → controlPlaceFor st id ≡ Free i → Sits s id i 1 blankPlace
+  unfolding controlPlaceFor controlOf orElse view viewBy
+  sits-new i place-for =
+      let w = place-for-was-new (namesFrom (usedOf st .«control_ids») controlSize controlPlaces st) (l .«control_ids») id i place-for in
       let e : foundFrom 0 (keys (controlEntries s)) id ≡ Nothing = ap (λ (ns : List ℕ). foundFrom 0 ns id) (control-names s) ∙ w .0 in
       let a = absent (controlEntries s) id 0 e in
       record {
@@ -137,7 +137,7 @@ module _ (s : Session) (ok : Sound (s .state) (s .others) (lengthsOf s)) (id : �
 
 -- ---- the place after any message packet
 
-module _ (s : Session) (ok : Sound (s .state) (s .others) (lengthsOf s)) (x : Ctl) (i k : ℕ) (c : Control) (at : Sits s (x .id) i k c) (f : Fate)
+module _ (s : Session) (ok : Sound (s .state) (s .others) (lengthsOf s)) (x : MessagePacket) (i k : ℕ) (c : Control) (at : Sits s (x .id) i k c) (f : Fate)
     (ef : f ≡ fateOf c (x .number) (x .payload)) where
   abbrev v : State
   v = view s
@@ -157,25 +157,25 @@ module _ (s : Session) (ok : Sound (s .state) (s .others) (lengthsOf s)) (x : Ct
   abbrev t : Bytes
   t = tableAt lim s (lim .sections + i) (c .«mpt_length»)
 
-  pub does : Does (lineOf (x .id) v) x c m f
+  pub does : Does (reassemblyOf (x .id) v) x c m f
   does =
       let e = fate-does c m t (λ j. part-length (i * lim .«message_area») (c .length) (s .messages) (at .joins j)) x in
       subst (λ (y : ControlState). Does (y .line) x c m f) (sym (at .is)) (subst (Does (controlStateOf c m t .line) x c m) (sym ef) e)
 
   pub own : controlOf (x .id) n
-      ≡ record { line = lineAfter (lineOf (x .id) v) x; mpt = mptAfterAll (controlOf (x .id) v .mpt) (tablesGiven (lineOf (x .id) v) x) }
+      ≡ record { line = reassemblyAfter (reassemblyOf (x .id) v) x; mpt = mptAfterAll (controlOf (x .id) v .mpt) (tablesGiven (reassemblyOf (x .id) v) x) }
   unfolding pushed controlOf orElse
   own = ap (orElse idleControl) (find-put (x .id) _ (v .controls))
 
   pub place-after : controlFor (x .id) (controlOf (x .id) n)
       ≡ controlWith (x .id) (x .number) (joinedBy f c b) (isSome (controlOf (x .id) n .mpt)) (tableLength (controlOf (x .id) n .mpt))
-  unfolding controlFor lineAfter isSome orElse
+  unfolding controlFor reassemblyAfter isSome orElse
   place-after =
       ap (controlFor (x .id)) own
       ∙ ap
       (λ (j : Joined).
-      controlWith (x .id) (x .number) j (isSome (mptAfterAll (controlOf (x .id) v .mpt) (tablesGiven (lineOf (x .id) v) x)))
-      (tableLength (mptAfterAll (controlOf (x .id) v .mpt) (tablesGiven (lineOf (x .id) v) x))))
+      controlWith (x .id) (x .number) j (isSome (mptAfterAll (controlOf (x .id) v .mpt) (tablesGiven (reassemblyOf (x .id) v) x)))
+      (tableLength (mptAfterAll (controlOf (x .id) v .mpt) (tablesGiven (reassemblyOf (x .id) v) x))))
       (does .joined)
       ∙ ap (λ (y : ControlState). controlWith (x .id) (x .number) (joinedBy f c b) (isSome (y .mpt)) (tableLength (y .mpt))) (sym own)
 
@@ -200,7 +200,7 @@ module _ (s : Session) (ok : Sound (s .state) (s .others) (lengthsOf s)) (x : Ct
 
   pub messages-are : areaBy f c b ≤ lim .«message_area»
       → bytesOver (i * lim .«message_area») (joinedIn (controlOf (x .id) n .line .part)) (s .messages) ≡ laidBy f (i * lim .«message_area») c b (s .messages)
-  unfolding lineAfter
+  unfolding reassemblyAfter
   messages-are h =
       ap (λ (y : ControlState). bytesOver (i * lim .«message_area») (joinedIn (y .line .part)) (s .messages)) own
       ∙ does .bytes (i * lim .«message_area») (s .messages) (λ j. refl)
@@ -220,7 +220,7 @@ module _ (s : Session) (ok : Sound (s .state) (s .others) (lengthsOf s)) (x : Ct
   pub asks-message : asksOf s 0 0 (message x)
       ≡ (if lim .sections <? usedOf (s .state) .sections + needs v (message x) .sections then 8
       else if lim .«message_area» <? areaBy f c b then 9
-      else if lim .«table_area» <? tablesNeed (v .store) (tablesGiven (lineOf (x .id) v) x) then 9
+      else if lim .«table_area» <? tablesNeed (v .store) (tablesGiven (reassemblyOf (x .id) v) x) then 9
       else 0)
   unfolding asksOf needs pushed gives
   asks-message =
@@ -230,13 +230,13 @@ module _ (s : Session) (ok : Sound (s .state) (s .others) (lengthsOf s)) (x : Ct
       (λ y.
       if lim .sections <? usedOf (s .state) .sections + needs v (message x) .sections then 8
       else if lim .«message_area» <? y then 9
-      else if lim .«table_area» <? tablesNeed (v .store) (tablesGiven (lineOf (x .id) v) x) then 9
+      else if lim .«table_area» <? tablesNeed (v .store) (tablesGiven (reassemblyOf (x .id) v) x) then 9
       else 0)
       (does .area)
 
   -- what it leaves
-  pub leaves-parts : areaBy f c b ≤ lim .«message_area» → (seat : Seat) → controlSeat (s .state) (x .id) ≡ seat
-      → messageAt s n (x .id) seat ≡ messageIn s n (x .id) i
+  pub leaves-parts : areaBy f c b ≤ lim .«message_area» → (place-for : PlaceFor) → controlPlaceFor (s .state) (x .id) ≡ place-for
+      → messageAt s n (x .id) place-for ≡ messageIn s n (x .id) i
       → packetLeaves s (message x)
       ≡ lent
       (withCounts (countersFor (n .counters)) (latestFor (n .store))
@@ -255,7 +255,7 @@ module _ (s : Session) (ok : Sound (s .state) (s .others) (lengthsOf s)) (x : Ct
       (bytesOver ((lim .sections + i) * lim .«table_area») (controlOf (x .id) n .mpt)
       (latestOver lim (n .store) (keptOver (lim .«table_area») 0 (n .store .kept) (s .tables))))
   unfolding packetLeaves messageLeaves messageIn
-  leaves-parts h seat e q =
+  leaves-parts h place-for e q =
       let p = place-after in
       let u = used-after in
       let r = messages-are h in
@@ -269,12 +269,12 @@ module _ (s : Session) (ok : Sound (s .state) (s .others) (lengthsOf s)) (x : Ct
 
 -- ---- an id that finds no place
 
-pub no-place : (s : Session) (ok : Sound (s .state) (s .others) (lengthsOf s)) (x : Ctl) → controlSeat (s .state) (x .id) ≡ Full → QuietPushed s (message x) 8 s
-unfolding controlSeat asksOf needs pushed view viewBy
+pub no-place : (s : Session) (ok : Sound (s .state) (s .others) (lengthsOf s)) (x : MessagePacket) → controlPlaceFor (s .state) (x .id) ≡ NoneFree → QuietPushed s (message x) 8 s
+unfolding controlPlaceFor asksOf needs pushed view viewBy
 no-place s ok x e =
     let st = s .state in
     let l = limitsOf st in
-    let w = seat-was-full (namesFrom (usedOf st .«control_ids») controlSize controlPlaces st) (l .«control_ids») (x .id) e in
+    let w = place-for-was-full (namesFrom (usedOf st .«control_ids») controlSize controlPlaces st) (l .«control_ids») (x .id) e in
     let q : foundFrom 0 (keys (controlEntries s)) (x .id) ≡ Nothing = ap (λ (ns : List ℕ). foundFrom 0 ns (x .id)) (control-names s) ∙ w .0 in
     let a : length (pushed (view s) (message x) .controls) ≡ length (controlEntries s) + 1 =
     ap (λ (m : List (ℕ × ControlState)). length m) (absent (controlEntries s) (x .id) 0 q .1 _) ∙ length-append (controlEntries s) (_ ∷ []) in

@@ -14,19 +14,19 @@ use Rattle.isdb_tlv.specs.Guards.{if_then_else_, _<?_}
 use Rattle.isdb_tlv.specs.Fields.{written}
 use Rattle.isdb_tlv.proofs.Fields.{length-written}
 use Rattle.isdb_tlv.proofs.Guards.{either}
-use Rattle.isdb_mmt.specs.Packet.{Bytes, Ctl, message}
-use Rattle.isdb_mmt.specs.Lent.{part, over, namesFrom, seatOf}
+use Rattle.isdb_mmt.specs.Packet.{Bytes, MessagePacket, message}
+use Rattle.isdb_mmt.specs.Lent.{part, over, namesFrom, placeForName}
 use Rattle.isdb_mmt.specs.Layout.{usedPlace, latestPlace, countersPlace, controlPlaces, controlSize, mostControlIds, sectionPlaces, sectionSize}
 use Rattle.isdb_mmt.specs.Session.{Session, limitsOf, usedOf, usedFields, latestOf, latestFields, countersOf, countersFields, controlFields, controlAt}
 use Rattle.isdb_mmt.specs.Check.{PlacesThere, packetCounts, tableCounts, Sound, lengthsOf}
-use Rattle.isdb_mmt.specs.Leaves.{controlSeat, usedFor, withControl, withSections, withLatest, withCounters, stateOfTables, bytesOver, keptOver, latestOver, messageIn, messageAt, messageLeaves, packetLeaves}
+use Rattle.isdb_mmt.specs.Leaves.{controlPlaceFor, usedFor, withControl, withSections, withLatest, withCounters, stateOfTables, bytesOver, keptOver, latestOver, messageIn, messageAt, messageLeaves, packetLeaves}
 use Rattle.isdb_mmt.specs.Fragments.{laidBy, areaBy, fragmentCounted, CanCount, fateOf, completes, joinedBy, controlWith, faultsOf}
-use Rattle.isdb_mmt.specs.Lines.{blankPlace, placeIn, SeatThere, tidyLatest, withMore, withLine, withCounts, placeNext, stateNext, CanStoreLine, CanJoinAt, JoinedAt, CanJoin, lengthIf, ctl, meetingOf, CanMeet}
+use Rattle.isdb_mmt.specs.Lines.{blankPlace, placeIn, SeatThere, tidyLatest, withMore, withLine, withCounts, placeNext, stateNext, CanStoreLine, CanJoinAt, JoinedAt, CanJoin, lengthIf, messagePacket, meetingOf, CanMeet}
 use Rattle.isdb_mmt.specs.Maps.{isSome, one}
-use Rattle.isdb_mmt.specs.Joins.{Join, cutOfAll, short, lineGives}
-use Rattle.isdb_mmt.specs.Model.{State, Control as ControlState, controlOf, lineOf, pushed, packetCounted, messageCounted, lineCounted, gives}
+use Rattle.isdb_mmt.specs.Joins.{PartialMessage, cutOfAll, short, messageCompleted}
+use Rattle.isdb_mmt.specs.Model.{State, Control as ControlState, controlOf, reassemblyOf, pushed, packetCounted, messageCounted, reassemblyCounted, gives}
 use Rattle.isdb_mmt.specs.View.{tableAt, viewBy, view, given}
-use Rattle.isdb_mmt.specs.Kept.{Table, tableRead, storedAll, mptAfterAll, Store, countedAll}
+use Rattle.isdb_mmt.specs.Kept.{Table, tableRead, storedAll, mptAfterAll, KeptTables, countedAll}
 use Rattle.isdb_mmt.specs.GivenTables.{tablesGiven}
 use Rattle.isdb_mmt.specs.Placing.{tableLength, controlFor, latestFor, countersFor}
 use Rattle.isdb_mmt.specs.Needs.{needs, tablesNeed}
@@ -40,46 +40,46 @@ use Rattle.isdb_mmt.specs.declared.decoder.head.Used.{Used}
 use Rattle.isdb_mmt.specs.declared.decoder.head.Latest.{Latest}
 use Rattle.isdb_mmt.specs.declared.decoder.control.Control.{Control}
 use Rattle.isdb_mmt.specs.declared.decoder.messages.Fate.{Fate}
-use Rattle.isdb_mmt.specs.declared.decoder.place.Seat.{Seat}
-use Rattle.isdb_mmt.specs.declared.decoder.place.Seat.the-variants.{Old, New, Full}
+use Rattle.isdb_mmt.specs.declared.decoder.place.PlaceFor.{PlaceFor}
+use Rattle.isdb_mmt.specs.declared.decoder.place.PlaceFor.the-variants.{Own, Free, NoneFree}
 use Rattle.isdb_mmt.specs.declared.decoder.messages.Meeting.{Meeting}
 use Rattle.isdb_mmt.proofs.Lent.{length-names, length-over, part-apart}
 use Rattle.isdb_mmt.proofs.Limits.{passed}
 use Rattle.isdb_mmt.proofs.Checks.{count-was}
-use Rattle.isdb_mmt.proofs.Seats.{seat-was-old}
+use Rattle.isdb_mmt.proofs.PlacesFor.{place-for-was-old}
 use Rattle.isdb_mmt.proofs.Fragments.{Does, none-whole}
 use Rattle.isdb_mmt.proofs.Unchanged.{laid-same, given-length, is-there, sections-same, tables-same, latest-same}
 use Rattle.isdb_mmt.proofs.LinePlaces.{used-after, no-place, Sits, sits-old, sits-new, length-all, does, own, place-after, mpt-before, length-kept, controls-more, messages-are}
 use Rattle.isdb_mmt.proofs.Quiet.{asks-by}
 use Rattle.isdb_mmt.proofs.Verdicts.{found-within}
 
--- ---- the calls: a seat and its place
+-- ---- the calls: a place and its place
 
-pub seat-there : (l : List ℕ) (u : Used) → PlacesThere l → u ≡ usedOf l → controlPlaces + u .«control_ids» * controlSize ≤ length l
-seat-there l u h e =
+pub place-for-there : (l : List ℕ) (u : Used) → PlacesThere l → u ≡ usedOf l → controlPlaces + u .«control_ids» * controlSize ≤ length l
+place-for-there l u h e =
     let k : u .«control_ids» ≡ usedOf l .«control_ids» = ap (λ (y : Used). y .«control_ids») e in
     omega (arith, h .long, h .controls)
 
-pub seat-is : (l : List ℕ) (x : Limits) (u : Used) (id : ℕ) (r : Seat) → x ≡ limitsOf l → u ≡ usedOf l
-    → r ≡ seatOf (namesFrom (u .«control_ids») controlSize controlPlaces l) (x .«control_ids») id → r ≡ controlSeat l id
-unfolding controlSeat
-seat-is l x u id r ex eu e =
+pub place-for-is : (l : List ℕ) (x : Limits) (u : Used) (id : ℕ) (r : PlaceFor) → x ≡ limitsOf l → u ≡ usedOf l
+    → r ≡ placeForName (namesFrom (u .«control_ids») controlSize controlPlaces l) (x .«control_ids») id → r ≡ controlPlaceFor l id
+unfolding controlPlaceFor
+place-for-is l x u id r ex eu e =
     e
-    ∙ ap (λ (y : Used). seatOf (namesFrom (y .«control_ids») controlSize controlPlaces l) (x .«control_ids») id) eu
-    ∙ ap (λ (y : Limits). seatOf (namesFrom (usedOf l .«control_ids») controlSize controlPlaces l) (y .«control_ids») id) ex
+    ∙ ap (λ (y : Used). placeForName (namesFrom (y .«control_ids») controlSize controlPlaces l) (x .«control_ids») id) eu
+    ∙ ap (λ (y : Limits). placeForName (namesFrom (usedOf l .«control_ids») controlSize controlPlaces l) (y .«control_ids») id) ex
 
-pub old-there : (t : Seat) (i : ℕ) → SeatThere t → t ≡ Old i → i < mostControlIds
+pub old-there : (t : PlaceFor) (i : ℕ) → SeatThere t → t ≡ Own i → i < mostControlIds
 old-there t i h e = rw e at h
 
-pub old-place : (l : List ℕ) (t : Seat) (i : ℕ) (r : Control) → t ≡ Old i → r ≡ controlAt l i → r ≡ placeIn l t
+pub old-place : (l : List ℕ) (t : PlaceFor) (i : ℕ) (r : Control) → t ≡ Own i → r ≡ controlAt l i → r ≡ placeIn l t
 unfolding placeIn
 old-place l t i r e k = rw e k
 
-pub new-place : (l : List ℕ) (t : Seat) (i : ℕ) (r : Control) → t ≡ New i → r ≡ blankPlace → r ≡ placeIn l t
+pub new-place : (l : List ℕ) (t : PlaceFor) (i : ℕ) (r : Control) → t ≡ Free i → r ≡ blankPlace → r ≡ placeIn l t
 unfolding placeIn
 new-place l t i r e k = rw e k
 
-pub full-place : (l : List ℕ) (t : Seat) (r : Control) → t ≡ Full → r ≡ blankPlace → r ≡ placeIn l t
+pub full-place : (l : List ℕ) (t : PlaceFor) (r : Control) → t ≡ NoneFree → r ≡ blankPlace → r ≡ placeIn l t
 unfolding placeIn
 full-place l t r e k = rw e k
 
@@ -145,7 +145,7 @@ module _ (l m : List ℕ) (i k : ℕ) (b : Bytes) (h : CanJoinAt l m i k b) (x :
 
 -- ---- what the model makes of the packet
 
-module _ (s : Session) (ok : Sound (s .state) (s .others) (lengthsOf s)) (x : Ctl) (i k : ℕ) (c : Control) (at : Sits s (x .id) i k c) (f : Fate)
+module _ (s : Session) (ok : Sound (s .state) (s .others) (lengthsOf s)) (x : MessagePacket) (i k : ℕ) (c : Control) (at : Sits s (x .id) i k c) (f : Fate)
     (ef : f ≡ fateOf c (x .number) (x .payload)) (part-only : completes f ≡ false) where
   abbrev v : State
   v = view s
@@ -165,13 +165,13 @@ module _ (s : Session) (ok : Sound (s .state) (s .others) (lengthsOf s)) (x : Ct
   abbrev t : Bytes
   t = tableAt lim s (lim .sections + i) (c .«mpt_length»)
 
-  done : Does (lineOf (x .id) v) x c m f
+  done : Does (reassemblyOf (x .id) v) x c m f
   done = does s ok x i k c at f ef
 
-  none-given : tablesGiven (lineOf (x .id) v) x ≡ []
+  none-given : tablesGiven (reassemblyOf (x .id) v) x ≡ []
   unfolding tablesGiven cutOfAll
   none-given =
-      ap (λ (o : Option Join). map tableRead (cutOfAll o .tables)) (done .whole ∙ none-whole f c m b part-only)
+      ap (λ (o : Option PartialMessage). map tableRead (cutOfAll o .tables)) (done .whole ∙ none-whole f c m b part-only)
 
   store-is : n .store ≡ v .store
   unfolding pushed storedAll
@@ -184,16 +184,16 @@ module _ (s : Session) (ok : Sound (s .state) (s .others) (lengthsOf s)) (x : Ct
       ap (λ (y : ControlState). y .mpt) (own s ok x i k c at f ef) ∙ ap (mptAfterAll (controlOf (x .id) v .mpt)) none-given ∙ mpt-before s ok x i k c at f ef
 
   counters-are : countersFor (n .counters) ≡ fragmentCounted f (countersOf (s .state))
-  unfolding pushed countedAll lineCounted messageCounted packetCounted cutOfAll view viewBy
+  unfolding pushed countedAll reassemblyCounted messageCounted packetCounted cutOfAll view viewBy
   counters-are =
       let a : Counters = countersOf (s .state) in
-      let line = lineOf (x .id) v in
-      let bad : a .«message_malformed» + (one (short x) + cutOfAll (lineGives line x) .malformed) ≡ a .«message_malformed» + one (faultsOf f .malformed) =
-      ap (λ (o : Option Join). a .«message_malformed» + (one (short x) + cutOfAll o .malformed)) (done .whole ∙ none-whole f c m b part-only)
+      let line = reassemblyOf (x .id) v in
+      let bad : a .«message_malformed» + (one (short x) + cutOfAll (messageCompleted line x) .malformed) ≡ a .«message_malformed» + one (faultsOf f .malformed) =
+      ap (λ (o : Option PartialMessage). a .«message_malformed» + (one (short x) + cutOfAll o .malformed)) (done .whole ∙ none-whole f c m b part-only)
       ∙ ap (λ y. a .«message_malformed» + (one y + 0)) (done .shorts) ∙ ap (λ y. a .«message_malformed» + y) (add-zero (one (faultsOf f .malformed))) in
       let orphans = ap (λ y. a .«orphan_fragments» + one y) (done .orphans) in
       let oversizes = ap (λ y. a .oversize + one y) (done .oversizes) in
-      let e : countersFor (lineCounted (packetCounted (v .counters) 0 0 0) line x) ≡ fragmentCounted f a =
+      let e : countersFor (reassemblyCounted (packetCounted (v .counters) 0 0 0) line x) ≡ fragmentCounted f a =
       λ j.
       record {
         «tlv_packets» = a .«tlv_packets» + 1;
@@ -209,7 +209,7 @@ module _ (s : Session) (ok : Sound (s .state) (s .others) (lengthsOf s)) (x : Ct
         «message_malformed» = bad j;
         «split_errors» = a .«split_errors»;
       } in
-      ap (λ (ts : List Table). countersFor (countedAll (controlOf (x .id) v .mpt) (v .store) (lineCounted (packetCounted (v .counters) 0 0 0) line x) ts)) none-given
+      ap (λ (ts : List Table). countersFor (countedAll (controlOf (x .id) v .mpt) (v .store) (reassemblyCounted (packetCounted (v .counters) 0 0 0) line x) ts)) none-given
       ∙ e
 
   place-is : controlFor (x .id) (controlOf (x .id) n) ≡ placeNext (x .id) (x .number) c f b
@@ -223,7 +223,7 @@ module _ (s : Session) (ok : Sound (s .state) (s .others) (lengthsOf s)) (x : Ct
 
   used-is : usedFor n ≡ withMore k (usedOf (s .state))
   used-is =
-      let g : length (n .store .kept) ≡ usedOf (s .state) .sections = ap (λ (y : Store). length (y .kept)) store-is ∙ length-kept s ok x i k c at f ef in
+      let g : length (n .store .kept) ≡ usedOf (s .state) .sections = ap (λ (y : KeptTables). length (y .kept)) store-is ∙ length-kept s ok x i k c at f ef in
       used-after s ok x i k c at f ef
       ∙ (λ j. record { «media_ids» = usedOf (s .state) .«media_ids»; «control_ids» = usedOf (s .state) .«control_ids» + k; sections = g j })
 
@@ -252,7 +252,7 @@ module _ (s : Session) (ok : Sound (s .state) (s .others) (lengthsOf s)) (x : Ct
       let e1 : withUsed (usedFor n) (withControl i (x .id) (controlOf (x .id) n) st) ≡ b1 =
       ap (λ (y : Control). withUsed (usedFor n) (over (controlPlaces + controlSize * i) (written (controlFields y)) st)) place-is
       ∙ ap (λ (y : Used). withUsed y b0) used-is in
-      let e2 : withSections (n .store .kept) b1 ≡ b1 = ap (λ (y : Store). withSections (y .kept) b1) store-is ∙ sections-same s ok o b1 p in
+      let e2 : withSections (n .store .kept) b1 ≡ b1 = ap (λ (y : KeptTables). withSections (y .kept) b1) store-is ∙ sections-same s ok o b1 p in
       ap (λ (y : List ℕ). withLatest (n .store) (withCounters (n .counters) (withSections (n .store .kept) y))) e1
       ∙ ap (λ (y : List ℕ). withLatest (n .store) (withCounters (n .counters) y)) e2
       ∙ ap (λ (y : Counters). withLatest (n .store) (over countersPlace (written (countersFields y)) b1)) counters-are
@@ -262,7 +262,7 @@ module _ (s : Session) (ok : Sound (s .state) (s .others) (lengthsOf s)) (x : Ct
       (latestOver lim (n .store) (keptOver (lim .«table_area») 0 (n .store .kept) (s .tables))) ≡ s .tables
   tables-are =
       ap (λ (y : Option Bytes). bytesOver room y (latestOver lim (n .store) (keptOver (lim .«table_area») 0 (n .store .kept) (s .tables)))) mpt-is
-      ∙ ap (λ (y : Store). bytesOver room (given (c .mpt) t) (latestOver lim y (keptOver (lim .«table_area») 0 (y .kept) (s .tables)))) store-is
+      ∙ ap (λ (y : KeptTables). bytesOver room (given (c .mpt) t) (latestOver lim y (keptOver (lim .«table_area») 0 (y .kept) (s .tables)))) store-is
       ∙ ap (bytesOver room (given (c .mpt) t)) (tables-same s ok)
       ∙ laid-same (c .mpt) room (c .«mpt_length») (s .tables)
 
@@ -271,7 +271,7 @@ module _ (s : Session) (ok : Sound (s .state) (s .others) (lengthsOf s)) (x : Ct
   unfolding messageIn view viewBy
   session-is o h =
       let p = state-is o in
-      let q : n .store .others ≡ s .others = ap (λ (y : Store). y .others) store-is in
+      let q : n .store .others ≡ s .others = ap (λ (y : KeptTables). y .others) store-is in
       let r = messages-are s ok x i k c at f ef h in
       let t = tables-are in
       λ j. lent (p j) (q j) (s .objects) (r j) (t j)
@@ -283,7 +283,7 @@ module _ (s : Session) (ok : Sound (s .state) (s .others) (lengthsOf s)) (x : Ct
   asks-is =
       asks-by (needs v (message x)) lim (usedOf (s .state)) (omega (arith, ok .media))
       (omega (arith, controls-more s ok x i k c at f ef, length-all s ok (x .id), at .room))
-      (omega (arith, ap (λ (y : Store). length (y .kept)) store-is, ok .sections)) (omega arith)
+      (omega (arith, ap (λ (y : KeptTables). length (y .kept)) store-is, ok .sections)) (omega arith)
       (subst (λ (y : ℕ). y ≤ lim .«table_area») (sym (no-table none-given)) (omega arith)) refl refl
       ∙ ap (λ y. if lim .«message_area» <? y then 9 else 0) (done .area)
     where
@@ -302,9 +302,9 @@ module _ (s : Session) (ok : Sound (s .state) (s .others) (lengthsOf s)) (x : Ct
         nine : _≡_ {A = ℕ} 9 0 → ⊥
         nine q = omega arith
 
-    pub quiet : (seat : Seat) → controlSeat (s .state) (x .id) ≡ seat → messageAt s n (x .id) seat ≡ messageIn s n (x .id) i → QuietPushed s (message x) r s′
+    pub quiet : (place-for : PlaceFor) → controlPlaceFor (s .state) (x .id) ≡ place-for → messageAt s n (x .id) place-for ≡ messageIn s n (x .id) i → QuietPushed s (message x) r s′
     unfolding packetLeaves messageLeaves
-    quiet seat e q =
+    quiet place-for e q =
         record {
           number = j .number ∙ sym asks-is;
           same = λ z. let w = j .same z in λ d. lent (w .0 d) (s .others) (s .objects) (w .1 d) (s .tables);
@@ -318,44 +318,44 @@ module _ (s : Session) (ok : Sound (s .state) (s .others) (lengthsOf s)) (x : Ct
 
 -- ---- the calls: what a packet meets
 
-pub seat-place : (l : List ℕ) (id : ℕ) (t : Seat) → PlacesThere l → t ≡ controlSeat l id → SeatThere t
-unfolding controlSeat
-seat-place l id (Old i) h e =
-    let w = seat-was-old (namesFrom (usedOf l .«control_ids») controlSize controlPlaces l) (limitsOf l .«control_ids») id i (sym e) in
+pub place-for-place : (l : List ℕ) (id : ℕ) (t : PlaceFor) → PlacesThere l → t ≡ controlPlaceFor l id → SeatThere t
+unfolding controlPlaceFor
+place-for-place l id (Own i) h e =
+    let w = place-for-was-old (namesFrom (usedOf l .«control_ids») controlSize controlPlaces l) (limitsOf l .«control_ids») id i (sym e) in
     omega (
       arith,
       found-within 0 (namesFrom (usedOf l .«control_ids») controlSize controlPlaces l) id i w,
       length-names controlSize (usedOf l .«control_ids») controlPlaces l,
       h .controls,
     )
-seat-place l id (New i) h e = tt
-seat-place l id Full h e = tt
+place-for-place l id (Free i) h e = tt
+place-for-place l id NoneFree h e = tt
 
-pub meeting-is : (l : List ℕ) (id n : ℕ) (b : Bytes) (t : Seat) (c : Control) (f : Fate) → t ≡ controlSeat l id → c ≡ placeIn l t → f ≡ fateOf c n b
-    → record { seat = t; place = c; fate = f } ≡ meetingOf l (ctl id n b)
+pub meeting-is : (l : List ℕ) (id n : ℕ) (b : Bytes) (t : PlaceFor) (c : Control) (f : Fate) → t ≡ controlPlaceFor l id → c ≡ placeIn l t → f ≡ fateOf c n b
+    → record { «place_for» = t; place = c; fate = f } ≡ meetingOf l (messagePacket id n b)
 unfolding meetingOf
 meeting-is l id n b t c f et ec ef =
-    let p : c ≡ placeIn l (controlSeat l id) = ec ∙ ap (placeIn l) et in
-    let q : f ≡ fateOf (placeIn l (controlSeat l id)) n b = ef ∙ ap (λ (z : Control). fateOf z n b) p in
-    λ j. record { seat = et j; place = p j; fate = q j }
+    let p : c ≡ placeIn l (controlPlaceFor l id) = ec ∙ ap (placeIn l) et in
+    let q : f ≡ fateOf (placeIn l (controlPlaceFor l id)) n b = ef ∙ ap (λ (z : Control). fateOf z n b) p in
+    λ j. record { «place_for» = et j; place = p j; fate = q j }
 
 pub can-meet : (s : Session) (b : Bytes) → Sound (s .state) (s .others) (lengthsOf s) → length b ≤ mostBytes → CanMeet (s .state) b
 can-meet s b ok h = record { there = ok .there; short = h }
 
-pub can-join : (s : Session) (x : Ctl) (y : Meeting) (r : Bool) → Sound (s .state) (s .others) (lengthsOf s) → length (x .payload) ≤ mostBytes
+pub can-join : (s : Session) (x : MessagePacket) (y : Meeting) (r : Bool) → Sound (s .state) (s .others) (lengthsOf s) → length (x .payload) ≤ mostBytes
     → y ≡ meetingOf (s .state) x → r ≡ completes (y .fate) → r ≡ false → CanJoin s x y
 can-join s x y r ok h e f g = record { session = ok; short = h; meets = e; divided = sym f ∙ g }
 
--- ---- the calls: a packet, by its seat
+-- ---- the calls: a packet, by its place
 
-module _ (s : Session) (x : Ctl) (y : Meeting) (h : CanJoin s x y) where
-  seat-met : y .seat ≡ controlSeat (s .state) (x .id)
+module _ (s : Session) (x : MessagePacket) (y : Meeting) (h : CanJoin s x y) where
+  place-for-met : y .«place_for» ≡ controlPlaceFor (s .state) (x .id)
   unfolding meetingOf
-  seat-met = ap (λ (z : Meeting). z .seat) (h .meets)
+  place-for-met = ap (λ (z : Meeting). z .«place_for») (h .meets)
 
-  place-met : y .place ≡ placeIn (s .state) (y .seat)
+  place-met : y .place ≡ placeIn (s .state) (y .«place_for»)
   unfolding meetingOf
-  place-met = ap (λ (z : Meeting). z .place) (h .meets) ∙ ap (placeIn (s .state)) (sym seat-met)
+  place-met = ap (λ (z : Meeting). z .place) (h .meets) ∙ ap (placeIn (s .state)) (sym place-for-met)
 
   fate-met : y .fate ≡ fateOf (y .place) (x .number) (x .payload)
   unfolding meetingOf
@@ -391,28 +391,28 @@ module _ (s : Session) (x : Ctl) (y : Meeting) (h : CanJoin s x y) where
       }
 
   module _ (i : ℕ) where
-    is-old : y .seat ≡ Old i → Sits s (x .id) i 0 (y .place)
+    is-old : y .«place_for» ≡ Own i → Sits s (x .id) i 0 (y .place)
     unfolding placeIn
-    is-old e = subst (Sits s (x .id) i 0) (sym (place-met ∙ ap (placeIn (s .state)) e)) (sits-old s (h .session) (x .id) i (sym seat-met ∙ e))
+    is-old e = subst (Sits s (x .id) i 0) (sym (place-met ∙ ap (placeIn (s .state)) e)) (sits-old s (h .session) (x .id) i (sym place-for-met ∙ e))
 
-    is-new : y .seat ≡ New i → Sits s (x .id) i 1 (y .place)
+    is-new : y .«place_for» ≡ Free i → Sits s (x .id) i 1 (y .place)
     unfolding placeIn
-    is-new e = subst (Sits s (x .id) i 1) (sym (place-met ∙ ap (placeIn (s .state)) e)) (sits-new s (h .session) (x .id) i (sym seat-met ∙ e))
+    is-new e = subst (Sits s (x .id) i 1) (sym (place-met ∙ ap (placeIn (s .state)) e)) (sits-new s (h .session) (x .id) i (sym place-for-met ∙ e))
 
-    pub joins-old : y .seat ≡ Old i → CanJoinAt (s .state) (s .messages) i 0 (x .payload)
+    pub joins-old : y .«place_for» ≡ Own i → CanJoinAt (s .state) (s .messages) i 0 (x .payload)
     joins-old e = can-join-at i 0 (is-old e)
 
-    pub joins-new : y .seat ≡ New i → CanJoinAt (s .state) (s .messages) i 1 (x .payload)
+    pub joins-new : y .«place_for» ≡ Free i → CanJoinAt (s .state) (s .messages) i 1 (x .payload)
     joins-new e = can-join-at i 1 (is-new e)
 
     module _ (o : Octets (s .state)) (r : ℕ) (l′ m′ : List ℕ) where
-      pub pushed-old : y .seat ≡ Old i → JoinedAt (s .state) (s .messages) i 0 (x .id) (x .number) (x .payload) (y .place) (y .fate) r l′ m′
+      pub pushed-old : y .«place_for» ≡ Own i → JoinedAt (s .state) (s .messages) i 0 (x .id) (x .number) (x .payload) (y .place) (y .fate) r l′ m′
           → QuietPushed s (message x) r (lent l′ (s .others) (s .objects) m′ (s .tables))
-      pushed-old e j = quiet s (h .session) x i 0 (y .place) (is-old e) (y .fate) fate-met (h .divided) o r l′ m′ j (Old i) (sym seat-met ∙ e) refl
+      pushed-old e j = quiet s (h .session) x i 0 (y .place) (is-old e) (y .fate) fate-met (h .divided) o r l′ m′ j (Own i) (sym place-for-met ∙ e) refl
 
-      pub pushed-new : y .seat ≡ New i → JoinedAt (s .state) (s .messages) i 1 (x .id) (x .number) (x .payload) (y .place) (y .fate) r l′ m′
+      pub pushed-new : y .«place_for» ≡ Free i → JoinedAt (s .state) (s .messages) i 1 (x .id) (x .number) (x .payload) (y .place) (y .fate) r l′ m′
           → QuietPushed s (message x) r (lent l′ (s .others) (s .objects) m′ (s .tables))
-      pushed-new e j = quiet s (h .session) x i 1 (y .place) (is-new e) (y .fate) fate-met (h .divided) o r l′ m′ j (New i) (sym seat-met ∙ e) refl
+      pushed-new e j = quiet s (h .session) x i 1 (y .place) (is-new e) (y .fate) fate-met (h .divided) o r l′ m′ j (Free i) (sym place-for-met ∙ e) refl
 
-  pub pushed-full : y .seat ≡ Full → QuietPushed s (message x) 8 s
-  pushed-full e = no-place s (h .session) x (sym seat-met ∙ e)
+  pub pushed-full : y .«place_for» ≡ NoneFree → QuietPushed s (message x) 8 s
+  pushed-full e = no-place s (h .session) x (sym place-for-met ∙ e)

@@ -12,7 +12,7 @@ use borrow.Author.Tests.{leb-true}
 use Rattle.isdb_tlv.proofs.Guards.{either}
 use Rattle.isdb_mmt.specs.Layout.{mostSections, mostControlIds, mostTableArea, mostCount, tableIds, sectionPlaces, sectionSize}
 use Rattle.isdb_mmt.specs.Packet.{Bytes}
-use Rattle.isdb_mmt.specs.Kept.{Kept, Counters as Counts, Store}
+use Rattle.isdb_mmt.specs.Kept.{Kept, Counters as Counts, KeptTables}
 use Rattle.isdb_mmt.specs.Lent.{part, placesFrom, indexed, every}
 use Rattle.isdb_mmt.specs.Session.{Session, limitsOf, usedOf, latestOf, countersOf, sectionPlaceOf}
 use Rattle.isdb_mmt.specs.Check.{sectionsIn, sectionSound, lengthsOf, countFits, Sound}

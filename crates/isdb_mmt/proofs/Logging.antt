@@ -10,7 +10,7 @@ use Rattle.isdb_tlv.specs.Guards.{_=?_}
 use Rattle.isdb_tlv.proofs.Guards.{cond-elim}
 use Rattle.isdb_mmt.specs.Packet.{Bytes}
 use Rattle.isdb_mmt.specs.Lent.{part, foundFrom}
-use Rattle.isdb_mmt.specs.Kept.{Section, Table, emptyTable, mptTable, pltTable, totTable, cutSection, aSection, otherTable}
+use Rattle.isdb_mmt.specs.Kept.{Section, Table, emptyTable, mptTable, pltTable, totTable, truncatedSection, aSection, otherTable}
 use Rattle.isdb_mmt.specs.declared.decoder.place.Found.{Found}
 use Rattle.isdb_mmt.specs.declared.decoder.place.Found.the-variants.{At, Nothing as notFound}
 use Rattle.isdb_mmt.specs.declared.decoder.section.KeptSection.{KeptSection}
@@ -70,7 +70,7 @@ module _ (m : Bytes) where
     put-section : (x : Section) → StandsAt m k (x .bytes) → Fine (sectionTold ks x)
     unfolding sectionTold
     put-section x h =
-        cond-elim Fine (x .headOk) (λ e. put-version x h (foundFrom 0 (keysOf ks) (x .key)))
+        cond-elim Fine (x .headerAndCrcGood) (λ e. put-version x h (foundFrom 0 (keysOf ks) (x .key)))
         (λ e. cond-elim Fine (x .crcBad) (λ z. tt) (λ z. tt))
 
     put-stands : (r p : Recent) (t : Table) → TableAt m k t → Fine (toldOf ks r p t)
@@ -82,7 +82,7 @@ module _ (m : Bytes) where
     put-stands r p (pltTable false b) h = tt
     put-stands r p (totTable true c n b) h = sym (ap length h)
     put-stands r p (totTable false c n b) h = tt
-    put-stands r p cutSection h = tt
+    put-stands r p truncatedSection h = tt
     put-stands r p (aSection x) h = put-section x h
     put-stands r p (otherTable id) h = tt
 

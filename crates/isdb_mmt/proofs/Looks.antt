@@ -10,10 +10,10 @@ use mir.Syntax.{w64}
 use lib.ListN.{length, length-take}
 use Rattle.isdb_tlv.specs.Bytes.{be}
 use Rattle.isdb_tlv.specs.declared.mmtp.Header.{Header}
-use Rattle.isdb_mmt.specs.Packet.{Bytes, Piece, Media as MediaPacket, headerIn, piecesOf, unitsFor, unitsRead, mediaOf, clear, readable}
+use Rattle.isdb_mmt.specs.Packet.{Bytes, PayloadUnit, MpuPacket, headerIn, payloadUnits, unitsFor, unitsRead, mediaOf, clear, readable}
 use Rattle.isdb_mmt.specs.Maps.{one, isSome}
 use Rattle.isdb_mmt.specs.Mpu.{payloadHeader, declaredOf, unitsOf, lostFrom}
-use Rattle.isdb_mmt.specs.Objects.{Asset, mostObject, malformedPayload, noted, assetAfter}
+use Rattle.isdb_mmt.specs.Objects.{Asset, mostObject, malformedPayload, afterHeaders, assetAfter}
 use Rattle.isdb_mmt.specs.Layout.{mostCount}
 use Rattle.isdb_mmt.specs.View.{assetOfPlace}
 use Rattle.isdb_mmt.specs.MediaPush.{noObject, heldFor, placeFor}
@@ -184,14 +184,14 @@ adds-small p n scrambled bad h t d e r o =
       malformed = omega (arith, one-le bad);
     })
 
-pub record Looked (m : MediaPacket) (t : Survey) (a : Asset) (r : Look) : Type 0 where
+pub record Looked (m : MpuPacket) (t : Survey) (a : Asset) (r : Look) : Type 0 where
   pub bad : r .bad ≡ malformedPayload m
   pub header : m .header ≡ headerIn (r .header)
   pub units : Told m t a (r .units) (readable m)
 
 module _ (x : Header) (b : Bytes) (t : Survey) (a : Asset) (eh : t .held ≡ isSome (a .held)) (eo : t .object ≡ heldFor (a .held)) where
   -- the packet, with what its payload's header is
-  abbrev packet : MaybeHeader → MediaPacket
+  abbrev packet : MaybeHeader → MpuPacket
   packet h =
       record {
         id = x .«packet_id»;
@@ -208,7 +208,7 @@ module _ (x : Header) (b : Bytes) (t : Survey) (a : Asset) (eh : t .held ≡ isS
     q = declaredOf b
 
     -- clear, by the kind of payload
-    abbrev clearPacket : Option (List Piece) → MediaPacket
+    abbrev clearPacket : Option (List PayloadUnit) → MpuPacket
     clearPacket us =
         record {
           id = x .«packet_id»;
@@ -221,12 +221,12 @@ module _ (x : Header) (b : Bytes) (t : Survey) (a : Asset) (eh : t .held ≡ isS
         }
 
     look-units : (o : Option (List DataUnit))
-        → Looked (clearPacket (piecesOf h q o)) t a
+        → Looked (clearPacket (payloadUnits h q o)) t a
         (lookTold t h (surveyOf (h .fragmentation) (h .«mpu_sequence_number») (x .rap) q t o))
     unfolding surveyOf malformedPayload readable clear isSome
     look-units none = record { bad = refl; header = refl; units = told-empty (clearPacket none) t a eh eo }
     look-units (some us) =
-        record { bad = refl; header = refl; units = survey-told (clearPacket (piecesOf h q (some us))) h q us t a eh eo }
+        record { bad = refl; header = refl; units = survey-told (clearPacket (payloadUnits h q (some us))) h q us t a eh eo }
 
     look-kind : (k : FragmentType) → Looked (clearPacket (unitsFor h k q)) t a (lookUnits t h (x .rap) b k)
     unfolding lookUnits malformedPayload readable clear isSome
@@ -261,18 +261,18 @@ module _ (x : Header) (b : Bytes) (t : Survey) (a : Asset) (eh : t .held ≡ isS
 
 -- the look at a packet, and the place made of it, are the model's
 module _ (id : ℕ) (p : Media) (b : Bytes) (x : Header) (bytes : Bytes) (long : p .held ≡ true → length b ≡ p .object .length) where
-  abbrev arrived : MediaPacket
+  abbrev arrived : MpuPacket
   arrived = mediaOf x bytes
 
-  pub look-is : Looked arrived (startOf p (x .sequence)) (noted (assetOfPlace p b) arrived) (lookOf p (x .sequence) (x .«scramble_info») (x .rap) bytes)
+  pub look-is : Looked arrived (startOf p (x .sequence)) (afterHeaders (assetOfPlace p b) arrived) (lookOf p (x .sequence) (x .«scramble_info») (x .rap) bytes)
   unfolding lookOf mediaOf
   look-is =
-      look-header x bytes (startOf p (x .sequence)) (noted (assetOfPlace p b) arrived)
+      look-header x bytes (startOf p (x .sequence)) (afterHeaders (assetOfPlace p b) arrived)
       (start-held p b arrived long) (start-object p b arrived long) (payloadHeader bytes)
 
   pub place-is : (r : Look) → r ≡ lookOf p (x .sequence) (x .«scramble_info») (x .rap) bytes
       → placeAfter id p (x .sequence) (x .«scramble_info») (r .header) (r .bad) (r .units) ≡ placeFor id (assetAfter (assetOfPlace p b) arrived)
   unfolding mediaOf
   place-is r e =
-      let w : Looked arrived (startOf p (x .sequence)) (noted (assetOfPlace p b) arrived) r = rw e look-is in
+      let w : Looked arrived (startOf p (x .sequence)) (afterHeaders (assetOfPlace p b) arrived) r = rw e look-is in
       place-told id p b arrived long (r .header) (w .header) (r .bad) (w .bad) (r .units) (w .units)

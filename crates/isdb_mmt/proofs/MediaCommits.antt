@@ -16,10 +16,10 @@ use Rattle.isdb_tlv.specs.Bytes.{be}
 use Rattle.isdb_tlv.specs.Fields.{written}
 use Rattle.isdb_tlv.specs.declared.mmtp.Header.{Header}
 use Rattle.isdb_mmt.specs.Part.{partOf, part as partAt}
-use Rattle.isdb_mmt.specs.Packet.{Bytes, Piece, Media as MediaPacket, headerIn, pieceOf, piecesOf, unitsFor, unitsRead, mediaOf, clear, readable}
+use Rattle.isdb_mmt.specs.Packet.{Bytes, PayloadUnit, MpuPacket, headerIn, payloadUnit, payloadUnits, unitsFor, unitsRead, mediaOf, clear, readable}
 use Rattle.isdb_mmt.specs.Maps.{isSome}
 use Rattle.isdb_mmt.specs.Mpu.{headerFields, payloadHeader, declaredOf, unitsOf}
-use Rattle.isdb_mmt.specs.Objects.{Mfu, Asset, Rec, grown, mpuNumber, gap, unitsDo, unitsGive, noted, assetAfter, tagged, passes, mediaGives}
+use Rattle.isdb_mmt.specs.Objects.{Mfu, Asset, Rec, grown, mpuNumber, gap, afterUnits, deliveredBy, afterHeaders, assetAfter, tagged, passes, mediaGives}
 use Rattle.isdb_mmt.specs.Needs.{heldLength, unitsNeed}
 use Rattle.isdb_mmt.specs.Lent.{part, over}
 use Rattle.isdb_mmt.specs.View.{given, mfuOf, assetOfPlace}
@@ -154,7 +154,7 @@ clear-none false = refl
 module _ (t : Survey) (rap : Bool) (b : Bytes) where
   idle-told : (x : PayloadHeader) (o : Option (List DataUnit))
       → lookTold t x (surveyOf (x .fragmentation) (x .«mpu_sequence_number») rap (declaredOf b) t o) .taken ≡ false
-      → clear false (piecesOf x (declaredOf b) o) ≡ []
+      → clear false (payloadUnits x (declaredOf b) o) ≡ []
   unfolding surveyOf clear
   idle-told x none h = refl
   idle-told x (some us) h = clash true refl h
@@ -184,7 +184,7 @@ bytesHeld none = []
 bytesHeld (some g) = g .bytes
 
 module _ (at : ℕ) (p : Media) (h : Header) (b objects : Bytes) (fits : p .held ≡ true → at + p .object .length ≤ length objects) where
-  abbrev m : MediaPacket
+  abbrev m : MpuPacket
   m = mediaOf h b
 
   abbrev there : Bytes
@@ -196,8 +196,8 @@ module _ (at : ℕ) (p : Media) (h : Header) (b objects : Bytes) (fits : p .held
   pub long-there : p .held ≡ true → length there ≡ p .object .length
   long-there t = length-take-le (p .object .length) (drop at objects) (rw length-drop (omega (arith, fits t)))
 
-  pub held-was : (g : Mfu) → noted before m .held ≡ some g → (p .held ≡ true) × (g .bytes ≡ there)
-  unfolding noted assetOfPlace mfuOf isSome
+  pub held-was : (g : Mfu) → afterHeaders before m .held ≡ some g → (p .held ≡ true) × (g .bytes ≡ there)
+  unfolding afterHeaders assetOfPlace mfuOf isSome
   held-was g e = go (gap (before .number) (m .number)) (p .held) e
     where
       go : (z y : Bool) → cond z none (given y (mfuOf (p .object) there)) ≡ some g → (y ≡ true) × (g .bytes ≡ there)
@@ -206,10 +206,10 @@ module _ (at : ℕ) (p : Media) (h : Header) (b objects : Bytes) (fits : p .held
       go false false d = clash false (ap isSome d) refl
 
   -- what is held before the units lies there
-  pub unchanged : heldOver at (noted before m .held) objects ≡ objects
-  unchanged = go (noted before m .held) refl
+  pub unchanged : heldOver at (afterHeaders before m .held) objects ≡ objects
+  unchanged = go (afterHeaders before m .held) refl
     where
-      go : (o : Option Mfu) → noted before m .held ≡ o → heldOver at o objects ≡ objects
+      go : (o : Option Mfu) → afterHeaders before m .held ≡ o → heldOver at o objects ≡ objects
       go none e = refl
       go (some g) e = held-same at (p .object .length) objects g (held-was g e .1) (fits (held-was g e .0))
 
@@ -265,14 +265,14 @@ module _ (x : PayloadHeader) (at : ℕ) (p : Media) (r : Look) (h : Header) (b o
   abbrev t0 : Survey
   t0 = startOf p (h .sequence)
 
-  abbrev pk : MediaPacket
+  abbrev pk : MpuPacket
   pk = mediaOf h b
 
   abbrev a0 : Asset
   a0 = startsFrom at p objects
 
   abbrev a1 : Asset
-  a1 = noted a0 pk
+  a1 = afterHeaders a0 pk
 
   fits : p .held ≡ true → at + p .object .length ≤ length objects
   fits = can .can .held
@@ -301,13 +301,13 @@ module _ (x : PayloadHeader) (at : ℕ) (p : Media) (r : Look) (h : Header) (b o
   unfolding mediaOf
   mpu-is = ap (λ (k : MaybeHeader). mpuNumber (headerIn k)) header-is
 
-  pieces-are : readable pk ≡ map (pieceOf x q) us
+  pieces-are : readable pk ≡ map (payloadUnit x q) us
   unfolding readable mediaOf clear
   pieces-are =
       ap (λ y. clear y (unitsRead b (headerIn (payloadHeader b)))) (taken-x .0)
       ∙ ap (λ (k : MaybeHeader). clear false (unitsRead b (headerIn k))) header-is
       ∙ ap (λ (k : FragmentType). clear false (unitsFor x k q)) (taken-x .1 .kind)
-      ∙ ap (λ (o : Option (List DataUnit)). clear false (piecesOf x q o)) (taken-x .1 .units)
+      ∙ ap (λ (o : Option (List DataUnit)). clear false (payloadUnits x q o)) (taken-x .1 .units)
 
   start-there : (t0 .held ≡ isSome (a1 .held)) × (t0 .object ≡ heldFor (a1 .held))
   unfolding mediaOf
@@ -324,18 +324,18 @@ module _ (x : PayloadHeader) (at : ℕ) (p : Media) (r : Look) (h : Header) (b o
 
   -- the object after the units, and what they give
   abbrev heldBy : FragmentationIndicator → Option Mfu
-  heldBy f = unitsDo pk a1 (map (piece f q) us) .held
+  heldBy f = afterUnits pk a1 (map (piece f q) us) .held
 
   abbrev givenBy : FragmentationIndicator → List Mfu
-  givenBy f = unitsGive pk a1 (map (piece f q) us)
+  givenBy f = deliveredBy pk a1 (map (piece f q) us)
 
   area-is : heldOver at (assetAfter a0 pk .held) objects ≡ heldOver at (heldBy (x .fragmentation)) objects
   unfolding assetAfter
-  area-is = ap (λ (ps : List Piece). heldOver at (unitsDo pk a1 ps .held) objects) pieces-are
+  area-is = ap (λ (ps : List PayloadUnit). heldOver at (afterUnits pk a1 ps .held) objects) pieces-are
 
   gives-is : givesFrom at false p h b objects ≡ tagged (pk .id) (givenBy (x .fragmentation))
   unfolding mediaGives passes
-  gives-is = ap (λ (ps : List Piece). tagged (pk .id) (unitsGive pk a1 ps)) pieces-are
+  gives-is = ap (λ (ps : List PayloadUnit). tagged (pk .id) (deliveredBy pk a1 ps)) pieces-are
 
   -- nothing handed out
   module _ (f : FragmentationIndicator) (e : x .fragmentation ≡ f) where
@@ -424,7 +424,7 @@ module _ (x : PayloadHeader) (at : ℕ) (p : Media) (r : Look) (h : Header) (b o
   module _ (e : x .fragmentation ≡ Middle) where
     held-told : r .units .held ≡ isSome (heldBy Middle)
     held-told =
-        told .held ∙ ap (λ (ps : List Piece). isSome (unitsDo pk a1 ps .held)) pieces-are ∙ ap (λ (k : FragmentationIndicator). isSome (heldBy k)) e
+        told .held ∙ ap (λ (ps : List PayloadUnit). isSome (afterUnits pk a1 ps .held)) pieces-are ∙ ap (λ (k : FragmentationIndicator). isSome (heldBy k)) e
 
     pub middle-idle : r .units .held ≡ false → Committed at false p h b objects rows bytes objects rows bytes
     middle-idle z = silent Middle e (middle-gives pk q at objects us a1) objects (none-held at objects (heldBy Middle) (sym held-told ∙ z))
@@ -504,8 +504,8 @@ module _ (x : PayloadHeader) (at : ℕ) (p : Media) (r : Look) (h : Header) (b o
     survey-last : r .units ≡ surveyAll Last (x .«mpu_sequence_number») (h .rap) q t0 us
     survey-last = survey-is ∙ ap (λ (f : FragmentationIndicator). surveyAll f (x .«mpu_sequence_number») (h .rap) q t0 us) e
 
-    given-last : unitsGive pk a1 (readable pk) ≡ givenBy Last
-    given-last = ap (unitsGive pk a1) pieces-are ∙ ap givenBy e
+    given-last : deliveredBy pk a1 (readable pk) ≡ givenBy Last
+    given-last = ap (deliveredBy pk a1) pieces-are ∙ ap givenBy e
 
     area-last : heldOver at (heldBy Last) objects ≡ objects
     area-last = last-held pk q at objects us a1 still
@@ -648,7 +648,7 @@ module _ (at : ℕ) (pass : Bool) (p : Media) (r : Look) (h : Header) (b objects
   abbrev t0′ : Survey
   t0′ = startOf p (h .sequence)
 
-  abbrev pk′ : MediaPacket
+  abbrev pk′ : MpuPacket
   pk′ = mediaOf h b
 
   abbrev a0′ : Asset
@@ -674,7 +674,7 @@ module _ (at : ℕ) (pass : Bool) (p : Media) (r : Look) (h : Header) (b objects
     same-gives : givesFrom at pass p h b objects ≡ givesFrom at false p h b objects
     unfolding mediaGives passes
     same-gives =
-        ap (λ (rs : List Rec). rs ++ tagged (pk′ .id) (unitsGive pk′ (noted a0′ pk′) (readable pk′)))
+        ap (λ (rs : List Rec). rs ++ tagged (pk′ .id) (deliveredBy pk′ (afterHeaders a0′ pk′) (readable pk′)))
         (not-passed pass h b (clear-passes pass scrambled (payloadHeader b) is-clear))
 
     pub can-take : CanTake x at p r h b objects rows bytes
@@ -710,14 +710,14 @@ module _ (at : ℕ) (pass : Bool) (p : Media) (r : Look) (h : Header) (b objects
     none-read = idle-by t0′ (h .rap) b scrambled (payloadHeader b) (ap (λ (y : Look). y .taken) (sym looked-by) ∙ et)
 
     area-stays : objects ≡ heldOver at (assetAfter a0′ pk′ .held) objects
-    unfolding assetAfter unitsDo
+    unfolding assetAfter afterUnits
     area-stays =
-        sym (ap (λ (ps : List Piece). heldOver at (unitsDo pk′ (noted a0′ pk′) ps .held) objects) none-read ∙ unchanged at p h b objects (can .held))
+        sym (ap (λ (ps : List PayloadUnit). heldOver at (afterUnits pk′ (afterHeaders a0′ pk′) ps .held) objects) none-read ∙ unchanged at p h b objects (can .held))
 
     gives-passes : givesFrom at pass p h b objects ≡ passes pass pk′
-    unfolding mediaGives unitsGive tagged
+    unfolding mediaGives deliveredBy tagged
     gives-passes =
-        ap (λ (ps : List Piece). passes pass pk′ ++ tagged (pk′ .id) (unitsGive pk′ (noted a0′ pk′) ps)) none-read ∙ append-nil (passes pass pk′)
+        ap (λ (ps : List PayloadUnit). passes pass pk′ ++ tagged (pk′ .id) (deliveredBy pk′ (afterHeaders a0′ pk′) ps)) none-read ∙ append-nil (passes pass pk′)
 
     idle-when : passesOn pass scrambled (payloadHeader b) ≡ false → Committed at pass p h b objects rows bytes objects rows bytes
     idle-when e =

@@ -14,28 +14,28 @@ use Rattle.isdb_tlv.specs.Bytes.{be}
 use Rattle.isdb_tlv.specs.Fields.{Field, field, written, Fit}
 use Rattle.isdb_tlv.proofs.Fields.{length-written}
 use Rattle.isdb_tlv.proofs.Guards.{either}
-use Rattle.isdb_mmt.specs.Packet.{Media as MediaPacket, media as mediaPacket, Bytes, Piece, readable}
+use Rattle.isdb_mmt.specs.Packet.{MpuPacket, media as mediaPacket, Bytes, PayloadUnit, readable}
 use Rattle.isdb_mmt.specs.Maps.{find, put, orElse, isSome}
-use Rattle.isdb_mmt.specs.Objects.{newMpu, mpuAfter, rangeAfter, mpuIn, Mfu, Asset, fresh, assetAfter, Did, mostObject, grown, continued, unitDoes, did, didTo, objectOf, unitsDo, gap, noted}
+use Rattle.isdb_mmt.specs.Objects.{newMpu, mpuAfter, rangeAfter, mpuIn, Mfu, Asset, fresh, assetAfter, UnitEffect, mostObject, grown, continued, effectOf, unitEffect, afterUnit, objectOf, afterUnits, gap, afterHeaders}
 use Rattle.isdb_mmt.specs.Kept.{Counters as Counts}
 use Rattle.isdb_mmt.specs.Model.{State, assetOf, pushed, packetCounted}
 use Rattle.isdb_mmt.specs.Needs.{heldLength, unitArea, unitsNeed, needs}
-use Rattle.isdb_mmt.specs.Lent.{part, over, placesFrom, namesFrom, foundFrom, seatAfter, seatOf, every, indexed}
+use Rattle.isdb_mmt.specs.Lent.{part, over, placesFrom, namesFrom, foundFrom, placeForFound, placeForName, every, indexed}
 use Rattle.isdb_mmt.specs.Limits.{asked}
 use Rattle.isdb_mmt.specs.Session.{Session, limitsOf, usedOf, usedFields, latestOf, timeOf, countersOf, mediaFields, mediaPlaceOf}
 use Rattle.isdb_mmt.specs.Check.{mediaIn, controlsIn, sectionsIn, mediaSound, packetCounts, lengthsOf, Sound}
 use Rattle.isdb_mmt.specs.View.{given, headerGiven, itemGiven, mfuOf, assetOfPlace, assetEntry, controlEntry, sectionEntry, tableAt, countsOf, viewBy, view}
 use Rattle.isdb_mmt.specs.Opening.{lent}
 use Rattle.isdb_mmt.specs.Records.{objectFor, headerOr, hasHeader, itemOr, hasItem}
-use Rattle.isdb_mmt.specs.MediaPush.{placeFor, heldFor, firstIn, heldOver, withPlace, oneMore, withUsed, withPackets, mediaSeat, leavesAt, assetNext, mediaLeaves, asksFor, mediaAsks}
+use Rattle.isdb_mmt.specs.MediaPush.{placeFor, heldFor, firstIn, heldOver, withPlace, oneMore, withUsed, withPackets, mediaPlaceFor, leavesAt, assetNext, mediaLeaves, asksFor, mediaAsks}
 use Rattle.isdb_mmt.specs.declared.maybe.MaybeU32.{MaybeU32}
 use Rattle.isdb_mmt.specs.declared.maybe.MaybeU32.the-variants.{None as noU32, Some as someU32}
 use Rattle.isdb_mmt.specs.declared.mpu.MaybeMfu.{MaybeMfu}
 use Rattle.isdb_mmt.specs.declared.mpu.MaybeMfu.the-variants.{None as noMfu, Some as someMfu}
 use Rattle.isdb_mmt.specs.declared.decoder.place.Found.{Found}
 use Rattle.isdb_mmt.specs.declared.decoder.place.Found.the-variants.{At, Nothing}
-use Rattle.isdb_mmt.specs.declared.decoder.place.Seat.{Seat}
-use Rattle.isdb_mmt.specs.declared.decoder.place.Seat.the-variants.{Old, New, Full}
+use Rattle.isdb_mmt.specs.declared.decoder.place.PlaceFor.{PlaceFor}
+use Rattle.isdb_mmt.specs.declared.decoder.place.PlaceFor.the-variants.{Own, Free, NoneFree}
 use Rattle.isdb_mmt.specs.declared.decoder.counts.Counters.{Counters}
 use Rattle.isdb_mmt.specs.declared.decoder.head.Used.{Used}
 use Rattle.isdb_mmt.specs.declared.decoder.head.Latest.{Latest}
@@ -57,7 +57,7 @@ use Rattle.isdb_mmt.specs.declared.mpu.MaybeHeader.{MaybeHeader}
 use Rattle.isdb_mmt.specs.declared.mpu.PayloadHeader.{PayloadHeader}
 use Rattle.isdb_mmt.specs.Layout.{mediaPlaces, mediaSize, usedPlace, countersPlace, stateSize}
 use Rattle.isdb_mmt.proofs.StateWrites.{used-other}
-use Rattle.isdb_mmt.proofs.Seats.{entries, entry-names, length-media, seat-was-old, seat-was-new, seat-was-full, length-map, length-indexed, every-at, set-indexed, getD-indexed, none-some}
+use Rattle.isdb_mmt.proofs.PlacesFor.{entries, entry-names, length-media, place-for-was-old, place-for-was-new, place-for-was-full, length-map, length-indexed, every-at, set-indexed, getD-indexed, none-some}
 
 -- ---- what a write leaves of the state, beside media places, the numbers in use and the counters
 
@@ -300,7 +300,7 @@ module _ (s : Session) (ok : Sound (s .state) (s .others) (lengthsOf s)) (id : �
   long = ok .there .long
 
   -- ---- a place that is there
-  module _ (i : ℕ) (seat : mediaSeat st id ≡ Old i) where
+  module _ (i : ℕ) (place-for : mediaPlaceFor st id ≡ Own i) where
     abbrev stateOld : List ℕ
     stateOld = withPackets packetsNow (withPlace i id a st)
 
@@ -308,11 +308,11 @@ module _ (s : Session) (ok : Sound (s .state) (s .others) (lengthsOf s)) (id : �
     sessionOld = lent stateOld (s .others) (objectsAfter i) (s .messages) (s .tables)
 
     found-old : Stands (entries s) id i
-    unfolding mediaSeat
+    unfolding mediaPlaceFor
     found-old =
         let e : foundFrom 0 (keys (entries s)) id ≡ At i =
         ap (λ (ns : List ℕ). foundFrom 0 ns id) (entry-names s)
-        ∙ seat-was-old (namesFrom (usedOf st .«media_ids») 120 184 st) (limitsOf st .«media_ids») id i seat in
+        ∙ place-for-was-old (namesFrom (usedOf st .«media_ids») 120 184 st) (limitsOf st .«media_ids») id i place-for in
         let z : i - 0 ≡ i = omega arith in
         rw z at (stands (entries s) id 0 i e .1)
 
@@ -361,7 +361,7 @@ module _ (s : Session) (ok : Sound (s .state) (s .others) (lengthsOf s)) (id : �
         ∙ ap (counting packetsNow) (apart countersOf 88 96 counters-own (184 + 120 * i) (written (mediaFields place)) st (inl (omega arith)) (omega arith))
 
   -- ---- a new place
-  module _ (i : ℕ) (seat : mediaSeat st id ≡ New i) where
+  module _ (i : ℕ) (place-for : mediaPlaceFor st id ≡ Free i) where
     abbrev usedNow : Used
     usedNow = oneMore (usedOf st)
 
@@ -379,9 +379,9 @@ module _ (s : Session) (ok : Sound (s .state) (s .others) (lengthsOf s)) (id : �
       pub unknown : find id (entries s) ≡ none
 
     pub new-facts : NewFacts
-    unfolding mediaSeat
+    unfolding mediaPlaceFor
     new-facts =
-        let w = seat-was-new (namesFrom (usedOf st .«media_ids») 120 184 st) (limitsOf st .«media_ids») id i seat in
+        let w = place-for-was-new (namesFrom (usedOf st .«media_ids») 120 184 st) (limitsOf st .«media_ids») id i place-for in
         let e : foundFrom 0 (keys (entries s)) id ≡ Nothing =
         ap (λ (ns : List ℕ). foundFrom 0 ns id) (entry-names s) ∙ w .0 in
         let r = absent (entries s) id 0 e in
@@ -527,24 +527,24 @@ module _ (s : Session) (st′ ob′ : List ℕ) (es : List (ℕ × Asset)) where
       })
 
 -- what a media packet leaves is what the model's state is after it, where the asset fits its place and its object its area
-module _ (s : Session) (m : MediaPacket) (ok : Sound (s .state) (s .others) (lengthsOf s)) (tied : Tied (assetNext s m))
+module _ (s : Session) (m : MpuPacket) (ok : Sound (s .state) (s .others) (lengthsOf s)) (tied : Tied (assetNext s m))
     (fits : Fit (mediaFields (placeFor (m .id) (assetNext s m)))) (room : heldLength (assetNext s m .held) ≤ limitsOf (s .state) .«mfu_area») where
-  pub leaves-view : (mediaSeat (s .state) (m .id) ≡ Full → ⊥) → view (mediaLeaves s m) ≡ pushed (view s) (mediaPacket m)
+  pub leaves-view : (mediaPlaceFor (s .state) (m .id) ≡ NoneFree → ⊥) → view (mediaLeaves s m) ≡ pushed (view s) (mediaPacket m)
   unfolding mediaLeaves pushed assetNext view viewBy
-  leaves-view free = go (mediaSeat (s .state) (m .id)) refl
+  leaves-view free = go (mediaPlaceFor (s .state) (m .id)) refl
     where
-      go : (x : Seat) → mediaSeat (s .state) (m .id) ≡ x → view (leavesAt s (m .id) (assetNext s m) x) ≡ pushed (view s) (mediaPacket m)
-      go (Old i) e =
+      go : (x : PlaceFor) → mediaPlaceFor (s .state) (m .id) ≡ x → view (leavesAt s (m .id) (assetNext s m) x) ≡ pushed (view s) (mediaPacket m)
+      go (Own i) e =
           view-from s (stateOld s ok (m .id) (assetNext s m) tied fits room i e) (objectsAfter s ok (m .id) (assetNext s m) tied fits room i)
           (put (m .id) (assetNext s m) (entries s))
           (keeps-old s ok (m .id) (assetNext s m) tied fits room i e) (entries-old s ok (m .id) (assetNext s m) tied fits room i e)
           (counters-old s ok (m .id) (assetNext s m) tied fits room i e)
-      go (New i) e =
+      go (Free i) e =
           view-from s (stateNew s ok (m .id) (assetNext s m) tied fits room i e) (objectsAfter s ok (m .id) (assetNext s m) tied fits room i)
           (put (m .id) (assetNext s m) (entries s))
           (keeps-new s ok (m .id) (assetNext s m) tied fits room i e) (entries-new s ok (m .id) (assetNext s m) tied fits room i e)
           (counters-new s ok (m .id) (assetNext s m) tied fits room i e)
-      go Full e = absurd (free e)
+      go NoneFree e = absurd (free e)
 
 -- ---- what is held fits where the needs do
 
@@ -553,8 +553,8 @@ unfolding continued
 ended true x = omega arith
 ended false x = omega arith
 
-unit-held : (f : FragmentationIndicator) (o : Option Mfu) (g : Mfu) → heldLength (unitDoes f o g .held) ≤ unitArea f (unitDoes f o g)
-unfolding unitDoes
+unit-held : (f : FragmentationIndicator) (o : Option Mfu) (g : Mfu) → heldLength (effectOf f o g .held) ≤ unitArea f (effectOf f o g)
+unfolding effectOf
 unit-held Complete o g = omega arith
 unit-held Head o g = omega arith
 unit-held Middle none g = omega arith
@@ -565,21 +565,21 @@ unit-held Last (some h) g = go (leb (length (h .bytes) + length (g .bytes)) most
     go : (b : Bool) (x : Mfu) → heldLength (continued b true x .held) ≤ unitArea Last (continued b true x)
     go b x = ended b x
 
-did-held : (m : MediaPacket) (a : Asset) (u : Piece) → heldLength (didTo a (did m a u) .held) ≤ unitArea (u .fragment) (did m a u)
-unfolding did didTo
+did-held : (m : MpuPacket) (a : Asset) (u : PayloadUnit) → heldLength (afterUnit a (unitEffect m a u) .held) ≤ unitArea (u .fragment) (unitEffect m a u)
+unfolding unitEffect afterUnit
 did-held m a u = unit-held (u .fragment) (a .held) (objectOf m u)
 
-units-held : (m : MediaPacket) (us : List Piece) (a : Asset) → heldLength (unitsDo m a us .held) ≤ max (heldLength (a .held)) (unitsNeed m a us)
-unfolding unitsDo unitsNeed
+units-held : (m : MpuPacket) (us : List PayloadUnit) (a : Asset) → heldLength (afterUnits m a us .held) ≤ max (heldLength (a .held)) (unitsNeed m a us)
+unfolding afterUnits unitsNeed
 units-held m [] a = omega arith
 units-held m (u ∷ us) a =
-    let d = did m a u in
-    let i = units-held m us (didTo a d) in
-    let k : heldLength (didTo a d .held) ≤ unitArea (u .fragment) d = did-held m a u in
+    let d = unitEffect m a u in
+    let i = units-held m us (afterUnit a d) in
+    let k : heldLength (afterUnit a d .held) ≤ unitArea (u .fragment) d = did-held m a u in
     omega arith
 
-noted-held : (a : Asset) (m : MediaPacket) → heldLength (noted a m .held) ≤ heldLength (a .held)
-unfolding noted
+noted-held : (a : Asset) (m : MpuPacket) → heldLength (afterHeaders a m .held) ≤ heldLength (a .held)
+unfolding afterHeaders
 noted-held a m = either (gap (a .number) (m .number)) (λ t. rw t (omega arith)) (λ f. rw f (omega arith))
 
 -- ---- the asset before the packet, as a place and its bytes
@@ -612,14 +612,14 @@ unfolding placeFor fresh isSome
 blank-not-held t = let z : _≡_ {A = ℕ} 0 1 = cc in absurd (omega arith)
 
 module _ (s : Session) (ok : Sound (s .state) (s .others) (lengthsOf s)) (id : ℕ) where
-  before-old : (i : ℕ) → mediaSeat (s .state) id ≡ Old i → Before s (assetOf id (view s))
-  unfolding mediaSeat assetOf orElse view viewBy
-  before-old i seat =
+  before-old : (i : ℕ) → mediaPlaceFor (s .state) id ≡ Own i → Before s (assetOf id (view s))
+  unfolding mediaPlaceFor assetOf orElse view viewBy
+  before-old i place-for =
       let st = s .state in
       let l = limitsOf st in
       let e : foundFrom 0 (keys (entries s)) id ≡ At i =
       ap (λ (ns : List ℕ). foundFrom 0 ns id) (entry-names s)
-      ∙ seat-was-old (namesFrom (usedOf st .«media_ids») 120 184 st) (l .«media_ids») id i seat in
+      ∙ place-for-was-old (namesFrom (usedOf st .«media_ids») 120 184 st) (l .«media_ids») id i place-for in
       let z : i - 0 ≡ i = omega arith in
       let w : Stands (entries s) id i = rw z at (stands (entries s) id 0 i e .1) in
       let b : i < length (mediaIn st) = omega (arith, w .within, length-indexed (assetEntry l s) 0 (mediaIn st)) in
@@ -647,11 +647,11 @@ module _ (s : Session) (ok : Sound (s .state) (s .others) (lengthsOf s)) (id : �
         room = subst (λ (x : Asset). heldLength (x .held) ≤ l .«mfu_area») (sym f) (place-room p bs (l .«mfu_area») (λ t. omega (arith, lb t, q .0 t)));
       }
 
-  before-new : (i : ℕ) → mediaSeat (s .state) id ≡ New i → Before s (assetOf id (view s))
-  unfolding mediaSeat assetOf orElse view viewBy
-  before-new i seat =
+  before-new : (i : ℕ) → mediaPlaceFor (s .state) id ≡ Free i → Before s (assetOf id (view s))
+  unfolding mediaPlaceFor assetOf orElse view viewBy
+  before-new i place-for =
       let st = s .state in
-      let w = seat-was-new (namesFrom (usedOf st .«media_ids») 120 184 st) (limitsOf st .«media_ids») id i seat in
+      let w = place-for-was-new (namesFrom (usedOf st .«media_ids») 120 184 st) (limitsOf st .«media_ids») id i place-for in
       let e : foundFrom 0 (keys (entries s)) id ≡ Nothing = ap (λ (ns : List ℕ). foundFrom 0 ns id) (entry-names s) ∙ w .0 in
       let f : orElse fresh (find id (entries s)) ≡ fresh = ap (orElse fresh) (absent (entries s) id 0 e .0) in
       let p : Media = placeFor 0 fresh in
@@ -681,8 +681,8 @@ module _ (f : ℕ) where
   tied-on (some l) r n e =
       either (eqb n l) (λ t. let z = eqb-true n l t in rw (t, e, z)) (λ t. rw (t, e))
 
-tied-noted : (a : Asset) (m : MediaPacket) → Tied a → Tied (noted a m)
-unfolding noted
+tied-noted : (a : Asset) (m : MpuPacket) → Tied a → Tied (afterHeaders a m)
+unfolding afterHeaders
 tied-noted a m t = go (m .header)
   where
     go : (h : Option PayloadHeader)
@@ -691,23 +691,23 @@ tied-noted a m t = go (m .header)
     go none = t
     go (some h) = tied-on 0 (a .mpu) (a .range) (h .«mpu_sequence_number») t
 
-tied-units : (m : MediaPacket) (us : List Piece) (a : Asset) → Tied a → Tied (unitsDo m a us)
-unfolding unitsDo didTo
+tied-units : (m : MpuPacket) (us : List PayloadUnit) (a : Asset) → Tied a → Tied (afterUnits m a us)
+unfolding afterUnits afterUnit
 tied-units m [] a t = t
-tied-units m (u ∷ us) a t = tied-units m us (didTo a (did m a u)) t
+tied-units m (u ∷ us) a t = tied-units m us (afterUnit a (unitEffect m a u)) t
 
-tied-after : (a : Asset) (m : MediaPacket) → Tied a → Tied (assetAfter a m)
+tied-after : (a : Asset) (m : MpuPacket) → Tied a → Tied (assetAfter a m)
 unfolding assetAfter
-tied-after a m t = tied-units m (readable m) (noted a m) (tied-noted a m t)
+tied-after a m t = tied-units m (readable m) (afterHeaders a m) (tied-noted a m t)
 
-module _ (s : Session) (ok : Sound (s .state) (s .others) (lengthsOf s)) (m : MediaPacket)
+module _ (s : Session) (ok : Sound (s .state) (s .others) (lengthsOf s)) (m : MpuPacket)
     (places : usedOf (s .state) .«media_ids» + needs (view s) (mediaPacket m) .mediaIds ≤ limitsOf (s .state) .«media_ids»)
     (object : needs (view s) (mediaPacket m) .object ≤ limitsOf (s .state) .«mfu_area») where
-  pub seat-free : mediaSeat (s .state) (m .id) ≡ Full → ⊥
-  unfolding mediaSeat needs pushed view viewBy
-  seat-free e =
+  pub place-for-free : mediaPlaceFor (s .state) (m .id) ≡ NoneFree → ⊥
+  unfolding mediaPlaceFor needs pushed view viewBy
+  place-for-free e =
       let st = s .state in
-      let w = seat-was-full (namesFrom (usedOf st .«media_ids») 120 184 st) (limitsOf st .«media_ids») (m .id) e in
+      let w = place-for-was-full (namesFrom (usedOf st .«media_ids») 120 184 st) (limitsOf st .«media_ids») (m .id) e in
       let f : foundFrom 0 (keys (entries s)) (m .id) ≡ Nothing = ap (λ (ns : List ℕ). foundFrom 0 ns (m .id)) (entry-names s) ∙ w .0 in
       let r = absent (entries s) (m .id) 0 f .1 (assetAfter (assetOf (m .id) (view s)) m) in
       let n : length (namesFrom (usedOf st .«media_ids») 120 184 st) ≡ usedOf st .«media_ids» = length-names 120 (usedOf st .«media_ids») 184 st in
@@ -716,18 +716,18 @@ module _ (s : Session) (ok : Sound (s .state) (s .others) (lengthsOf s)) (m : Me
       omega (arith, places, k, w .1, n)
 
   before-any : Before s (assetOf (m .id) (view s))
-  before-any = go (mediaSeat (s .state) (m .id)) refl
+  before-any = go (mediaPlaceFor (s .state) (m .id)) refl
     where
-      go : (x : Seat) → mediaSeat (s .state) (m .id) ≡ x → Before s (assetOf (m .id) (view s))
-      go (Old i) e = before-old s ok (m .id) i e
-      go (New i) e = before-new s ok (m .id) i e
-      go Full e = absurd (seat-free e)
+      go : (x : PlaceFor) → mediaPlaceFor (s .state) (m .id) ≡ x → Before s (assetOf (m .id) (view s))
+      go (Own i) e = before-old s ok (m .id) i e
+      go (Free i) e = before-new s ok (m .id) i e
+      go NoneFree e = absurd (place-for-free e)
 
   pub held-room : heldLength (assetNext s m .held) ≤ limitsOf (s .state) .«mfu_area»
   unfolding assetNext assetAfter needs
   held-room =
       let a = assetOf (m .id) (view s) in
-      omega (arith, units-held m (readable m) (noted a m), noted-held a m, before-any .room, object)
+      omega (arith, units-held m (readable m) (afterHeaders a m), noted-held a m, before-any .room, object)
 
   pub tied-next : Tied (assetNext s m)
   unfolding assetNext
@@ -737,4 +737,4 @@ module _ (s : Session) (ok : Sound (s .state) (s .others) (lengthsOf s)) (m : Me
 
   -- every number of the place fits its field
   pub media-leaves : Fit (mediaFields (placeFor (m .id) (assetNext s m))) → view (mediaLeaves s m) ≡ pushed (view s) (mediaPacket m)
-  media-leaves fits = leaves-view s m ok tied-next fits held-room seat-free
+  media-leaves fits = leaves-view s m ok tied-next fits held-room place-for-free

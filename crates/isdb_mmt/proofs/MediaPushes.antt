@@ -14,10 +14,10 @@ use lib.Seq.{length-take-le}
 use borrow.Author.Tests.{ltb-false, eqb-true, eq-eqb, ne-eqb}
 use Rattle.isdb_tlv.specs.Guards.{_<?_}
 use Rattle.isdb_tlv.specs.declared.mmtp.Header.{Header}
-use Rattle.isdb_mmt.specs.Packet.{Bytes, Media as MediaPacket, media, mediaOf, readable}
+use Rattle.isdb_mmt.specs.Packet.{Bytes, MpuPacket, media, mediaOf, readable}
 use Rattle.isdb_mmt.specs.Maps.{orElse, one}
 use Rattle.isdb_mmt.specs.Mpu.{payloadHeader}
-use Rattle.isdb_mmt.specs.Objects.{Asset, Rec, fresh, noted, assetAfter, passes, mediaGives}
+use Rattle.isdb_mmt.specs.Objects.{Asset, Rec, fresh, afterHeaders, assetAfter, passes, mediaGives}
 use Rattle.isdb_mmt.specs.Model.{assetOf, gives}
 use Rattle.isdb_mmt.specs.Needs.{dataOf, needs}
 use Rattle.isdb_mmt.specs.Layout.{mostMediaIds, mostMfuArea, mediaPlaces, mediaSize}
@@ -27,13 +27,13 @@ use Rattle.isdb_mmt.specs.Check.{mediaIn, mediaSound, countFits, statsCo
 use Rattle.isdb_mmt.specs.View.{assetOfPlace, assetEntry, viewBy, view}
 use Rattle.isdb_mmt.specs.Opening.{lent}
 use Rattle.isdb_mmt.specs.Records.{rowSize, rowsFrom, dataFrom}
-use Rattle.isdb_mmt.specs.MediaPush.{placeFor, heldOver, mediaSeat, assetNext, leavesAt, mediaLeaves, mediaAsks, MediaPushed}
+use Rattle.isdb_mmt.specs.MediaPush.{placeFor, heldOver, mediaPlaceFor, assetNext, leavesAt, mediaLeaves, mediaAsks, MediaPushed}
 use Rattle.isdb_mmt.specs.Place.{startOf, placeAfter, Modest}
 use Rattle.isdb_mmt.specs.Look.{lookOf, CanLook}
-use Rattle.isdb_mmt.specs.MediaCommit.{CanSeat, blank, placeIn, indexOf, passesOn, recordsOf, bytesOf, fitsNumber, numberOf, refused, accepted, answerBy, answerOf, Small, startsFrom, givesFrom, CanCommit, Committed, stateAfter, CanCommitAll, CommittedAll, CanPushMedia}
+use Rattle.isdb_mmt.specs.MediaCommit.{CanTakePlace, blank, placeIn, indexOf, passesOn, recordsOf, bytesOf, fitsNumber, numberOf, refused, accepted, answerBy, answerOf, Small, startsFrom, givesFrom, CanCommit, Committed, stateAfter, CanCommitAll, CommittedAll, CanPushMedia}
 use Rattle.isdb_mmt.specs.declared.decoder.place.Found.the-variants.{At, Nothing}
-use Rattle.isdb_mmt.specs.declared.decoder.place.Seat.{Seat}
-use Rattle.isdb_mmt.specs.declared.decoder.place.Seat.the-variants.{Old, New, Full}
+use Rattle.isdb_mmt.specs.declared.decoder.place.PlaceFor.{PlaceFor}
+use Rattle.isdb_mmt.specs.declared.decoder.place.PlaceFor.the-variants.{Own, Free, NoneFree}
 use Rattle.isdb_mmt.specs.declared.decoder.limits.Limits.{Limits}
 use Rattle.isdb_mmt.specs.declared.decoder.counts.AssetStats.{AssetStats}
 use Rattle.isdb_mmt.specs.declared.decoder.media.Media.{Media}
@@ -45,7 +45,7 @@ use Rattle.isdb_mmt.proofs.Lent.{length-names}
 use Rattle.isdb_mmt.proofs.Views.{keys, Stands, stands, absent}
 use Rattle.isdb_mmt.proofs.Limits.{passed, areas-fit}
 use Rattle.isdb_mmt.proofs.Checks.{media-was, place-was, count-was}
-use Rattle.isdb_mmt.proofs.Seats.{entries, entry-names, seat-was-old, seat-was-new, seat-was-full, length-media, length-indexed, getD-indexed}
+use Rattle.isdb_mmt.proofs.PlacesFor.{entries, entry-names, place-for-was-old, place-for-was-new, place-for-was-full, length-media, length-indexed, getD-indexed}
 use Rattle.isdb_mmt.proofs.Told.{Told}
 use Rattle.isdb_mmt.proofs.Placed.{start-zero}
 use Rattle.isdb_mmt.proofs.Looks.{look-small, look-is, place-is}
@@ -54,9 +54,9 @@ use Rattle.isdb_mmt.proofs.Asks.{object-is, records-is, bytes-is, old-i
 
 -- ---- all of a commit
 
-module _ (l : Limits) (seat : Seat) (p : Media) (r : Look) (h : Header) (b state objects rows bytes : Bytes)
-    (can : CanCommitAll l seat p r h b state objects rows bytes) where
-  module _ (i : ℕ) (ei : i ≡ indexOf seat) where
+module _ (l : Limits) (place-for : PlaceFor) (p : Media) (r : Look) (h : Header) (b state objects rows bytes : Bytes)
+    (can : CanCommitAll l place-for p r h b state objects rows bytes) where
+  module _ (i : ℕ) (ei : i ≡ indexOf place-for) where
     pub all-place : Fits w64 (i * l .«mfu_area»)
     all-place = areas-fit i (l .«mfu_area») (omega (arith, ei, can .store .index)) (can .area)
 
@@ -65,10 +65,10 @@ module _ (l : Limits) (seat : Seat) (p : Media) (r : Look) (h : Header) (b state
 
     pub all-done : (objects′ rows′ bytes′ : Bytes) → Committed (i * l .«mfu_area») (l .«pass_scrambled») p h b objects rows bytes objects′ rows′ bytes′
         → (m : Media) → m ≡ placeAfter (h .«packet_id») p (h .sequence) (h .«scramble_info») (r .header) (r .bad) (r .units)
-        → (state′ : Bytes) → state′ ≡ stateAfter state m seat
-        → CommittedAll l seat p r h b state objects rows bytes state′ objects′ rows′ bytes′
+        → (state′ : Bytes) → state′ ≡ stateAfter state m place-for
+        → CommittedAll l place-for p r h b state objects rows bytes state′ objects′ rows′ bytes′
     all-done objects′ rows′ bytes′ w m em state′ es =
-        record { commit = rw ei at w; store = es ∙ ap (λ (x : Media). stateAfter state x seat) em }
+        record { commit = rw ei at w; store = es ∙ ap (λ (x : Media). stateAfter state x place-for) em }
 
   pub all-steps : Modest (p .stats) × ((r .units .records < 4294967296) × (r .units .drops < 4294967296))
   all-steps =
@@ -105,8 +105,8 @@ unfolding assetOfPlace fresh
 blank-fresh b = refl
 
 -- the place is that of the model's asset
-pub record Begins (s : Session) (id : ℕ) (seat : Seat) (p : Media) : Type 0 where
-  pub is : assetOf id (view s) ≡ startsFrom (indexOf seat * limitsOf (s .state) .«mfu_area») p (s .objects)
+pub record Begins (s : Session) (id : ℕ) (place-for : PlaceFor) (p : Media) : Type 0 where
+  pub is : assetOf id (view s) ≡ startsFrom (indexOf place-for * limitsOf (s .state) .«mfu_area») p (s .objects)
   pub held : p .held ≡ true → p .object .length ≤ limitsOf (s .state) .«mfu_area»
   pub modest : Modest (p .stats)
 
@@ -117,37 +117,37 @@ module _ (s : Session) (ok : Sound (s .state) (s .others) (lengthsOf s)) (id : �
   names-long : length names ≡ usedOf (s .state) .«media_ids»
   names-long = length-names mediaSize (usedOf (s .state) .«media_ids») mediaPlaces (s .state)
 
-  found-old : (i : ℕ) → mediaSeat (s .state) id ≡ Old i → Stands (entries s) id i
-  unfolding mediaSeat
+  found-old : (i : ℕ) → mediaPlaceFor (s .state) id ≡ Own i → Stands (entries s) id i
+  unfolding mediaPlaceFor
   found-old i e =
       let k : foundFrom 0 (keys (entries s)) id ≡ At i =
-      ap (λ (ns : List ℕ). foundFrom 0 ns id) (entry-names s) ∙ seat-was-old names (limitsOf (s .state) .«media_ids») id i e in
+      ap (λ (ns : List ℕ). foundFrom 0 ns id) (entry-names s) ∙ place-for-was-old names (limitsOf (s .state) .«media_ids») id i e in
       let z : i - 0 ≡ i = omega arith in
       rw z at (stands (entries s) id 0 i k .1)
 
-  old-within : (i : ℕ) → mediaSeat (s .state) id ≡ Old i → i < usedOf (s .state) .«media_ids»
+  old-within : (i : ℕ) → mediaPlaceFor (s .state) id ≡ Own i → i < usedOf (s .state) .«media_ids»
   old-within i e =
       omega (arith, found-old i e .within, length-indexed (assetEntry (limitsOf (s .state)) s) 0 (mediaIn (s .state)), length-media (s .state))
 
-  new-within : (i : ℕ) → mediaSeat (s .state) id ≡ New i → i < limitsOf (s .state) .«media_ids»
-  unfolding mediaSeat
-  new-within i e = seat-was-new names (limitsOf (s .state) .«media_ids») id i e .1 .1
+  new-within : (i : ℕ) → mediaPlaceFor (s .state) id ≡ Free i → i < limitsOf (s .state) .«media_ids»
+  unfolding mediaPlaceFor
+  new-within i e = place-for-was-new names (limitsOf (s .state) .«media_ids») id i e .1 .1
 
   -- the place lies within the limits
-  pub seat-low : (seat : Seat) → mediaSeat (s .state) id ≡ seat → (seat ≡ Full → ⊥) → indexOf seat < limitsOf (s .state) .«media_ids»
-  seat-low (Old i) e n = omega (arith, old-within i e, ok .media)
-  seat-low (New i) e n = new-within i e
-  seat-low Full e n = absurd (n refl)
+  pub place-for-low : (place-for : PlaceFor) → mediaPlaceFor (s .state) id ≡ place-for → (place-for ≡ NoneFree → ⊥) → indexOf place-for < limitsOf (s .state) .«media_ids»
+  place-for-low (Own i) e n = omega (arith, old-within i e, ok .media)
+  place-for-low (Free i) e n = new-within i e
+  place-for-low NoneFree e n = absurd (n refl)
 
-  pub index-low : (seat : Seat) → seat ≡ mediaSeat (s .state) id → indexOf seat < mostMediaIds
-  index-low seat e = go seat (sym e)
+  pub index-low : (place-for : PlaceFor) → place-for ≡ mediaPlaceFor (s .state) id → indexOf place-for < mostMediaIds
+  index-low place-for e = go place-for (sym e)
     where
-      go : (x : Seat) → mediaSeat (s .state) id ≡ x → indexOf x < mostMediaIds
-      go (Old i) d = omega (arith, old-within i d, ok .there .media)
-      go (New i) d = omega (arith, new-within i d, passed (limitsOf (s .state)) (lengthsOf s) (ok .limits) .ranges .media .1)
-      go Full d = omega arith
+      go : (x : PlaceFor) → mediaPlaceFor (s .state) id ≡ x → indexOf x < mostMediaIds
+      go (Own i) d = omega (arith, old-within i d, ok .there .media)
+      go (Free i) d = omega (arith, new-within i d, passed (limitsOf (s .state)) (lengthsOf s) (ok .limits) .ranges .media .1)
+      go NoneFree d = omega arith
 
-  begins-old : (i : ℕ) → mediaSeat (s .state) id ≡ Old i → Begins s id (Old i) (mediaAt (s .state) i)
+  begins-old : (i : ℕ) → mediaPlaceFor (s .state) id ≡ Own i → Begins s id (Own i) (mediaAt (s .state) i)
   unfolding mediaIn assetOf orElse view viewBy
   begins-old i e =
       let st = s .state in
@@ -172,10 +172,10 @@ module _ (s : Session) (ok : Sound (s .state) (s .others) (lengthsOf s)) (id : �
   unknown e =
       ap (orElse fresh) (absent (entries s) id 0 (ap (λ (ns : List ℕ). foundFrom 0 ns id) (entry-names s) ∙ e) .0)
 
-  begins-blank : (seat : Seat) → assetOf id (view s) ≡ fresh → Begins s id seat blank
-  begins-blank seat e =
+  begins-blank : (place-for : PlaceFor) → assetOf id (view s) ≡ fresh → Begins s id place-for blank
+  begins-blank place-for e =
       record {
-        is = e ∙ sym (blank-fresh (part (indexOf seat * limitsOf (s .state) .«mfu_area») 0 (s .objects)));
+        is = e ∙ sym (blank-fresh (part (indexOf place-for * limitsOf (s .state) .«mfu_area») 0 (s .objects)));
         held = λ t. clash false t refl;
         modest =
             record {
@@ -191,14 +191,14 @@ module _ (s : Session) (ok : Sound (s .state) (s .others) (lengthsOf s)) (id : �
             };
       }
 
-  begins-at : (seat : Seat) → mediaSeat (s .state) id ≡ seat → Begins s id seat (placeIn (s .state) seat)
-  unfolding placeIn mediaSeat
-  begins-at (Old i) e = begins-old i e
-  begins-at (New i) e = begins-blank (New i) (unknown (seat-was-new names (limitsOf (s .state) .«media_ids») id i e .0))
-  begins-at Full e = begins-blank Full (unknown (seat-was-full names (limitsOf (s .state) .«media_ids») id e .0))
+  begins-at : (place-for : PlaceFor) → mediaPlaceFor (s .state) id ≡ place-for → Begins s id place-for (placeIn (s .state) place-for)
+  unfolding placeIn mediaPlaceFor
+  begins-at (Own i) e = begins-old i e
+  begins-at (Free i) e = begins-blank (Free i) (unknown (place-for-was-new names (limitsOf (s .state) .«media_ids») id i e .0))
+  begins-at NoneFree e = begins-blank NoneFree (unknown (place-for-was-full names (limitsOf (s .state) .«media_ids») id e .0))
 
-  pub begins : (seat : Seat) → seat ≡ mediaSeat (s .state) id → (p : Media) → p ≡ placeIn (s .state) seat → Begins s id seat p
-  begins seat e p ep = subst (λ (x : Media). Begins s id seat x) (sym ep) (begins-at seat (sym e))
+  pub begins : (place-for : PlaceFor) → place-for ≡ mediaPlaceFor (s .state) id → (p : Media) → p ≡ placeIn (s .state) place-for → Begins s id place-for p
+  begins place-for e p ep = subst (λ (x : Media). Begins s id place-for x) (sym ep) (begins-at place-for (sym e))
 
 -- ---- the answer
 
@@ -220,12 +220,12 @@ asked-no true k n e = absurd (omega arith)
 asked-no false k n e = (refl, e)
 
 -- what an answer 0 says
-pub record Fitting (s : Session) (rows bytes : ℕ) (m : MediaPacket) : Type 0 where
+pub record Fitting (s : Session) (rows bytes : ℕ) (m : MpuPacket) : Type 0 where
   pub object : needs (view s) (media m) .object ≤ limitsOf (s .state) .«mfu_area»
   pub records : rowSize * needs (view s) (media m) .records ≤ rows
   pub dataBytes : needs (view s) (media m) .dataBytes ≤ bytes
 
-fitting : (s : Session) (rows bytes : ℕ) (m : MediaPacket) → mediaAsks s rows bytes m ≡ 0 → Fitting s rows bytes m
+fitting : (s : Session) (rows bytes : ℕ) (m : MpuPacket) → mediaAsks s rows bytes m ≡ 0 → Fitting s rows bytes m
 unfolding mediaAsks
 fitting s rows bytes m e =
     let l = limitsOf (s .state) in
@@ -257,7 +257,7 @@ passing-is : (s : Session) → view s .passing ≡ limitsOf (s .state) .«pass_s
 unfolding view viewBy
 passing-is s = refl
 
-not-full : (area longest rows given records bytes : ℕ) → numberOf Full area longest rows given records bytes ≡ 0 → ⊥
+not-full : (area longest rows given records bytes : ℕ) → numberOf NoneFree area longest rows given records bytes ≡ 0 → ⊥
 unfolding numberOf
 not-full area longest rows given records bytes e = omega arith
 
@@ -266,29 +266,29 @@ low-place i area h k = let n : i ≤ 64 = omega arith in omega (arith, mul-le-mu
 
 -- ---- the push
 
-pub push-seat : (s : Session) (b : Bytes) (l : Limits) → CanPushMedia s b → l ≡ limitsOf (s .state) → CanSeat (s .state) l
-push-seat s b l can e = record { there = can .sound .there; limits = e }
+pub push-place-for : (s : Session) (b : Bytes) (l : Limits) → CanPushMedia s b → l ≡ limitsOf (s .state) → CanTakePlace (s .state) l
+push-place-for s b l can e = record { there = can .sound .there; limits = e }
 
 module _ (st ot ob me ta : List ℕ) (h : Header) (b rows bytes : Bytes) (can : CanPushMedia (lent st ot ob me ta) b)
-    (l : Limits) (el : l ≡ limitsOf st) (seat : Seat) (es : seat ≡ mediaSeat st (h .«packet_id»)) where
+    (l : Limits) (el : l ≡ limitsOf st) (place-for : PlaceFor) (es : place-for ≡ mediaPlaceFor st (h .«packet_id»)) where
   abbrev s : Session
   s = lent st ot ob me ta
 
   abbrev id : ℕ
   id = h .«packet_id»
 
-  abbrev m : MediaPacket
+  abbrev m : MpuPacket
   m = mediaOf h b
 
-  pub push-index : indexOf seat < mostMediaIds
-  push-index = index-low s (can .sound) id seat es
+  pub push-index : indexOf place-for < mostMediaIds
+  push-index = index-low s (can .sound) id place-for es
 
-  module _ (p : Media) (ep : p ≡ placeIn st seat) where
-    start : Begins s id seat p
-    start = begins s (can .sound) id seat es p ep
+  module _ (p : Media) (ep : p ≡ placeIn st place-for) where
+    start : Begins s id place-for p
+    start = begins s (can .sound) id place-for es p ep
 
     abbrev at : ℕ
-    at = indexOf seat * limitsOf st .«mfu_area»
+    at = indexOf place-for * limitsOf st .«mfu_area»
 
     pub push-look : CanLook p b
     push-look =
@@ -308,24 +308,24 @@ module _ (st ot ob me ta : List ℕ) (h : Header) (b rows bytes : Bytes) (can : 
       there = part at (p .object .length) ob
 
       -- an id that is seated has an area of its own
-      area-there : (seat ≡ Full → ⊥) → at + limitsOf st .«mfu_area» ≤ length ob
+      area-there : (place-for ≡ NoneFree → ⊥) → at + limitsOf st .«mfu_area» ≤ length ob
       area-there n =
-          let k = seat-low s (can .sound) id seat (sym es) n in
-          let w : (indexOf seat + 1) * limitsOf st .«mfu_area» ≤ limitsOf st .«media_ids» * limitsOf st .«mfu_area» =
+          let k = place-for-low s (can .sound) id place-for (sym es) n in
+          let w : (indexOf place-for + 1) * limitsOf st .«mfu_area» ≤ limitsOf st .«media_ids» * limitsOf st .«mfu_area» =
           mul-le-mul-right (limitsOf st .«mfu_area») (omega (arith, k)) in
           omega (arith, w, passed (limitsOf st) (lengthsOf s) (can .sound .limits) .objects)
 
-      held-there : (seat ≡ Full → ⊥) → p .held ≡ true → at + p .object .length ≤ length ob
+      held-there : (place-for ≡ NoneFree → ⊥) → p .held ≡ true → at + p .object .length ≤ length ob
       held-there n t = omega (arith, area-there n, start .held t)
 
-      module _ (seated : seat ≡ Full → ⊥) where
+      module _ (seated : place-for ≡ NoneFree → ⊥) where
         long : p .held ≡ true → length there ≡ p .object .length
         long t = length-take-le (p .object .length) (drop at ob) (rw length-drop (omega (arith, held-there seated t)))
 
-        told : Told m t0 (noted (assetOf id (view s)) m) (r .units) (readable m)
+        told : Told m t0 (afterHeaders (assetOf id (view s)) m) (r .units) (readable m)
         told =
-            subst (λ (a : Asset). Told m t0 (noted a m) (r .units) (readable m)) (sym (start .is))
-            (subst (λ (y : Look). Told m t0 (noted (assetOfPlace p there) m) (y .units) (readable m)) (sym er) (look-is id p there h b long .units))
+            subst (λ (a : Asset). Told m t0 (afterHeaders a m) (r .units) (readable m)) (sym (start .is))
+            (subst (λ (y : Look). Told m t0 (afterHeaders (assetOfPlace p there) m) (y .units) (readable m)) (sym er) (look-is id p there h b long .units))
 
         zeros : (t0 .records ≡ 0) × ((t0 .bytes ≡ 0) × (t0 .longest ≡ 0))
         unfolding mediaOf
@@ -333,12 +333,12 @@ module _ (st ot ob me ta : List ℕ) (h : Header) (b rows bytes : Bytes) (can : 
 
         free : usedOf st .«media_ids» + needs (view s) (media m) .mediaIds ≤ limitsOf st .«media_ids»
         unfolding mediaOf
-        free = go seat (sym es) seated
+        free = go place-for (sym es) seated
           where
-            go : (x : Seat) → mediaSeat st id ≡ x → (x ≡ Full → ⊥) → usedOf st .«media_ids» + needs (view s) (media m) .mediaIds ≤ limitsOf st .«media_ids»
-            go (Old i) e n = old-is s (can .sound) m i e
-            go (New i) e n = new-is s (can .sound) m i e
-            go Full e n = absurd (n refl)
+            go : (x : PlaceFor) → mediaPlaceFor st id ≡ x → (x ≡ NoneFree → ⊥) → usedOf st .«media_ids» + needs (view s) (media m) .mediaIds ≤ limitsOf st .«media_ids»
+            go (Own i) e n = old-is s (can .sound) m i e
+            go (Free i) e n = new-is s (can .sound) m i e
+            go NoneFree e n = absurd (n refl)
 
         abbrev passing : Bool
         passing = passesOn (l .«pass_scrambled») (h .«scramble_info») (r .header)
@@ -387,20 +387,20 @@ module _ (st ot ob me ta : List ℕ) (h : Header) (b rows bytes : Bytes) (can : 
 
       abbrev numberHere : ℕ
       numberHere =
-          numberOf seat (l .«mfu_area») (r .units .longest) (length rows) (length bytes) (recordsOf passesHere (r .units)) (bytesOf passesHere (length b) (r .units))
+          numberOf place-for (l .«mfu_area») (r .units .longest) (length rows) (length bytes) (recordsOf passesHere (r .units)) (bytesOf passesHere (length b) (r .units))
 
       number-here : numberHere ≡ mediaAsks s (length rows) (length bytes) m
       unfolding numberOf mediaOf
-      number-here = go seat refl
+      number-here = go place-for refl
         where
-          go : (x : Seat) → seat ≡ x
+          go : (x : PlaceFor) → place-for ≡ x
               → numberOf x (l .«mfu_area») (r .units .longest) (length rows) (length bytes) (recordsOf passesHere (r .units)) (bytesOf passesHere (length b) (r .units))
               ≡ mediaAsks s (length rows) (length bytes) m
-          go (Old i) e = seated-number (λ f. let z : _≡_ {A = ℕ} 0 1 = cc in omega arith)
-          go (New i) e = seated-number (λ f. let z : _≡_ {A = ℕ} 0 1 = cc in omega arith)
-          go Full e = sym (number-full s (can .sound) m (length rows) (length bytes) (sym es ∙ e))
+          go (Own i) e = seated-number (λ f. let z : _≡_ {A = ℕ} 0 1 = cc in omega arith)
+          go (Free i) e = seated-number (λ f. let z : _≡_ {A = ℕ} 0 1 = cc in omega arith)
+          go NoneFree e = sym (number-full s (can .sound) m (length rows) (length bytes) (sym es ∙ e))
 
-      module _ (a : Answer) (ea : a ≡ answerOf seat l (h .«scramble_info») r (length b) (length rows) (length bytes)) where
+      module _ (a : Answer) (ea : a ≡ answerOf place-for l (h .«scramble_info») r (length b) (length rows) (length bytes)) where
         answer-by : a ≡ answerBy numberHere (recordsOf passesHere (r .units)) (bytesOf passesHere (length b) (r .units))
         unfolding answerOf
         answer-by = ea
@@ -428,11 +428,11 @@ module _ (st ot ob me ta : List ℕ) (h : Header) (b rows bytes : Bytes) (can : 
           zero-here : numberHere ≡ 0
           zero-here = sym number-is-here ∙ yes
 
-          seated : seat ≡ Full → ⊥
+          seated : place-for ≡ NoneFree → ⊥
           seated e =
               not-full (l .«mfu_area») (r .units .longest) (length rows) (length bytes) (recordsOf passesHere (r .units)) (bytesOf passesHere (length b) (r .units))
               (ap
-              (λ (x : Seat).
+              (λ (x : PlaceFor).
               numberOf x (l .«mfu_area») (r .units .longest) (length rows) (length bytes) (recordsOf passesHere (r .units)) (bytesOf passesHere (length b) (r .units)))
               (sym e)
               ∙ zero-here)
@@ -458,16 +458,16 @@ module _ (st ot ob me ta : List ℕ) (h : Header) (b rows bytes : Bytes) (can : 
               record {
                 look = er;
                 can = push-look;
-                low = low-place (indexOf seat) (limitsOf st .«mfu_area») push-index (ps .ranges .object .1);
+                low = low-place (indexOf place-for) (limitsOf st .«mfu_area») push-index (ps .ranges .object .1);
                 held = held-there seated;
                 room = omega (arith, need-object seated, fit .object, area-there seated);
                 rowsFit = rw (need-rows, gives-are) at (fit .records);
                 dataFit = rw (need-data, gives-are) at (fit .dataBytes);
               }
 
-          pub can-all : CanCommitAll l seat p r h b st ob rows bytes
+          pub can-all : CanCommitAll l place-for p r h b st ob rows bytes
           can-all =
-              subst (λ (x : Limits). CanCommitAll x seat p r h b st ob rows bytes) (sym el)
+              subst (λ (x : Limits). CanCommitAll x place-for p r h b st ob rows bytes) (sym el)
               (record {
                 commit = can-here;
                 store =
@@ -481,7 +481,7 @@ module _ (st ot ob me ta : List ℕ) (h : Header) (b rows bytes : Bytes) (can : 
                 area = passed (limitsOf st) (lengthsOf s) (can .sound .limits) .ranges .object .1;
               })
 
-          module _ (st′ ob′ rows′ bytes′ : Bytes) (w : CommittedAll l seat p r h b st ob rows bytes st′ ob′ rows′ bytes′) where
+          module _ (st′ ob′ rows′ bytes′ : Bytes) (w : CommittedAll l place-for p r h b st ob rows bytes st′ ob′ rows′ bytes′) where
             done : Committed at (limitsOf st .«pass_scrambled») p h b ob rows bytes ob′ rows′ bytes′
             done = rw el at (w .commit)
 
@@ -492,22 +492,22 @@ module _ (st ot ob me ta : List ℕ) (h : Header) (b rows bytes : Bytes) (can : 
             place-next : placeAfter id p (h .sequence) (h .«scramble_info») (r .header) (r .bad) (r .units) ≡ placeFor id (assetNext s m)
             place-next = place-is id p there h b (long seated) r er ∙ ap (placeFor id) next-is
 
-            state-next : st′ ≡ stateAfter st (placeFor id (assetNext s m)) seat
-            state-next = w .store ∙ ap (λ (x : Media). stateAfter st x seat) place-next
+            state-next : st′ ≡ stateAfter st (placeFor id (assetNext s m)) place-for
+            state-next = w .store ∙ ap (λ (x : Media). stateAfter st x place-for) place-next
 
             objects-next : ob′ ≡ heldOver at (assetNext s m .held) ob
             objects-next = done .area ∙ ap (λ (x : Asset). heldOver at (x .held) ob) next-is
 
             leaves : lent st′ ot ob′ me ta ≡ mediaLeaves s m
             unfolding mediaLeaves mediaOf stateAfter
-            leaves = go seat (sym es) seated state-next objects-next
+            leaves = go place-for (sym es) seated state-next objects-next
               where
-                go : (x : Seat) → mediaSeat st id ≡ x → (x ≡ Full → ⊥) → st′ ≡ stateAfter st (placeFor id (assetNext s m)) x
+                go : (x : PlaceFor) → mediaPlaceFor st id ≡ x → (x ≡ NoneFree → ⊥) → st′ ≡ stateAfter st (placeFor id (assetNext s m)) x
                     → ob′ ≡ heldOver (indexOf x * limitsOf st .«mfu_area») (assetNext s m .held) ob
-                    → lent st′ ot ob′ me ta ≡ leavesAt s id (assetNext s m) (mediaSeat st id)
-                go (Old i) e n d o = (λ j. lent (d j) ot (o j) me ta) ∙ ap (leavesAt s id (assetNext s m)) (sym e)
-                go (New i) e n d o = (λ j. lent (d j) ot (o j) me ta) ∙ ap (leavesAt s id (assetNext s m)) (sym e)
-                go Full e n d o = absurd (n refl)
+                    → lent st′ ot ob′ me ta ≡ leavesAt s id (assetNext s m) (mediaPlaceFor st id)
+                go (Own i) e n d o = (λ j. lent (d j) ot (o j) me ta) ∙ ap (leavesAt s id (assetNext s m)) (sym e)
+                go (Free i) e n d o = (λ j. lent (d j) ot (o j) me ta) ∙ ap (leavesAt s id (assetNext s m)) (sym e)
+                go NoneFree e n d o = absurd (n refl)
 
             pub pushed-yes : MediaPushed s rows bytes m (a .number) (a .records) (a .bytes) (lent st′ ot ob′ me ta) rows′ bytes′
             pushed-yes =

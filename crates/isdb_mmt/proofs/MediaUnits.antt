@@ -9,9 +9,9 @@ use lib.Dec.{leb}
 use borrow.Author.Tests.{leb-true}
 use lib.ListN.{length}
 use Rattle.isdb_mmt.specs.Part.{partOf}
-use Rattle.isdb_mmt.specs.Packet.{Bytes, Piece, Media as MediaPacket}
+use Rattle.isdb_mmt.specs.Packet.{Bytes, PayloadUnit, MpuPacket}
 use Rattle.isdb_mmt.specs.Maps.{isSome}
-use Rattle.isdb_mmt.specs.Objects.{Mfu, Asset, Did, mostObject, grown, continued, unitDoes, did, didTo, objectOf, unitsDo, unitsGive}
+use Rattle.isdb_mmt.specs.Objects.{Mfu, Asset, UnitEffect, mostObject, grown, continued, effectOf, unitEffect, afterUnit, objectOf, afterUnits, deliveredBy}
 use Rattle.isdb_mmt.specs.Needs.{heldLength, unitArea, unitsNeed}
 use Rattle.isdb_mmt.specs.Lent.{over}
 use Rattle.isdb_mmt.specs.MediaPush.{heldFor, heldOver}
@@ -25,7 +25,7 @@ use Rattle.isdb_mmt.specs.declared.decoder.media.Object.{Object}
 use Rattle.isdb_mmt.proofs.Names.{clash}
 use Rattle.isdb_mmt.proofs.Told.{grown-none, grown-some}
 
-abbrev pub piece : FragmentationIndicator → Bytes → DataUnit → Piece
+abbrev pub piece : FragmentationIndicator → Bytes → DataUnit → PayloadUnit
 piece f q u = record { fragment = f; mfu = u .mfu; itemId = u .«item_id»; bytes = partOf q (u .«data») }
 
 -- ---- what is held is no longer than the needs
@@ -35,8 +35,8 @@ unfolding continued
 ended true x = omega arith
 ended false x = omega arith
 
-unit-held : (f : FragmentationIndicator) (o : Option Mfu) (g : Mfu) → heldLength (unitDoes f o g .held) ≤ unitArea f (unitDoes f o g)
-unfolding unitDoes
+unit-held : (f : FragmentationIndicator) (o : Option Mfu) (g : Mfu) → heldLength (effectOf f o g .held) ≤ unitArea f (effectOf f o g)
+unfolding effectOf
 unit-held Complete o g = omega arith
 unit-held Head o g = omega arith
 unit-held Middle none g = omega arith
@@ -44,39 +44,39 @@ unit-held Middle (some h) g = omega arith
 unit-held Last none g = omega arith
 unit-held Last (some h) g = ended (leb (length (h .bytes) + length (g .bytes)) mostObject) (grown h (g .bytes))
 
-did-held : (m : MediaPacket) (a : Asset) (u : Piece) → heldLength (didTo a (did m a u) .held) ≤ unitArea (u .fragment) (did m a u)
-unfolding did didTo
+did-held : (m : MpuPacket) (a : Asset) (u : PayloadUnit) → heldLength (afterUnit a (unitEffect m a u) .held) ≤ unitArea (u .fragment) (unitEffect m a u)
+unfolding unitEffect afterUnit
 did-held m a u = unit-held (u .fragment) (a .held) (objectOf m u)
 
-pub units-held : (m : MediaPacket) (us : List Piece) (a : Asset) → heldLength (unitsDo m a us .held) ≤ max (heldLength (a .held)) (unitsNeed m a us)
-unfolding unitsDo unitsNeed
+pub units-held : (m : MpuPacket) (us : List PayloadUnit) (a : Asset) → heldLength (afterUnits m a us .held) ≤ max (heldLength (a .held)) (unitsNeed m a us)
+unfolding afterUnits unitsNeed
 units-held m [] a = omega arith
 units-held m (u ∷ us) a =
-    let d = did m a u in
-    let i = units-held m us (didTo a d) in
-    let k : heldLength (didTo a d .held) ≤ unitArea (u .fragment) d = did-held m a u in
+    let d = unitEffect m a u in
+    let i = units-held m us (afterUnit a d) in
+    let k : heldLength (afterUnit a d .held) ≤ unitArea (u .fragment) d = did-held m a u in
     omega arith
 
-module _ (m : MediaPacket) (q : Bytes) (at : ℕ) (l : Bytes) where
+module _ (m : MpuPacket) (q : Bytes) (at : ℕ) (l : Bytes) where
   -- ---- Complete: an object that is held is dropped, its bytes stay
   pub complete-held : (us : List DataUnit) (a : Asset) → heldOver at (a .held) l ≡ l
-      → heldOver at (unitsDo m a (map (piece Complete q) us) .held) l ≡ l
-  unfolding unitsDo did didTo unitDoes
+      → heldOver at (afterUnits m a (map (piece Complete q) us) .held) l ≡ l
+  unfolding afterUnits unitEffect afterUnit effectOf
   complete-held [] a e = e
-  complete-held (u ∷ us) a e = complete-held us (didTo a (did m a (piece Complete q u))) refl
+  complete-held (u ∷ us) a e = complete-held us (afterUnit a (unitEffect m a (piece Complete q u))) refl
 
   -- ---- Head: the last unit's data are held
-  pub head-gives : (us : List DataUnit) (a : Asset) → unitsGive m a (map (piece Head q) us) ≡ []
-  unfolding unitsGive did didTo unitDoes
+  pub head-gives : (us : List DataUnit) (a : Asset) → deliveredBy m a (map (piece Head q) us) ≡ []
+  unfolding deliveredBy unitEffect afterUnit effectOf
   head-gives [] a = refl
-  head-gives (u ∷ us) a = head-gives us (didTo a (did m a (piece Head q u)))
+  head-gives (u ∷ us) a = head-gives us (afterUnit a (unitEffect m a (piece Head q u)))
 
   pub head-held : (mpu : ℕ) (rap : Bool) (us : List DataUnit) (a : Asset) (t : Survey) → heldOver at (a .held) l ≡ over at (partOf q (t .last)) l
-      → heldOver at (unitsDo m a (map (piece Head q) us) .held) l ≡ over at (partOf q (surveyAll Head mpu rap q t us .last)) l
-  unfolding unitsDo did didTo unitDoes objectOf surveyAll surveyed headUnit
+      → heldOver at (afterUnits m a (map (piece Head q) us) .held) l ≡ over at (partOf q (surveyAll Head mpu rap q t us .last)) l
+  unfolding afterUnits unitEffect afterUnit effectOf objectOf surveyAll surveyed headUnit
   head-held mpu rap [] a t e = e
   head-held mpu rap (u ∷ us) a t e =
-      head-held mpu rap us (didTo a (did m a (piece Head q u))) (surveyed Head mpu rap t u (length (partOf q (u .«data»)))) refl
+      head-held mpu rap us (afterUnit a (unitEffect m a (piece Head q u))) (surveyed Head mpu rap t u (length (partOf q (u .«data»)))) refl
 
   pub head-fits : (mpu : ℕ) (rap : Bool) (us : List DataUnit) (t : Survey) → length (partOf q (t .last)) ≤ t .longest
       → length (partOf q (surveyAll Head mpu rap q t us .last)) ≤ surveyAll Head mpu rap q t us .longest
@@ -85,8 +85,8 @@ module _ (m : MediaPacket) (q : Bytes) (at : ℕ) (l : Bytes) where
   head-fits mpu rap (u ∷ us) t e = head-fits mpu rap us (surveyed Head mpu rap t u (length (partOf q (u .«data»)))) (omega arith)
 
   -- ---- Middle: each unit's data behind what is held
-  no-outs : (o : Option Mfu) (g : Mfu) → unitDoes Middle o g .outs ≡ []
-  unfolding unitDoes continued
+  no-outs : (o : Option Mfu) (g : Mfu) → effectOf Middle o g .outs ≡ []
+  unfolding effectOf continued
   no-outs none g = refl
   no-outs (some h) g = go (leb (length (h .bytes) + length (g .bytes)) mostObject) (grown h (g .bytes))
     where
@@ -94,35 +94,35 @@ module _ (m : MediaPacket) (q : Bytes) (at : ℕ) (l : Bytes) where
       go true x = refl
       go false x = refl
 
-  pub middle-gives : (us : List DataUnit) (a : Asset) → unitsGive m a (map (piece Middle q) us) ≡ []
-  unfolding unitsGive did
+  pub middle-gives : (us : List DataUnit) (a : Asset) → deliveredBy m a (map (piece Middle q) us) ≡ []
+  unfolding deliveredBy unitEffect
   middle-gives [] a = refl
   middle-gives (u ∷ us) a =
-      let a1 : Asset = didTo a (did m a (piece Middle q u)) in
-      ap (λ (ds : List Mfu). ds ++ unitsGive m a1 (map (piece Middle q) us)) (no-outs (a .held) (objectOf m (piece Middle q u)))
+      let a1 : Asset = afterUnit a (unitEffect m a (piece Middle q u)) in
+      ap (λ (ds : List Mfu). ds ++ deliveredBy m a1 (map (piece Middle q) us)) (no-outs (a .held) (objectOf m (piece Middle q u)))
       ∙ middle-gives us a1
 
-  pub middle-none : (us : List DataUnit) (a : Asset) → a .held ≡ none → unitsDo m a (map (piece Middle q) us) .held ≡ none
-  unfolding unitsDo did didTo unitDoes
+  pub middle-none : (us : List DataUnit) (a : Asset) → a .held ≡ none → afterUnits m a (map (piece Middle q) us) .held ≡ none
+  unfolding afterUnits unitEffect afterUnit effectOf
   middle-none [] a e = e
   middle-none (u ∷ us) a e =
-      middle-none us (didTo a (did m a (piece Middle q u)))
-      (ap (λ (o : Option Mfu). unitDoes Middle o (objectOf m (piece Middle q u)) .held) e)
+      middle-none us (afterUnit a (unitEffect m a (piece Middle q u)))
+      (ap (λ (o : Option Mfu). effectOf Middle o (objectOf m (piece Middle q u)) .held) e)
 
-  pub middle-held : (us : List DataUnit) (a : Asset) (g : Mfu) → a .held ≡ some g → isSome (unitsDo m a (map (piece Middle q) us) .held) ≡ true
-      → unitsDo m a (map (piece Middle q) us) .held ≡ some (grown g (dataIn q us))
-  unfolding unitsDo did didTo unitDoes objectOf continued grown isSome dataIn
+  pub middle-held : (us : List DataUnit) (a : Asset) (g : Mfu) → a .held ≡ some g → isSome (afterUnits m a (map (piece Middle q) us) .held) ≡ true
+      → afterUnits m a (map (piece Middle q) us) .held ≡ some (grown g (dataIn q us))
+  unfolding afterUnits unitEffect afterUnit effectOf objectOf continued grown isSome dataIn
   middle-held [] a g e h =
       e ∙ (λ i. some (record { mpu = g .mpu; rap = g .rap; mfu = g .mfu; itemId = g .itemId; bytes = sym (append-nil (g .bytes)) i }))
   middle-held (u ∷ us) a g e h =
       go (leb (length (g .bytes) + length (partOf q (u .«data»))) mostObject)
-      (ap (λ (o : Option Mfu). unitDoes Middle o (objectOf m (piece Middle q u)) .held) e)
-      (λ k. middle-held us (didTo a (did m a (piece Middle q u))) (grown g (partOf q (u .«data»))) k h)
+      (ap (λ (o : Option Mfu). effectOf Middle o (objectOf m (piece Middle q u)) .held) e)
+      (λ k. middle-held us (afterUnit a (unitEffect m a (piece Middle q u))) (grown g (partOf q (u .«data»))) k h)
     where
-      go : (b : Bool) → didTo a (did m a (piece Middle q u)) .held ≡ continued b false (grown g (partOf q (u .«data»))) .held
-          → (didTo a (did m a (piece Middle q u)) .held ≡ some (grown g (partOf q (u .«data»)))
-          → unitsDo m (didTo a (did m a (piece Middle q u))) (map (piece Middle q) us) .held ≡ some (grown (grown g (partOf q (u .«data»))) (dataIn q us)))
-          → unitsDo m (didTo a (did m a (piece Middle q u))) (map (piece Middle q) us) .held ≡ some (grown g (partOf q (u .«data») ++ dataIn q us))
+      go : (b : Bool) → afterUnit a (unitEffect m a (piece Middle q u)) .held ≡ continued b false (grown g (partOf q (u .«data»))) .held
+          → (afterUnit a (unitEffect m a (piece Middle q u)) .held ≡ some (grown g (partOf q (u .«data»)))
+          → afterUnits m (afterUnit a (unitEffect m a (piece Middle q u))) (map (piece Middle q) us) .held ≡ some (grown (grown g (partOf q (u .«data»))) (dataIn q us)))
+          → afterUnits m (afterUnit a (unitEffect m a (piece Middle q u))) (map (piece Middle q) us) .held ≡ some (grown g (partOf q (u .«data») ++ dataIn q us))
       go true k again =
           again k
           ∙ (λ i.
@@ -133,7 +133,7 @@ module _ (m : MediaPacket) (q : Bytes) (at : ℕ) (l : Bytes) where
             itemId = g .itemId;
             bytes = append-assoc (g .bytes) (partOf q (u .«data»)) (dataIn q us) i;
           }))
-      go false k again = clash true refl (sym h ∙ ap isSome (middle-none us (didTo a (did m a (piece Middle q u))) k))
+      go false k again = clash true refl (sym h ∙ ap isSome (middle-none us (afterUnit a (unitEffect m a (piece Middle q u))) k))
 
   -- ---- Last: the first unit ends what is held
   last-quiet : (mpu : ℕ) (rap : Bool) (us : List DataUnit) (t : Survey) → t .held ≡ false → surveyAll Last mpu rap q t us ≡ t
@@ -144,19 +144,19 @@ module _ (m : MediaPacket) (q : Bytes) (at : ℕ) (l : Bytes) where
       ∙ last-quiet mpu rap us t e
 
   last-none : (us : List DataUnit) (a : Asset) → a .held ≡ none
-      → (unitsGive m a (map (piece Last q) us) ≡ []) × (unitsDo m a (map (piece Last q) us) .held ≡ none)
-  unfolding unitsGive unitsDo did didTo unitDoes
+      → (deliveredBy m a (map (piece Last q) us) ≡ []) × (afterUnits m a (map (piece Last q) us) .held ≡ none)
+  unfolding deliveredBy afterUnits unitEffect afterUnit effectOf
   last-none [] a e = (refl, e)
   last-none (u ∷ us) a e =
-      let a1 : Asset = didTo a (did m a (piece Last q u)) in
-      let d : Did = did m a (piece Last q u) in
-      let k : a1 .held ≡ none = ap (λ (o : Option Mfu). unitDoes Last o (objectOf m (piece Last q u)) .held) e in
-      let z : d .outs ≡ [] = ap (λ (o : Option Mfu). unitDoes Last o (objectOf m (piece Last q u)) .outs) e in
+      let a1 : Asset = afterUnit a (unitEffect m a (piece Last q u)) in
+      let d : UnitEffect = unitEffect m a (piece Last q u) in
+      let k : a1 .held ≡ none = ap (λ (o : Option Mfu). effectOf Last o (objectOf m (piece Last q u)) .held) e in
+      let z : d .outs ≡ [] = ap (λ (o : Option Mfu). effectOf Last o (objectOf m (piece Last q u)) .outs) e in
       let i = last-none us a1 k in
-      (ap (λ (ds : List Mfu). ds ++ unitsGive m a1 (map (piece Last q) us)) z ∙ i .0, i .1)
+      (ap (λ (ds : List Mfu). ds ++ deliveredBy m a1 (map (piece Last q) us)) z ∙ i .0, i .1)
 
-  last-ends : (o : Option Mfu) (g : Mfu) → unitDoes Last o g .held ≡ none
-  unfolding unitDoes continued
+  last-ends : (o : Option Mfu) (g : Mfu) → effectOf Last o g .held ≡ none
+  unfolding effectOf continued
   last-ends none g = refl
   last-ends (some h) g = go (leb (length (h .bytes) + length (g .bytes)) mostObject) (grown h (g .bytes))
     where
@@ -164,25 +164,25 @@ module _ (m : MediaPacket) (q : Bytes) (at : ℕ) (l : Bytes) where
       go true x = refl
       go false x = refl
 
-  pub last-held : (us : List DataUnit) (a : Asset) → heldOver at (a .held) l ≡ l → heldOver at (unitsDo m a (map (piece Last q) us) .held) l ≡ l
-  unfolding unitsDo did didTo
+  pub last-held : (us : List DataUnit) (a : Asset) → heldOver at (a .held) l ≡ l → heldOver at (afterUnits m a (map (piece Last q) us) .held) l ≡ l
+  unfolding afterUnits unitEffect afterUnit
   last-held [] a e = e
   last-held (u ∷ us) a e =
-      let a1 : Asset = didTo a (did m a (piece Last q u)) in
+      let a1 : Asset = afterUnit a (unitEffect m a (piece Last q u)) in
       ap (λ (o : Option Mfu). heldOver at o l) (last-none us a1 (last-ends (a .held) (objectOf m (piece Last q u))) .1)
 
   -- `r` is the survey after them
   pub record Ended (us : List DataUnit) (a : Asset) (t r : Survey) : Type 0 where
     pub object : Mfu
     pub was : a .held ≡ some object
-    pub gives : unitsGive m a (map (piece Last q) us) ≡ grown object (partOf q (r .last)) ∷ []
+    pub gives : deliveredBy m a (map (piece Last q) us) ≡ grown object (partOf q (r .last)) ∷ []
     pub bytes : r .bytes ≡ t .bytes + (length (object .bytes) + length (partOf q (r .last)))
     pub most : length (object .bytes) + length (partOf q (r .last)) ≤ mostObject
 
   last-turn : (mpu : ℕ) (rap : Bool) (u : DataUnit) (us : List DataUnit) (a : Asset) (t : Survey) (g : Mfu) → a .held ≡ some g → t .held ≡ true
       → t .object .length ≡ length (g .bytes) → t .records ≡ 0 → (surveyAll Last mpu rap q t (u ∷ us) .records ≡ 0 → ⊥)
       → Ended (u ∷ us) a t (surveyAll Last mpu rap q t (u ∷ us))
-  unfolding surveyAll surveyed unitsGive did didTo unitDoes objectOf continued grownTo droppedUnit
+  unfolding surveyAll surveyed deliveredBy unitEffect afterUnit effectOf objectOf continued grownTo droppedUnit
   last-turn mpu rap u us a t g e eh el z ne = go (leb (length (g .bytes) + length d) mostObject) refl
     where
       d : Bytes
@@ -195,26 +195,26 @@ module _ (m : MediaPacket) (q : Bytes) (at : ℕ) (l : Bytes) where
       turned = grown-some true t (u .«data») (length d) (length (g .bytes)) eh el
 
       next : Asset
-      next = didTo a (did m a (piece Last q u))
+      next = afterUnit a (unitEffect m a (piece Last q u))
 
       gone : next .held ≡ none
       gone = last-ends (a .held) (objectOf m (piece Last q u))
 
-      outs : did m a (piece Last q u) .outs ≡ continued (leb (length (g .bytes) + length d) mostObject) true (grown g d) .outs
-      outs = ap (λ (o : Option Mfu). unitDoes Last o (objectOf m (piece Last q u)) .outs) e
+      outs : unitEffect m a (piece Last q u) .outs ≡ continued (leb (length (g .bytes) + length d) mostObject) true (grown g d) .outs
+      outs = ap (λ (o : Option Mfu). effectOf Last o (objectOf m (piece Last q u)) .outs) e
 
       go : (b : Bool) → leb (length (g .bytes) + length d) mostObject ≡ b → Ended (u ∷ us) a t (surveyAll Last mpu rap q after us)
       go true f =
           let w : after ≡ grownTo true t (u .«data») (length (g .bytes) + length d) = rw f at turned in
           let r : surveyAll Last mpu rap q after us ≡ grownTo true t (u .«data») (length (g .bytes) + length d) =
           ap (λ (x : Survey). surveyAll Last mpu rap q x us) w ∙ last-quiet mpu rap us (grownTo true t (u .«data») (length (g .bytes) + length d)) refl in
-          let y : did m a (piece Last q u) .outs ≡ grown g d ∷ [] = rw f at outs in
+          let y : unitEffect m a (piece Last q u) .outs ≡ grown g d ∷ [] = rw f at outs in
           subst (λ (x : Survey). Ended (u ∷ us) a t x) (sym r)
           (record {
             object = g;
             was = e;
             gives =
-                ap (λ (ds : List Mfu). ds ++ unitsGive m next (map (piece Last q) us)) y
+                ap (λ (ds : List Mfu). ds ++ deliveredBy m next (map (piece Last q) us)) y
                 ∙ ap (λ (ds : List Mfu). grown g d ∷ ds) (last-none us next gone .0);
             bytes = refl;
             most = leb-true (length (g .bytes) + length d) mostObject f;

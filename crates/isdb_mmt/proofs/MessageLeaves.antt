@@ -15,12 +15,12 @@ use Rattle.isdb_tlv.proofs.Guards.{either}
 use Rattle.isdb_mmt.specs.Packet.{Bytes}
 use Rattle.isdb_mmt.specs.Maps.{find, put, isSome, orElse}
 use Rattle.isdb_mmt.specs.Objects.{Asset}
-use Rattle.isdb_mmt.specs.Joins.{Join}
-use Rattle.isdb_mmt.specs.Kept.{Kept, Store}
+use Rattle.isdb_mmt.specs.Joins.{PartialMessage}
+use Rattle.isdb_mmt.specs.Kept.{Kept, KeptTables}
 use Rattle.isdb_mmt.specs.Model.{State, Control as ControlState, controlOf, idleControl}
-use Rattle.isdb_mmt.specs.Needs.{joinLength}
+use Rattle.isdb_mmt.specs.Needs.{partialLength}
 use Rattle.isdb_mmt.specs.Layout.{controlPlaces, controlSize, mediaPlaces, mediaSize, mostMediaIds, mostControlIds, mostSections, stateSize, usedPlace, countersPlace, sectionPlaces, sectionSize}
-use Rattle.isdb_mmt.specs.Lent.{part, over, placesFrom, namesFrom, foundFrom, seatOf, every, indexed}
+use Rattle.isdb_mmt.specs.Lent.{part, over, placesFrom, namesFrom, foundFrom, placeForName, every, indexed}
 use Rattle.isdb_mmt.specs.Limits.{asked}
 use Rattle.isdb_mmt.specs.Session.{Session, limitsOf, usedOf, latestOf, timeOf, countersOf, countersFields, mediaPlaceOf, controlPlaceOf, sectionPlaceOf, controlFields, usedFields}
 use Rattle.isdb_mmt.specs.Check.{mediaIn, controlsIn, sectionsIn, controlSound, lengthsOf, Sound}
@@ -28,11 +28,11 @@ use Rattle.isdb_mmt.specs.View.{given, controlStateOf, assetEntry, contr
 use Rattle.isdb_mmt.specs.Opening.{lent}
 use Rattle.isdb_mmt.specs.MediaPush.{withUsed}
 use Rattle.isdb_mmt.specs.Placing.{tableLength, longIn, aggregatedIn, controlFor, latestFor, countersFor}
-use Rattle.isdb_mmt.specs.Leaves.{joinedIn, keptPlace, usedFor, withControl, withLatest, withCounters, stateOfTables, bytesOver, keptOver, latestOver, countedIn, controlLeaves, messageIn, controlSeat, messageAt}
+use Rattle.isdb_mmt.specs.Leaves.{joinedIn, keptPlace, usedFor, withControl, withLatest, withCounters, stateOfTables, bytesOver, keptOver, latestOver, countedIn, controlLeaves, messageIn, controlPlaceFor, messageAt}
 use Rattle.isdb_mmt.specs.declared.decoder.place.Found.{Found}
 use Rattle.isdb_mmt.specs.declared.decoder.place.Found.the-variants.{At, Nothing}
-use Rattle.isdb_mmt.specs.declared.decoder.place.Seat.{Seat}
-use Rattle.isdb_mmt.specs.declared.decoder.place.Seat.the-variants.{Old, New, Full}
+use Rattle.isdb_mmt.specs.declared.decoder.place.PlaceFor.{PlaceFor}
+use Rattle.isdb_mmt.specs.declared.decoder.place.PlaceFor.the-variants.{Own, Free, NoneFree}
 use Rattle.isdb_mmt.specs.declared.decoder.limits.Limits.{Limits}
 use Rattle.isdb_mmt.specs.declared.decoder.head.Used.{Used}
 use Rattle.isdb_mmt.specs.declared.decoder.head.Latest.{Latest}
@@ -45,7 +45,7 @@ use Rattle.isdb_mmt.proofs.Sessions.{Sort, media, controls, sections, i
 use Rattle.isdb_mmt.proofs.Views.{keys, entry, Stands, stands, absent, indexed-set, indexed-snoc, indexed-same, keys-indexed}
 use Rattle.isdb_mmt.proofs.Limits.{passed, Passed}
 use Rattle.isdb_mmt.proofs.Checks.{control-was}
-use Rattle.isdb_mmt.proofs.Seats.{length-media, seat-was-old, seat-was-new, seat-was-full, length-map, length-indexed, every-at, set-indexed}
+use Rattle.isdb_mmt.proofs.PlacesFor.{length-media, place-for-was-old, place-for-was-new, place-for-was-full, length-map, length-indexed, every-at, set-indexed}
 use Rattle.isdb_mmt.proofs.TableAreas.{AllKept, length-laid, laid-apart, laid, length-kept, kept-apart, Lie, kept-lie, lie-on, entryIn, lie-read}
 use Rattle.isdb_mmt.proofs.StateWrites.{used-other, TablesFit, used-fits, length-tables, limits-tables, latest-tables, time-tables, counters-tables, used-tables, others-tables, sections-tables, long-latest, latest-read, limits-latest, time-latest, counters-latest, places-latest}
 use Rattle.isdb_mmt.proofs.MediaLeaves.{given-back}
@@ -114,7 +114,7 @@ control-names s =
 
 -- ---- a control place
 
-abbrev join : Bool → Bool → Bytes → Join
+abbrev join : Bool → Bool → Bytes → PartialMessage
 join long aggregated b = record { long = long; aggregated = aggregated; bytes = b }
 
 -- bytes that its flags do not speak of do not matter
@@ -127,15 +127,15 @@ control-bytes c a b m t e f =
     let q : given (c .mpt) m ≡ given (c .mpt) t = either (c .mpt) (λ y. rw (f y)) (λ y. rw y) in
     λ i. record { line = record { number = given (c .seen) (c .sequence); part = p i }; mpt = q i }
 
-join-laid : (o : Option Join) (area i : ℕ) (l : Bytes) → joinLength o ≤ area → (i + 1) * area ≤ length l
-    → given (isSome o) (join (longIn o) (aggregatedIn o) (part (i * area) (joinLength o) (bytesOver (i * area) (joinedIn o) l))) ≡ o
+join-laid : (o : Option PartialMessage) (area i : ℕ) (l : Bytes) → partialLength o ≤ area → (i + 1) * area ≤ length l
+    → given (isSome o) (join (longIn o) (aggregatedIn o) (part (i * area) (partialLength o) (bytesOver (i * area) (joinedIn o) l))) ≡ o
 unfolding isSome
 join-laid none area i l h w = refl
 join-laid (some j) area i l h w =
     let e = part-over (i * area) (j .bytes) l (omega arith) in
     λ k. some (record { long = j .long; aggregated = j .aggregated; bytes = e k })
 
-pub joined-length : (o : Option Join) → tableLength (joinedIn o) ≡ joinLength o
+pub joined-length : (o : Option PartialMessage) → tableLength (joinedIn o) ≡ partialLength o
 joined-length none = refl
 joined-length (some j) = refl
 
@@ -254,7 +254,7 @@ module _ (s : Session) (ok : Sound (s .state) (s .others) (lengthsOf s)) where
 
   -- ---- a message packet, whose id has or takes the place i
   module _ (n : State) (f : TablesFit l n) (id : ℕ) (c : ControlState) (fits : Fit (controlFields (controlFor id c)))
-      (joins : joinLength (c .line .part) ≤ l .«message_area») (short : tableLength (c .mpt) ≤ area)
+      (joins : partialLength (c .line .part) ≤ l .«message_area») (short : tableLength (c .mpt) ≤ area)
       (ep : view s .passing ≡ n .passing) (ea : view s .assets ≡ n .assets) (ec : put id c (controlEntries s) ≡ n .controls) (ei : view s .time ≡ n .time)
       (i : ℕ) (free : i < l .«control_ids») where
     abbrev st1 : List ℕ
@@ -453,13 +453,13 @@ module _ (s : Session) (ok : Sound (s .state) (s .others) (lengthsOf s)) where
         }
 
     -- ---- a place that is there
-    module _ (seat : controlSeat st id ≡ Old i) where
+    module _ (place-for : controlPlaceFor st id ≡ Own i) where
       stands-old : Stands (controlEntries s) id i
-      unfolding controlSeat
+      unfolding controlPlaceFor
       stands-old =
           let e : foundFrom 0 (keys (controlEntries s)) id ≡ At i =
           ap (λ (ns : List ℕ). foundFrom 0 ns id) (control-names s)
-          ∙ seat-was-old (namesFrom (usedOf st .«control_ids») controlSize controlPlaces st) (l .«control_ids») id i seat in
+          ∙ place-for-was-old (namesFrom (usedOf st .«control_ids») controlSize controlPlaces st) (l .«control_ids») id i place-for in
           let z : i - 0 ≡ i = omega arith in
           rw z at (stands (controlEntries s) id 0 i e .1)
 
@@ -488,11 +488,11 @@ module _ (s : Session) (ok : Sound (s .state) (s .others) (lengthsOf s)) where
           ∙ sym (stands-old .stored c))
 
     -- ---- a new place
-    module _ (seat : controlSeat st id ≡ New i) where
+    module _ (place-for : controlPlaceFor st id ≡ Free i) where
       is-last : (i ≡ usedOf st .«control_ids») × (put id c (controlEntries s) ≡ controlEntries s ++ ((id, c) ∷ []))
-      unfolding controlSeat
+      unfolding controlPlaceFor
       is-last =
-          let w = seat-was-new (namesFrom (usedOf st .«control_ids») controlSize controlPlaces st) (l .«control_ids») id i seat in
+          let w = place-for-was-new (namesFrom (usedOf st .«control_ids») controlSize controlPlaces st) (l .«control_ids») id i place-for in
           let e : foundFrom 0 (keys (controlEntries s)) id ≡ Nothing =
           ap (λ (ns : List ℕ). foundFrom 0 ns id) (control-names s) ∙ w .0 in (
             w .1 .0 ∙ length-names controlSize (usedOf st .«control_ids») controlPlaces st,

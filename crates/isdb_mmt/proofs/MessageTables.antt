@@ -11,8 +11,8 @@ use lib.Seq.{length-take-le}
 use Rattle.isdb_mmt.specs.Layout.{mostSections, mostControlIds, mostMessageArea, mostTableArea, mostCount, tableIds, sectionPlaces, sectionSize}
 use Rattle.isdb_mmt.specs.Packet.{Bytes}
 use Rattle.isdb_mmt.specs.Maps.{isSome}
-use Rattle.isdb_mmt.specs.Joins.{Join, cutOf}
-use Rattle.isdb_mmt.specs.Kept.{Kept, Counters as Counts, Store, Table, tableRead, mptAfterAll, storedAll, countedAll}
+use Rattle.isdb_mmt.specs.Joins.{PartialMessage, cutOf}
+use Rattle.isdb_mmt.specs.Kept.{Kept, Counters as Counts, KeptTables, Table, tableRead, mptAfterAll, storedAll, countedAll}
 use Rattle.isdb_mmt.specs.Needs.{tablesNeed}
 use Rattle.isdb_mmt.specs.Octets.{Octets}
 use Rattle.isdb_mmt.specs.Lent.{part}
@@ -44,7 +44,7 @@ use Rattle.isdb_mmt.proofs.Modelled.{AsModel, walk-is, full-above, used
 
 -- a session, the MPT of control place `i`, a joined message, and the counters before its tables
 module _ (s : Session) (ok : Sound (s .state) (s .others) (lengthsOf s)) (i : ℕ) (hi : i < limitsOf (s .state) .«control_ids») (there : Bool) (len : ℕ)
-    (hm : there ≡ true → len ≤ limitsOf (s .state) .«table_area») (j : Join) (c₀ : Counts) where
+    (hm : there ≡ true → len ≤ limitsOf (s .state) .«table_area») (j : PartialMessage) (c₀ : Counts) where
   abbrev l : Limits
   l = limitsOf (s .state)
 
@@ -97,7 +97,7 @@ module _ (s : Session) (ok : Sound (s .state) (s .others) (lengthsOf s)) (i : �
   abbrev mpt-before : Option Bytes
   mpt-before = given there (part mptAt len (s .tables))
 
-  abbrev store-before : Store
+  abbrev store-before : KeptTables
   store-before = view s .store
 
   -- the tables
@@ -122,14 +122,14 @@ module _ (s : Session) (ok : Sound (s .state) (s .others) (lengthsOf s)) (i : �
   versions : Versions m a (dryOf ix₀ log₀ (s .others) g₀)
   versions = versions-view s ok m log₀ (no-log mostSections) mpt₀ mptAt c₁ (countersFor c₀) (version-start m (s .tables) mptAt there len)
 
-  abbrev store-after : Store
+  abbrev store-after : KeptTables
   store-after = storedAll store-before given-tables
 
   abbrev mpt-after : Option Bytes
   mpt-after = mptAfterAll mpt-before given-tables
 
   store-is : storedAll (before .store) ts ≡ store-after
-  store-is = ap (λ (x : Store). storedAll x ts) same-store ∙ ap (storedAll store-before) same-tables
+  store-is = ap (λ (x : KeptTables). storedAll x ts) same-store ∙ ap (storedAll store-before) same-tables
 
   mpt-is : mptAfterAll (before .mpt) ts ≡ mpt-after
   unfolding drawn
@@ -142,7 +142,7 @@ module _ (s : Session) (ok : Sound (s .state) (s .others) (lengthsOf s)) (i : �
   counted-is : countedAll (before .mpt) (before .store) (before .counters) ts ≡ countedAll mpt-before store-before c₁ given-tables
   unfolding drawn
   counted-is =
-      ap (λ (x : Store). countedAll mpt-before x c₁ ts) same-store ∙ ap (λ (x : List Table). countedAll mpt-before store-before c₁ x) same-tables
+      ap (λ (x : KeptTables). countedAll mpt-before x c₁ ts) same-store ∙ ap (λ (x : List Table). countedAll mpt-before store-before c₁ x) same-tables
 
   held : AllHeld m (l .«table_area») 0 (dryOf ix₀ log₀ (s .others) g₀ .index)
   held = held-view s ok m log₀ (no-log mostSections) mpt₀ mptAt c₁ (countersFor c₀)
@@ -160,7 +160,7 @@ module _ (s : Session) (ok : Sound (s .state) (s .others) (lengthsOf s)) (i : �
 
   module _ (n : ℕ) (r : Going) (ix log mine : List ℕ) (w : Walked tableRead ix₀ log₀ (s .others) g₀ (placedCut j) n (cutOf j .malformed) r ix log mine) where
     kept-is : length (storedAll (before .store) ts .kept) ≡ length (store-after .kept)
-    kept-is = ap (λ (x : Store). length (x .kept)) store-is
+    kept-is = ap (λ (x : KeptTables). length (x .kept)) store-is
 
     -- ---- what is asked
 
@@ -187,7 +187,7 @@ module _ (s : Session) (ok : Sound (s .state) (s .others) (lengthsOf s)) (i : �
       message-longest =
           is .longest
           ∙ zero-max (tablesNeed (before .store) ts)
-          ∙ ap (λ (x : Store). tablesNeed x ts) same-store
+          ∙ ap (λ (x : KeptTables). tablesNeed x ts) same-store
           ∙ ap (tablesNeed store-before) same-tables
         where
           zero-max : (k : ℕ) → max 0 k ≡ k
@@ -197,7 +197,7 @@ module _ (s : Session) (ok : Sound (s .state) (s .others) (lengthsOf s)) (i : �
 
       pub message-others : mine ≡ store-after .others
       unfolding drawn
-      message-others = ap (λ (x : Store). x .others) (is .store ∙ store-is)
+      message-others = ap (λ (x : KeptTables). x .others) (is .store ∙ store-is)
 
       pub message-counters : countersWith (countersFor c₀) r ≡ countersFor (countedAll mpt-before store-before c₁ given-tables)
       unfolding drawn
@@ -260,7 +260,7 @@ module _ (s : Session) (ok : Sound (s .state) (s .others) (lengthsOf s)) (i : �
         message-rows o li =
             committed-rows tableRead tables-stand ix₀ log₀ (s .others) g₀ (placedCut j) n (cutOf j .malformed) r ix log mine w m a c₁ versions (cut-stands j) y held
             fits o (omega (arith, some-sections)) room
-            ∙ ap (λ (x : Store). sectionRows (x .kept)) store-is
+            ∙ ap (λ (x : KeptTables). sectionRows (x .kept)) store-is
 
         -- the MPT, the PLT and the TOT
         abbrev drawn-at : ℕ → Recent → Option Bytes
@@ -281,11 +281,11 @@ module _ (s : Session) (ok : Sound (s .state) (s .others) (lengthsOf s)) (i : �
 
         plt-drawn : drawn-at pltPlace (r .plt) ≡ store-after .plt
         unfolding drawn
-        plt-drawn = ap (λ (x : Store). x .plt) (is .store ∙ store-is)
+        plt-drawn = ap (λ (x : KeptTables). x .plt) (is .store ∙ store-is)
 
         tot-drawn : drawn-at totPlace (r .tot) ≡ store-after .tot
         unfolding drawn
-        tot-drawn = ap (λ (x : Store). x .tot) (is .store ∙ store-is)
+        tot-drawn = ap (λ (x : KeptTables). x .tot) (is .store ∙ store-is)
 
         plt-room : (pltPlace + 1) * l .«table_area» ≤ length (s .tables)
         plt-room = area-room pltPlace (omega arith)
@@ -364,7 +364,7 @@ module _ (s : Session) (ok : Sound (s .state) (s .others) (lengthsOf s)) (i : �
         laid-1 =
             committed-kept tableRead tables-stand ix₀ log₀ (s .others) g₀ (placedCut j) n (cutOf j .malformed) r ix log mine w m a c₁ versions (cut-stands j) y held
             fits room
-            ∙ ap (λ (x : Store). keptOver area 0 (x .kept) (s .tables)) store-is
+            ∙ ap (λ (x : KeptTables). keptOver area 0 (x .kept) (s .tables)) store-is
 
         laid-2 : t2 ≡ bytesOver (pltPlace * area) (store-after .plt) t1
         laid-2 =

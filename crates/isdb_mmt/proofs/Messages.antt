@@ -20,14 +20,14 @@ use Rattle.isdb_tlv.proofs.Numbers.{be-lt}
 use Rattle.isdb_mmt.specs.Layout.{mostSections, mostMessageArea, mostTableArea, mostCount}
 use Rattle.isdb_mmt.specs.Packet.{Bytes}
 use Rattle.isdb_mmt.specs.Part.{part, partOf}
-use Rattle.isdb_mmt.specs.Message.{Pieces, prefixWidth, pieceAt, pieceItem, piecesFrom, contentOf, paTables, sectionTable, bodyPart, tableAt, tableItem, tablesFrom}
-use Rattle.isdb_mmt.specs.Joins.{Join, messagesOf, partsOf, tablesIn, tablesOf, tablesOfAll, cutOf}
+use Rattle.isdb_mmt.specs.Message.{Aggregated, prefixWidth, aggregatedAt, aggregatedItem, aggregatedFrom, contentOf, paTables, sectionTable, bodyPart, tableAt, tableItem, tablesFrom}
+use Rattle.isdb_mmt.specs.Joins.{PartialMessage, messagesOf, partsOf, tablesIn, tablesOf, tablesOfAll, cutOf}
 use Rattle.isdb_mmt.specs.Kept.{tableRead}
 use Rattle.isdb_mmt.specs.declared.part.Part.{Part}
 use Rattle.isdb_mmt.specs.declared.message.Content.{Content}
 use Rattle.isdb_mmt.specs.declared.message.Content.the-variants.{Malformed as badMessage, Nothing as nothing, Table as oneTable, Tables}
-use Rattle.isdb_mmt.specs.declared.message.PieceStep.{PieceStep}
-use Rattle.isdb_mmt.specs.declared.message.PieceStep.the-variants.{End as noPiece, Malformed as badPiece, Piece as pieceStep}
+use Rattle.isdb_mmt.specs.declared.message.MessageStep.{MessageStep}
+use Rattle.isdb_mmt.specs.declared.message.MessageStep.the-variants.{End as noMore, Malformed as pastEnd, Message as messageStep}
 use Rattle.isdb_mmt.specs.declared.message.TableStep.{TableStep}
 use Rattle.isdb_mmt.specs.declared.message.TableStep.the-variants.{End as noMore, Malformed as badTable, Table as tableStep}
 use Rattle.isdb_mmt.specs.declared.decoder.verdict.Told.{Told}
@@ -36,7 +36,7 @@ use Rattle.isdb_mmt.specs.Placed.{Placed, joinOf, placed, placedIn, plac
 use Rattle.isdb_mmt.specs.Verdict.{indexOf, toldOf, CanTell}
 use Rattle.isdb_mmt.specs.Dry.{mostAdded, mostBefore, Room, CanNote, cutShort, Noted, Walked, at, CanTake, CanWalk, inBody}
 use Rattle.isdb_mmt.proofs.Places.{Lies}
-use Rattle.isdb_mmt.proofs.Pieces.{width-ge, piece-lies, pieces-at, table-lies, tables-at}
+use Rattle.isdb_mmt.proofs.AggregatedMessages.{width-ge, piece-lies, pieces-at, table-lies, tables-at}
 use Rattle.isdb_mmt.proofs.Verdicts.{length-index}
 use Rattle.isdb_mmt.proofs.Breaks.{small-told}
 use Rattle.isdb_mmt.proofs.Joined.{pieces, both-fit}
@@ -138,10 +138,10 @@ module _ (ix₀ log₀ others₀ seam₀ : List ℕ) (g₀ : Going) (m : Bytes) 
       step-of = step ∙ ap (λ (z : TableStep). turn (tablesFrom m) (tableItem z)) e
 
       rest-of : inBody m from p ≡ map (placed from m) (turn (tablesFrom m) (tableItem z) .found)
-      rest-of = ap (λ (q : Pieces). map (placed from m) (q .found)) step-of
+      rest-of = ap (λ (q : Aggregated). map (placed from m) (q .found)) step-of
 
       left-of : tablesFrom m p .malformed ≡ turn (tablesFrom m) (tableItem z) .malformed
-      left-of = ap (λ (q : Pieces). q .malformed) step-of
+      left-of = ap (λ (q : Aggregated). q .malformed) step-of
 
     pub tables-end : s ≡ noMore → Walked tableRead ix₀ log₀ others₀ g₀ (inBody m from first) (length m + 1) (tablesFrom m first .malformed) g ix log others
     tables-end e =
@@ -292,13 +292,13 @@ module _ (ix log others seam : List ℕ) (g : Going) (a b : Bytes) (from : ℕ) 
 -- ---- messages that are aggregated
 
 -- a length stands before each
-abbrev BehindIn : ℕ → PieceStep → Type 0
-BehindIn p noPiece = Unit {0}
-BehindIn p badPiece = Unit {0}
-BehindIn p (pieceStep q next) = p + 2 ≤ q .start
+abbrev BehindIn : ℕ → MessageStep → Type 0
+BehindIn p noMore = Unit {0}
+BehindIn p pastEnd = Unit {0}
+BehindIn p (messageStep q next) = p + 2 ≤ q .start
 
-piece-starts : (m : Bytes) (long : Bool) (p : ℕ) → BehindIn p (pieceAt m long p)
-unfolding pieceAt
+piece-starts : (m : Bytes) (long : Bool) (p : ℕ) → BehindIn p (aggregatedAt m long p)
+unfolding aggregatedAt
 piece-starts m long p =
     cond-elim (BehindIn p) (length m - p <? prefixWidth long) (λ e. tt) (λ e.
     cond-elim (BehindIn p) (length m - (p + prefixWidth long) <? be (prefixWidth long) m p) (λ e. tt) (λ e. omega (arith, width-ge long)))
@@ -332,32 +332,32 @@ module _ (ix₀ log₀ others₀ seam₀ : List ℕ) (g₀ : Going) (a b : Bytes
   pub messages-cut-can : g .«message_malformed» ≤ mostBefore
   messages-cut-can = omega (arith, messages-room .bad)
 
-  module _ (s : PieceStep) (es : s ≡ pieceAt all long p) (z : PieceStep) (e : s ≡ z) where
-    piece-of : piecesFrom all long p ≡ turn (piecesFrom all long) (pieceItem z)
-    piece-of = pieces-at all long p ∙ ap (λ (z : PieceStep). turn (piecesFrom all long) (pieceItem z)) (sym es ∙ e)
+  module _ (s : MessageStep) (es : s ≡ aggregatedAt all long p) (z : MessageStep) (e : s ≡ z) where
+    piece-of : aggregatedFrom all long p ≡ turn (aggregatedFrom all long) (aggregatedItem z)
+    piece-of = pieces-at all long p ∙ ap (λ (z : MessageStep). turn (aggregatedFrom all long) (aggregatedItem z)) (sym es ∙ e)
 
-    pieces-rest : placedFrom all long p ≡ placedOfAll all (turn (piecesFrom all long) (pieceItem z) .found)
-    pieces-rest = ap (λ (q : Pieces). placedOfAll all (q .found)) piece-of
+    pieces-rest : placedFrom all long p ≡ placedOfAll all (turn (aggregatedFrom all long) (aggregatedItem z) .found)
+    pieces-rest = ap (λ (q : Aggregated). placedOfAll all (q .found)) piece-of
 
     pieces-left : malformedFrom all long p
-        ≡ turn (piecesFrom all long) (pieceItem z) .malformed + tablesOfAll (partsOf all (turn (piecesFrom all long) (pieceItem z) .found)) .malformed
-    pieces-left = ap (λ (q : Pieces). q .malformed + tablesOfAll (partsOf all (q .found)) .malformed) piece-of
+        ≡ turn (aggregatedFrom all long) (aggregatedItem z) .malformed + tablesOfAll (partsOf all (turn (aggregatedFrom all long) (aggregatedItem z) .found)) .malformed
+    pieces-left = ap (λ (q : Aggregated). q .malformed + tablesOfAll (partsOf all (q .found)) .malformed) piece-of
 
-  module _ (s : PieceStep) (es : s ≡ pieceAt all long p) where
-    pub messages-end : s ≡ noPiece → Walked tableRead ix₀ log₀ others₀ g₀ (placedFrom all long 0) (length all + 1) (malformedFrom all long 0) g ix log others
+  module _ (s : MessageStep) (es : s ≡ aggregatedAt all long p) where
+    pub messages-end : s ≡ noMore → Walked tableRead ix₀ log₀ others₀ g₀ (placedFrom all long 0) (length all + 1) (malformedFrom all long 0) g ix log others
     unfolding placedOfAll tablesOfAll
     messages-end e =
         goes-end tableRead ix₀ log₀ others₀ g₀ (placedFrom all long 0) (malformedFrom all long 0) ix log others g (placedFrom all long p)
-        (malformedFrom all long p) (min p (length all)) (go .goes) (pieces-rest s es noPiece e) (pieces-left s es noPiece e) (length all + 1) (omega arith)
+        (malformedFrom all long p) (min p (length all)) (go .goes) (pieces-rest s es noMore e) (pieces-left s es noMore e) (length all + 1) (omega arith)
 
-    pub messages-cut : s ≡ badPiece → (r : Going) → r ≡ cutShort g
+    pub messages-cut : s ≡ pastEnd → (r : Going) → r ≡ cutShort g
         → Walked tableRead ix₀ log₀ others₀ g₀ (placedFrom all long 0) (length all + 1) (malformedFrom all long 0) r ix log others
     unfolding placedOfAll tablesOfAll
     messages-cut e r er =
         goes-cut tableRead ix₀ log₀ others₀ g₀ (placedFrom all long 0) (malformedFrom all long 0) ix log others g (placedFrom all long p)
-        (malformedFrom all long p) (min p (length all)) (go .goes) (pieces-rest s es badPiece e) (pieces-left s es badPiece e) (length all + 1) (omega arith) r er
+        (malformedFrom all long p) (min p (length all)) (go .goes) (pieces-rest s es pastEnd e) (pieces-left s es pastEnd e) (length all + 1) (omega arith) r er
 
-    module _ (q : Part) (next : ℕ) (e : s ≡ pieceStep q next) where
+    module _ (q : Part) (next : ℕ) (e : s ≡ messageStep q next) where
       piece-in : Lies all p q next
       piece-in = piece-lies all long (sym es ∙ e)
 
@@ -393,9 +393,9 @@ module _ (ix₀ log₀ others₀ seam₀ : List ℕ) (g₀ : Going) (a b : Bytes
               goes =
                   goes-on tableRead ix₀ log₀ others₀ g₀ (placedFrom all long 0) (malformedFrom all long 0) ix log others g (placedFrom all long p)
                   (malformedFrom all long p) (min p (length all)) (go .goes) (placedOf (q .start) (partOf all q)) (placedFrom all long next)
-                  (pieces-rest s es (pieceStep q next) e) (tablesOf (partOf all q) .malformed) (malformedFrom all long next)
-                  (pieces-left s es (pieceStep q next) e
-                  ∙ swap (piecesFrom all long next .malformed) (tablesOf (partOf all q) .malformed) (tablesOfAll (partsOf all (piecesFrom all long next .found)) .malformed))
+                  (pieces-rest s es (messageStep q next) e) (tablesOf (partOf all q) .malformed) (malformedFrom all long next)
+                  (pieces-left s es (messageStep q next) e
+                  ∙ swap (aggregatedFrom all long next .malformed) (tablesOf (partOf all q) .malformed) (tablesOfAll (partsOf all (aggregatedFrom all long next .found)) .malformed))
                   (length (x ++ y) + 1) (min next (length all)) (omega (arith, n, piece-behind, piece-in .within, piece-in .ends)) r ix′ log′ others′ w′ li ll lo;
               seamLong = ls ∙ go .seamLong;
               can = go .can;

@@ -10,7 +10,7 @@ use lib.ListN.{length, take}
 use Rattle.isdb_mmt.specs.Layout.{mostSections, sectionSize}
 use Rattle.isdb_mmt.specs.Packet.{Bytes}
 use Rattle.isdb_mmt.specs.Lent.{indexed}
-use Rattle.isdb_mmt.specs.Kept.{Kept, Counters, Store, Table, mptAfterAll, storedAll, countedAll}
+use Rattle.isdb_mmt.specs.Kept.{Kept, Counters, KeptTables, Table, mptAfterAll, storedAll, countedAll}
 use Rattle.isdb_mmt.specs.Needs.{tablesNeed}
 use Rattle.isdb_mmt.specs.declared.decoder.walk.Going.{Going}
 use Rattle.isdb_mmt.specs.Placed.{Placed, bytesOf, AllStand}
@@ -73,7 +73,7 @@ module _ (read : Bytes → Table) (stands : ReadStands read) (ix log others : Li
 
   kept-all : length (storedAll (before .store) given .kept) ≡ length (notedAll read (dryOf ix log others g) xs .index)
   kept-all =
-      ap (λ (s : Store). length (s .kept)) (sym (store-all given before))
+      ap (λ (s : KeptTables). length (s .kept)) (sym (store-all given before))
       ∙ ap (λ (z : Tally). length (z .store .kept)) ends
       ∙ kept-length (notedAll read (dryOf ix log others g) xs)
 
@@ -108,7 +108,7 @@ module _ (read : Bytes → Table) (stands : ReadStands read) (ix log others : Li
     committed-kept room =
         let z : (0 + length logged-now) * a .area ≤ length (a .bytes) = rw (length-after, zero-add (r .used)) room in
         put-is (a .area) m logged-now 0 (a .bytes) (a .bytes) fits-after z (λ j n b c. refl)
-        ∙ ap (λ (s : Store). keptOver (a .area) 0 (s .kept) (a .bytes)) (walk-is y .store)
+        ∙ ap (λ (s : KeptTables). keptOver (a .area) 0 (s .kept) (a .bytes)) (walk-is y .store)
 
     -- and the section places are theirs
     pub committed-rows : Octets ix′ → sectionSize * r .used ≤ length ix′ → r .used * a .area ≤ length (a .bytes)
@@ -116,7 +116,7 @@ module _ (read : Bytes → Table) (stands : ReadStands read) (ix log others : Li
     unfolding drawn
     committed-rows o h room =
         rows-are m (a .bytes) (a .area) ix′ log′ o (r .used) h fits-after room length-after
-        ∙ ap (λ (s : Store). sectionRows (s .kept)) (walk-is y .store)
+        ∙ ap (λ (s : KeptTables). sectionRows (s .kept)) (walk-is y .store)
 
   pub used-after : r .full ≡ false → r .used ≡ length (storedAll (before .store) given .kept)
   used-after y =

@@ -14,10 +14,10 @@ use borrow.Author.Tests.{eq-eqb, ne-eqb, eqb-true, eqb-false, lt-ltb, le-ltb}
 use Rattle.isdb_tlv.specs.Bytes.{be, withBit}
 use Rattle.isdb_tlv.proofs.Messages.{bit-set}
 use Rattle.isdb_tlv.proofs.Guards.{either, cond-same}
-use Rattle.isdb_mmt.specs.Lent.{namesFrom, among, amongMarked, distinct, cellOf, foundFrom, seatOf}
+use Rattle.isdb_mmt.specs.Lent.{namesFrom, among, amongMarked, distinct, cellOf, foundFrom, placeForName}
 use Rattle.isdb_mmt.specs.declared.decoder.place.Found.{Found}
 use Rattle.isdb_mmt.specs.declared.decoder.place.Found.the-variants.{At, Nothing}
-use Rattle.isdb_mmt.specs.declared.decoder.place.Seat.the-variants.{Old, New, Full}
+use Rattle.isdb_mmt.specs.declared.decoder.place.PlaceFor.the-variants.{Own, Free, NoneFree}
 use Rattle.isdb_mmt.proofs.Lent.{length-names}
 
 pub clash : {A : Type 0} (b : Bool) → b ≡ true → b ≡ false → A
@@ -72,17 +72,17 @@ find-start l size n at x = let e : n - 0 ≡ n = omega arith in rw e
 -- ---- where a name has its place, or takes one
 
 module _ (l : List ℕ) (size n at limit x : ℕ) (f : Found) (ef : f ≡ foundFrom 0 (namesFrom n size at l) x) where
-  pub seat-old : (i : ℕ) → f ≡ At i → Old i ≡ seatOf (namesFrom n size at l) limit x
-  unfolding seatOf
-  seat-old i e = rw (← ef, e)
+  pub place-for-old : (i : ℕ) → f ≡ At i → Own i ≡ placeForName (namesFrom n size at l) limit x
+  unfolding placeForName
+  place-for-old i e = rw (← ef, e)
 
-  pub seat-new : f ≡ Nothing → n < limit → New n ≡ seatOf (namesFrom n size at l) limit x
-  unfolding seatOf
-  seat-new e h = rw (← ef, e, length-names size n at l, lt-ltb n limit h)
+  pub place-for-new : f ≡ Nothing → n < limit → Free n ≡ placeForName (namesFrom n size at l) limit x
+  unfolding placeForName
+  place-for-new e h = rw (← ef, e, length-names size n at l, lt-ltb n limit h)
 
-  pub seat-full : f ≡ Nothing → limit ≤ n → Full ≡ seatOf (namesFrom n size at l) limit x
-  unfolding seatOf
-  seat-full e h = rw (← ef, e, length-names size n at l, le-ltb n limit h)
+  pub place-for-full : f ≡ Nothing → limit ≤ n → NoneFree ≡ placeForName (namesFrom n size at l) limit x
+  unfolding placeForName
+  place-for-full e h = rw (← ef, e, length-names size n at l, le-ltb n limit h)
 
 -- ---- no name twice
 

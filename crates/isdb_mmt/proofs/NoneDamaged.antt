@@ -21,7 +21,7 @@ use Rattle.isdb_mmt.specs.declared.decoder.limits.Limits.{Limits}
 use Rattle.isdb_mmt.specs.declared.decoder.readings.AssetReading.{AssetReading}
 use Rattle.isdb_mmt.specs.declared.decoder.readings.AssetReading.the-variants.{Refused as assetRefused}
 use Rattle.isdb_mmt.proofs.Names.{clash}
-use Rattle.isdb_mmt.proofs.Seats.{none-some}
+use Rattle.isdb_mmt.proofs.PlacesFor.{none-some}
 use Rattle.isdb_mmt.proofs.Every.{Every}
 use Rattle.isdb_mmt.proofs.Stores.{Whole, mptGood, pltGood, totGood, KeptFits}
 use Rattle.isdb_mmt.proofs.Ready.{ControlFits, Ready}

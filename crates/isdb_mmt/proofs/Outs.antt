@@ -31,9 +31,9 @@ use Rattle.isdb_tlv.specs.declared.mmtp.Parsed.{Parsed}
 use Rattle.isdb_tlv.specs.declared.mmtp.Parsed.the-variants.{None as notMmtp, Some as someMmtp}
 use Rattle.isdb_tlv.proofs.Guards.{cond-elim}
 use Rattle.isdb_mmt.specs.Mpu.{payloadHeader, declaredOf, unitsOf, unitsFrom, unitStep, unitAt, unitIn, item, also}
-use Rattle.isdb_mmt.specs.Packet.{Bytes, Piece, Media, Packet, ipError, ntp, nonMmtp, media, message, control, other, headerIn, pieceOf, piecesOf, unitsFor, unitsRead, mediaOf, byType, mmtpIn, toPort, inFlow, datagramIn, byKind, classify, clear, readable}
+use Rattle.isdb_mmt.specs.Packet.{Bytes, PayloadUnit, MpuPacket, Packet, ipError, ntp, nonMmtp, media, message, control, other, headerIn, payloadUnit, payloadUnits, unitsFor, unitsRead, mediaOf, byType, mmtpIn, toPort, inFlow, datagramIn, byKind, classify, clear, readable}
 use Rattle.isdb_mmt.specs.Maps.{one, isSome}
-use Rattle.isdb_mmt.specs.Objects.{Mfu, Asset, Rec, Did, gap, mostObject, grown, continued, unitDoes, objectOf, did, didTo, unitsDo, unitsGive, noted, mpuNumber, tagged, passes, mediaGives}
+use Rattle.isdb_mmt.specs.Objects.{Mfu, Asset, Rec, UnitEffect, gap, mostObject, grown, continued, effectOf, objectOf, unitEffect, afterUnit, afterUnits, deliveredBy, afterHeaders, mpuNumber, tagged, passes, mediaGives}
 use Rattle.isdb_mmt.specs.Needs.{heldLength, longestOf, unitArea, unitsNeed}
 use Rattle.isdb_mmt.specs.Octets.{Octets}
 use Rattle.isdb_mmt.specs.Lent.{flagByte}
@@ -95,16 +95,16 @@ abbrev pub AllOk : List Mfu → Type 0
 AllOk [] = Unit {0}
 AllOk (h ∷ hs) = ObjectOk h × AllOk hs
 
-pub record PieceOk (u : Piece) : Type 0 where
+pub record PieceOk (u : PayloadUnit) : Type 0 where
   pub mfu : MfuOk (u .mfu)
   pub itemId : ItemOk (u .itemId)
   pub octets : Octets (u .bytes)
 
-abbrev pub AllPieces : List Piece → Type 0
+abbrev pub AllPieces : List PayloadUnit → Type 0
 AllPieces [] = Unit {0}
 AllPieces (u ∷ us) = PieceOk u × AllPieces us
 
-abbrev pub unitBytes : List Piece → ℕ
+abbrev pub unitBytes : List PayloadUnit → ℕ
 unitBytes [] = 0
 unitBytes (u ∷ us) = length (u .bytes) + unitBytes us
 
@@ -130,8 +130,8 @@ on-longs true false h d = omega (arith, length-append (h .bytes) d)
 on-longs false e h d = omega arith
 
 unit-longs : (f : FragmentationIndicator) (h : Option Mfu) (u : Mfu)
-    → longs (unitDoes f h u .outs) + heldLength (unitDoes f h u .held) ≤ heldLength h + length (u .bytes)
-unfolding unitDoes
+    → longs (effectOf f h u .outs) + heldLength (effectOf f h u .held) ≤ heldLength h + length (u .bytes)
+unfolding effectOf
 unit-longs Complete h u = omega arith
 unit-longs Head h u = omega arith
 unit-longs Middle none u = omega arith
@@ -139,19 +139,19 @@ unit-longs Middle (some h) u = on-longs (leb (length (h .bytes) + length (u .byt
 unit-longs Last none u = omega arith
 unit-longs Last (some h) u = on-longs (leb (length (h .bytes) + length (u .bytes)) mostObject) true h (u .bytes)
 
-units-longs : (m : Media) (us : List Piece) (a : Asset) → longs (unitsGive m a us) ≤ heldLength (a .held) + unitBytes us
-unfolding unitsGive didTo did objectOf
+units-longs : (m : MpuPacket) (us : List PayloadUnit) (a : Asset) → longs (deliveredBy m a us) ≤ heldLength (a .held) + unitBytes us
+unfolding deliveredBy afterUnit unitEffect objectOf
 units-longs m [] a = omega arith
 units-longs m (u ∷ us) a =
     omega (
       arith,
-      units-longs m us (didTo a (did m a u)),
+      units-longs m us (afterUnit a (unitEffect m a u)),
       unit-longs (u .fragment) (a .held) (objectOf m u),
-      longs-append (did m a u .outs) (unitsGive m (didTo a (did m a u)) us),
+      longs-append (unitEffect m a u .outs) (deliveredBy m (afterUnit a (unitEffect m a u)) us),
     )
 
 -- a unit that delivers leaves nothing held; it delivers its own data, or what its area counts
-abbrev Either : FragmentationIndicator → ℕ → Did → Type 0
+abbrev Either : FragmentationIndicator → ℕ → UnitEffect → Type 0
 Either f n r = (longs (r .outs) ≤ 0) ⊎ ((heldLength (r .held) ≤ 0) × (longs (r .outs) ≤ unitArea f r + n))
 
 on-either : (b e : Bool) (f : FragmentationIndicator) (n : ℕ) (h : Mfu) → unitArea f (continued true true h) ≡ longestOf (h ∷ []) → Either f n (continued b e h)
@@ -160,8 +160,8 @@ on-either true true f n h q = inr (omega arith, omega (arith, q))
 on-either true false f n h q = inl (omega arith)
 on-either false e f n h q = inl (omega arith)
 
-unit-either : (f : FragmentationIndicator) (h : Option Mfu) (u : Mfu) → Either f (length (u .bytes)) (unitDoes f h u)
-unfolding unitDoes continued
+unit-either : (f : FragmentationIndicator) (h : Option Mfu) (u : Mfu) → Either f (length (u .bytes)) (effectOf f h u)
+unfolding effectOf continued
 unit-either Complete h u = inr (omega arith, omega arith)
 unit-either Head h u = inl (omega arith)
 unit-either Middle none u = inl (omega arith)
@@ -173,15 +173,15 @@ unit-either Middle (some h) u = go (leb (length (h .bytes) + length (u .bytes)) 
 unit-either Last none u = inl (omega arith)
 unit-either Last (some h) u = on-either (leb (length (h .bytes) + length (u .bytes)) mostObject) true Last (length (u .bytes)) (grown h (u .bytes)) refl
 
-units-within : (m : Media) (us : List Piece) (a : Asset) → longs (unitsGive m a us) ≤ unitsNeed m a us + unitBytes us
-unfolding unitsGive unitsNeed didTo did objectOf
+units-within : (m : MpuPacket) (us : List PayloadUnit) (a : Asset) → longs (deliveredBy m a us) ≤ unitsNeed m a us + unitBytes us
+unfolding deliveredBy unitsNeed afterUnit unitEffect objectOf
 units-within m [] a = omega arith
 units-within m (u ∷ us) a =
-    let r = did m a u in
-    let s = longs-append (r .outs) (unitsGive m (didTo a r) us) in
+    let r = unitEffect m a u in
+    let s = longs-append (r .outs) (deliveredBy m (afterUnit a r) us) in
     ⊎-elim
-    (λ w. omega (arith, w, s, units-within m us (didTo a r)))
-    (λ w. omega (arith, w .0, w .1, s, units-longs m us (didTo a r)))
+    (λ w. omega (arith, w, s, units-within m us (afterUnit a r)))
+    (λ w. omega (arith, w .0, w .1, s, units-longs m us (afterUnit a r)))
     (unit-either (u .fragment) (a .held) (objectOf m u))
 
 -- ---- what units give carries numbers that fit
@@ -190,7 +190,7 @@ grown-ok : (h : Mfu) (d : Bytes) → ObjectOk h → Octets d → ObjectOk (grown
 unfolding grown
 grown-ok h d o q = record { mpu = o .mpu; mfu = o .mfu; itemId = o .itemId; octets = octets-append (h .bytes) d (o .octets) q }
 
-record DidOk (r : Did) : Type 0 where
+record DidOk (r : UnitEffect) : Type 0 where
   held : HeldOk (r .held)
   outs : AllOk (r .outs)
 
@@ -200,8 +200,8 @@ on-ok true true h o = record { held = tt; outs = (o, tt) }
 on-ok true false h o = record { held = o; outs = tt }
 on-ok false e h o = record { held = tt; outs = tt }
 
-unit-ok : (f : FragmentationIndicator) (h : Option Mfu) (u : Mfu) → HeldOk h → ObjectOk u → DidOk (unitDoes f h u)
-unfolding unitDoes
+unit-ok : (f : FragmentationIndicator) (h : Option Mfu) (u : Mfu) → HeldOk h → ObjectOk u → DidOk (effectOf f h u)
+unfolding effectOf
 unit-ok Complete h u p q = record { held = tt; outs = (q, tt) }
 unit-ok Head h u p q = record { held = q; outs = tt }
 unit-ok Middle none u p q = record { held = tt; outs = tt }
@@ -209,24 +209,24 @@ unit-ok Middle (some h) u p q = on-ok (leb (length (h .bytes) + length (u .bytes
 unit-ok Last none u p q = record { held = tt; outs = tt }
 unit-ok Last (some h) u p q = on-ok (leb (length (h .bytes) + length (u .bytes)) mostObject) true (grown h (u .bytes)) (grown-ok h (u .bytes) p (q .octets))
 
-begun-ok : (m : Media) (u : Piece) → mpuNumber (m .header) < 4294967296 → PieceOk u → ObjectOk (objectOf m u)
+begun-ok : (m : MpuPacket) (u : PayloadUnit) → mpuNumber (m .header) < 4294967296 → PieceOk u → ObjectOk (objectOf m u)
 unfolding objectOf
 begun-ok m u n p = record { mpu = n; mfu = p .mfu; itemId = p .itemId; octets = p .octets }
 
 -- what units leave held
-pub held-after : (m : Media) (us : List Piece) (a : Asset) → mpuNumber (m .header) < 4294967296 → HeldOk (a .held) → AllPieces us
-    → HeldOk (unitsDo m a us .held)
-unfolding unitsDo didTo did
+pub held-after : (m : MpuPacket) (us : List PayloadUnit) (a : Asset) → mpuNumber (m .header) < 4294967296 → HeldOk (a .held) → AllPieces us
+    → HeldOk (afterUnits m a us .held)
+unfolding afterUnits afterUnit unitEffect
 held-after m [] a n h p = h
 held-after m (u ∷ us) a n h p =
-    held-after m us (didTo a (did m a u)) n (unit-ok (u .fragment) (a .held) (objectOf m u) h (begun-ok m u n (p .0)) .held) (p .1)
+    held-after m us (afterUnit a (unitEffect m a u)) n (unit-ok (u .fragment) (a .held) (objectOf m u) h (begun-ok m u n (p .0)) .held) (p .1)
 
-units-ok : (m : Media) (us : List Piece) (a : Asset) → mpuNumber (m .header) < 4294967296 → HeldOk (a .held) → AllPieces us → AllOk (unitsGive m a us)
-unfolding unitsGive didTo did objectOf
+units-ok : (m : MpuPacket) (us : List PayloadUnit) (a : Asset) → mpuNumber (m .header) < 4294967296 → HeldOk (a .held) → AllPieces us → AllOk (deliveredBy m a us)
+unfolding deliveredBy afterUnit unitEffect objectOf
 units-ok m [] a n h p = tt
 units-ok m (u ∷ us) a n h p =
     let q = unit-ok (u .fragment) (a .held) (objectOf m u) h (begun-ok m u n (p .0)) in
-    all-append (did m a u .outs) _ (q .outs) (units-ok m us (didTo a (did m a u)) n (q .held) (p .1))
+    all-append (unitEffect m a u .outs) _ (q .outs) (units-ok m us (afterUnit a (unitEffect m a u)) n (q .held) (p .1))
 
 -- ---- rows
 
@@ -308,7 +308,7 @@ rows-fit i l (d ∷ ds) at o n = (
 
 -- ---- a media packet's numbers
 
-pub record MediaOk (m : Media) : Type 0 where
+pub record MediaOk (m : MpuPacket) : Type 0 where
   pub id : m .id < 65536
   pub number : m .number < 4294967296
   pub mpu : mpuNumber (m .header) < 4294967296
@@ -317,14 +317,14 @@ pub record MediaOk (m : Media) : Type 0 where
   pub raw : length (m .raw) < 65536
   pub octets : Octets (m .raw)
 
-pub gives-fit : (pass : Bool) (a : Asset) (m : Media) → MediaOk m → HeldOk (a .held) → unitsNeed m (noted a m) (readable m) ≤ mostMfuArea
+pub gives-fit : (pass : Bool) (a : Asset) (m : MpuPacket) → MediaOk m → HeldOk (a .held) → unitsNeed m (afterHeaders a m) (readable m) ≤ mostMfuArea
     → AllFit 0 (mediaGives pass a m)
-unfolding mediaGives passes noted
+unfolding mediaGives passes afterHeaders
 gives-fit pass a m o h n =
-    let us = unitsGive m (noted a m) (readable m) in
-    let w = units-within m (readable m) (noted a m) in
-    let gone : HeldOk (noted a m .held) = cond-elim HeldOk (gap (a .number) (m .number)) (λ e. tt) (λ e. h) in
-    let k = units-ok m (readable m) (noted a m) (o .mpu) gone (o .pieces) in
+    let us = deliveredBy m (afterHeaders a m) (readable m) in
+    let w = units-within m (readable m) (afterHeaders a m) in
+    let gone : HeldOk (afterHeaders a m .held) = cond-elim HeldOk (gap (a .number) (m .number)) (λ e. tt) (λ e. h) in
+    let k = units-ok m (readable m) (afterHeaders a m) (o .mpu) gone (o .pieces) in
     cond-elim (λ (rs : List Rec). AllFit 0 (rs ++ tagged (m .id) us)) (pass && (m .scrambled && isSome (m .header)))
     (λ e. (
       row-fits
@@ -428,7 +428,7 @@ module _ (s : Bytes) (o : Octets s) (timed aggregated : Bool) where
       let h = grows-within dataBytes (length s) (λ p. item (unitStep s timed aggregated p)) none refl (λ p. unit-covers p (unitStep s timed aggregated p) (unit-inside s timed aggregated p)) (suc (length s)) 8 in
       omega (arith, h)
 
-pieces-ok : (h : PayloadHeader) (q : Bytes) → Octets q → (us : List DataUnit) → AllUnits (some us) → AllPieces (map (pieceOf h q) us)
+pieces-ok : (h : PayloadHeader) (q : Bytes) → Octets q → (us : List DataUnit) → AllUnits (some us) → AllPieces (map (payloadUnit h q) us)
 pieces-ok h q o [] a = tt
 pieces-ok h q o (u ∷ us) a = (
   record {
@@ -439,19 +439,19 @@ pieces-ok h q o (u ∷ us) a = (
   pieces-ok h q o us (a .1),
 )
 
-pieces-long : (h : PayloadHeader) (q : Bytes) (us : List DataUnit) → unitBytes (map (pieceOf h q) us) ≤ dataBytes (some us)
+pieces-long : (h : PayloadHeader) (q : Bytes) (us : List DataUnit) → unitBytes (map (payloadUnit h q) us) ≤ dataBytes (some us)
 pieces-long h q [] = omega arith
 pieces-long h q (u ∷ us) = omega (arith, pieces-long h q us, length-take (u .«data» .length) (drop (u .«data» .start) q))
 
 -- the units that are taken
-record ClearOk (us : List Piece) : Type 0 where
+record ClearOk (us : List PayloadUnit) : Type 0 where
   pieces : AllPieces us
   long : unitBytes us < 65536
 
 no-units : ClearOk []
 no-units = record { pieces = tt; long = omega arith }
 
-clear-pieces : (h : PayloadHeader) (q : Bytes) → Octets q → (r : Option (List DataUnit)) → AllUnits r → dataBytes r < 65536 → ClearOk (clear false (piecesOf h q r))
+clear-pieces : (h : PayloadHeader) (q : Bytes) → Octets q → (r : Option (List DataUnit)) → AllUnits r → dataBytes r < 65536 → ClearOk (clear false (payloadUnits h q r))
 unfolding clear
 clear-pieces h q o none a l = no-units
 clear-pieces h q o (some us) a l = record { pieces = pieces-ok h q o us a; long = omega (arith, pieces-long h q us) }

@@ -13,27 +13,27 @@ use lib.ListN.{length, length-append}
 use borrow.Author.Tests.{ltb-true, leb-true}
 use Rattle.isdb_tlv.specs.Fields.{written, Fit}
 use Rattle.isdb_tlv.proofs.Fields.{length-written}
-use Rattle.isdb_mmt.specs.Packet.{Bytes, Media as MediaPacket, Ctl, Packet, ipError, ntp, nonMmtp, media, message, control, other}
+use Rattle.isdb_mmt.specs.Packet.{Bytes, MpuPacket, MessagePacket, Packet, ipError, ntp, nonMmtp, media, message, control, other}
 use Rattle.isdb_mmt.specs.Maps.{find, put, orElse}
 use Rattle.isdb_mmt.specs.Objects.{Asset}
-use Rattle.isdb_mmt.specs.Kept.{Store, Table, aSection, sectionOf, stored, storedAll}
+use Rattle.isdb_mmt.specs.Kept.{KeptTables, Table, aSection, sectionOf, stored, storedAll}
 use Rattle.isdb_mmt.specs.Model.{State, Control as ControlState, controlOf, pushed, timeAfter}
 use Rattle.isdb_mmt.specs.GivenTables.{controlTables}
-use Rattle.isdb_mmt.specs.Needs.{joinLength, needs}
+use Rattle.isdb_mmt.specs.Needs.{partialLength, needs}
 use Rattle.isdb_mmt.specs.Layout.{controlPlaces, controlSize, timePlace, countersPlace, stateSize, latestPlace, mediaPlaces}
-use Rattle.isdb_mmt.specs.Lent.{over, namesFrom, foundFrom, seatOf, indexed}
+use Rattle.isdb_mmt.specs.Lent.{over, namesFrom, foundFrom, placeForName, indexed}
 use Rattle.isdb_mmt.specs.Session.{Session, limitsOf, usedOf, latestOf, timeOf, timeFields, countersOf, countersFields, controlFields, mediaFields}
 use Rattle.isdb_mmt.specs.Check.{mediaIn, controlsIn, sectionsIn, lengthsOf, sound, Sound}
 use Rattle.isdb_mmt.specs.View.{given, assetEntry, controlEntry, sectionEntry, tableAt, viewBy, view}
 use Rattle.isdb_mmt.specs.Opening.{lent}
 use Rattle.isdb_mmt.specs.MediaPush.{placeFor, assetNext}
 use Rattle.isdb_mmt.specs.Placing.{tableLength, controlFor, countersFor}
-use Rattle.isdb_mmt.specs.Leaves.{usedFor, withTime, withCounters, countedIn, timeLeaves, controlLeaves, messageIn, controlSeat, messageAt, messageLeaves, packetLeaves}
+use Rattle.isdb_mmt.specs.Leaves.{usedFor, withTime, withCounters, countedIn, timeLeaves, controlLeaves, messageIn, controlPlaceFor, messageAt, messageLeaves, packetLeaves}
 use Rattle.isdb_mmt.specs.Push.{Input, packetOf, hasPlaces, hasAreas, hasOutputs, asksOf, asks, Fits, Taken}
 use Rattle.isdb_mmt.specs.declared.decoder.place.Found.{Found}
 use Rattle.isdb_mmt.specs.declared.decoder.place.Found.the-variants.{At, Nothing}
-use Rattle.isdb_mmt.specs.declared.decoder.place.Seat.{Seat}
-use Rattle.isdb_mmt.specs.declared.decoder.place.Seat.the-variants.{Old, New, Full}
+use Rattle.isdb_mmt.specs.declared.decoder.place.PlaceFor.{PlaceFor}
+use Rattle.isdb_mmt.specs.declared.decoder.place.PlaceFor.the-variants.{Own, Free, NoneFree}
 use Rattle.isdb_mmt.specs.declared.decoder.limits.Limits.{Limits}
 use Rattle.isdb_mmt.specs.declared.decoder.head.Latest.{Latest}
 use Rattle.isdb_mmt.specs.declared.decoder.head.Time.{Time}
@@ -43,7 +43,7 @@ use Rattle.isdb_mmt.proofs.Maps.{find-put}
 use Rattle.isdb_mmt.proofs.Stored.{apart, limits-own, used-own, latest-own, time-own, counters-own, counters-back, time-back}
 use Rattle.isdb_mmt.proofs.Sessions.{Sort, media as mediaSort, controls as controlSort, sections as sectionSort, inUse, named, place-apart, used-apart}
 use Rattle.isdb_mmt.proofs.Views.{keys, stands, absent}
-use Rattle.isdb_mmt.proofs.Seats.{seat-was-old, seat-was-new, seat-was-full, length-indexed}
+use Rattle.isdb_mmt.proofs.PlacesFor.{place-for-was-old, place-for-was-new, place-for-was-full, length-indexed}
 use Rattle.isdb_mmt.proofs.StateWrites.{TablesFit}
 use Rattle.isdb_mmt.proofs.MediaLeaves.{media-leaves}
 use Rattle.isdb_mmt.proofs.MessageLeaves.{Says, says, controlEntries, control-names, length-controls, control-says, message-old, message-new}
@@ -89,7 +89,7 @@ taken s x e =
 
 pub record ControlFits (l : Limits) (id : ℕ) (c : ControlState) : Type 0 where
   pub fields : Fit (controlFields (controlFor id c))
-  pub joins : joinLength (c .line .part) ≤ l .«message_area»
+  pub joins : partialLength (c .line .part) ≤ l .«message_area»
   pub mpt : tableLength (c .mpt) ≤ l .«table_area»
 
 pub record MessageFits (l : Limits) (id : ℕ) (n : State) : Type 0 where
@@ -160,15 +160,15 @@ module _ (s : Session) (ok : Sound (s .state) (s .others) (lengthsOf s)) where
               ∙ sym ek;
           plt =
               ap (λ (x : Latest). given (x .plt) (tableAt l s′ (l .sections + l .«control_ids») (x .«plt_length»))) lt
-              ∙ ap (λ (x : Store). x .plt) (sym et);
+              ∙ ap (λ (x : KeptTables). x .plt) (sym et);
           tot =
               ap (λ (x : Latest). given (x .tot) (tableAt l s′ (l .sections + l .«control_ids» + 1) (x .«tot_length»))) lt
-              ∙ ap (λ (x : Store). x .tot) (sym et);
+              ∙ ap (λ (x : KeptTables). x .tot) (sym et);
           kept =
               ap (indexed (sectionEntry l s′) 0)
               (sym (named .sections b′) ∙ sort-same sectionSort (ok .there .sections) (omega arith) ∙ named .sections b ∙ es)
-              ∙ ap (λ (x : Store). x .kept) (sym et);
-          others = ap (λ (x : Store). x .others) (sym et);
+              ∙ ap (λ (x : KeptTables). x .kept) (sym et);
+          others = ap (λ (x : KeptTables). x .others) (sym et);
           time =
               ap (λ (x : Time). given (x .seen) (x .timestamp)) (apart timeOf timePlace 9 time-own countersPlace cs b (inl (omega arith)) within) ∙ ei;
           counters = counters-back (countersFor (n .counters)) b f long-b;
@@ -211,7 +211,7 @@ module _ (s : Session) (ok : Sound (s .state) (s .others) (lengthsOf s)) where
         (ap (λ (x : Time). given (x .seen) (x .timestamp)) tb ∙ sym ei))
 
   -- ---- a message packet
-  module _ (c : Ctl) (rows out : ℕ) (yes : Fits s rows out (message c)) (f : MessageFits l (c .id) (pushed (view s) (message c))) where
+  module _ (c : MessagePacket) (rows out : ℕ) (yes : Fits s rows out (message c)) (f : MessageFits l (c .id) (pushed (view s) (message c))) where
     abbrev n : State
     n = pushed (view s) (message c)
 
@@ -219,10 +219,10 @@ module _ (s : Session) (ok : Sound (s .state) (s .others) (lengthsOf s)) where
     unfolding pushed controlOf orElse view viewBy
     own = rw (find-put (c .id) _ (controlEntries s))
 
-    pub seat-free : controlSeat st (c .id) ≡ Full → ⊥
-    unfolding controlSeat needs
-    seat-free e =
-        let w = seat-was-full (namesFrom (usedOf st .«control_ids») controlSize controlPlaces st) (l .«control_ids») (c .id) e in
+    pub place-for-free : controlPlaceFor st (c .id) ≡ NoneFree → ⊥
+    unfolding controlPlaceFor needs
+    place-for-free e =
+        let w = place-for-was-full (namesFrom (usedOf st .«control_ids») controlSize controlPlaces st) (l .«control_ids») (c .id) e in
         let q : foundFrom 0 (keys (controlEntries s)) (c .id) ≡ Nothing = ap (λ (ns : List ℕ). foundFrom 0 ns (c .id)) (control-names s) ∙ w .0 in
         let a = absent (controlEntries s) (c .id) 0 q .1 (controlOf (c .id) n) in
         let k : length (n .controls) ≡ length (controlEntries s) + 1 =
@@ -231,36 +231,36 @@ module _ (s : Session) (ok : Sound (s .state) (s .others) (lengthsOf s)) where
         length-names controlSize (usedOf st .«control_ids») controlPlaces st in
         omega (arith, yes .controls, k, w .1, m, seen-controls s)
 
-    pub old-free : (i : ℕ) → controlSeat st (c .id) ≡ Old i → i < l .«control_ids»
-    unfolding controlSeat
+    pub old-free : (i : ℕ) → controlPlaceFor st (c .id) ≡ Own i → i < l .«control_ids»
+    unfolding controlPlaceFor
     old-free i e =
         let q : foundFrom 0 (keys (controlEntries s)) (c .id) ≡ At i =
         ap (λ (ns : List ℕ). foundFrom 0 ns (c .id)) (control-names s)
-        ∙ seat-was-old (namesFrom (usedOf st .«control_ids») controlSize controlPlaces st) (l .«control_ids») (c .id) i e in
+        ∙ place-for-was-old (namesFrom (usedOf st .«control_ids») controlSize controlPlaces st) (l .«control_ids») (c .id) i e in
         let w = stands (controlEntries s) (c .id) 0 i q in
         omega (arith, w .0, w .1 .within, length-indexed (controlEntry l s) 0 (controlsIn st), length-controls st, ok .controls)
 
-    pub new-free : (i : ℕ) → controlSeat st (c .id) ≡ New i → i < l .«control_ids»
-    unfolding controlSeat
-    new-free i e = seat-was-new (namesFrom (usedOf st .«control_ids») controlSize controlPlaces st) (l .«control_ids») (c .id) i e .1 .1
+    pub new-free : (i : ℕ) → controlPlaceFor st (c .id) ≡ Free i → i < l .«control_ids»
+    unfolding controlPlaceFor
+    new-free i e = place-for-was-new (namesFrom (usedOf st .«control_ids») controlSize controlPlaces st) (l .«control_ids») (c .id) i e .1 .1
 
-    at-seat : (x : Seat) → controlSeat st (c .id) ≡ x → view (messageAt s n (c .id) x) ≡ n
+    at-place-for : (x : PlaceFor) → controlPlaceFor st (c .id) ≡ x → view (messageAt s n (c .id) x) ≡ n
     unfolding pushed view viewBy messageIn
-    at-seat (Old i) e =
+    at-place-for (Own i) e =
         says s (messageIn s n (c .id) i) n
         (message-old s ok n (f .tables) (c .id) (controlOf (c .id) n) (f .place .fields) (f .place .joins) (f .place .mpt) refl refl own refl i (old-free i e) e)
-    at-seat (New i) e =
+    at-place-for (Free i) e =
         says s (messageIn s n (c .id) i) n
         (message-new s ok n (f .tables) (c .id) (controlOf (c .id) n) (f .place .fields) (f .place .joins) (f .place .mpt) refl refl own refl i (new-free i e) e)
-    at-seat Full e = absurd (seat-free e)
+    at-place-for NoneFree e = absurd (place-for-free e)
 
   -- ---- a control packet has no PLT and no TOT
-  pub sections-plt : (bs : List Bytes) (x : Store) → storedAll x (controlTables bs) .plt ≡ x .plt
+  pub sections-plt : (bs : List Bytes) (x : KeptTables) → storedAll x (controlTables bs) .plt ≡ x .plt
   unfolding storedAll stored
   sections-plt [] x = refl
   sections-plt (b ∷ bs) x = sections-plt bs (stored x (aSection (sectionOf b)))
 
-  pub sections-tot : (bs : List Bytes) (x : Store) → storedAll x (controlTables bs) .tot ≡ x .tot
+  pub sections-tot : (bs : List Bytes) (x : KeptTables) → storedAll x (controlTables bs) .tot ≡ x .tot
   unfolding storedAll stored
   sections-tot [] x = refl
   sections-tot (b ∷ bs) x = sections-tot bs (stored x (aSection (sectionOf b)))
@@ -274,7 +274,7 @@ module _ (s : Session) (ok : Sound (s .state) (s .others) (lengthsOf s)) where
   packet-leaves (ntp none) rows out h f = plain (pushed (view s) (ntp none)) f refl refl refl refl refl
   packet-leaves (ntp (some t)) rows out h f = timed t (f .1) (pushed (view s) (ntp (some t))) (f .0) refl refl refl refl refl
   packet-leaves (media m) rows out h f = media-leaves s ok m (h .media) (h .object) f
-  packet-leaves (message c) rows out h f = at-seat c rows out h f (controlSeat st (c .id)) refl
+  packet-leaves (message c) rows out h f = at-place-for c rows out h f (controlPlaceFor st (c .id)) refl
   packet-leaves (control bs) rows out h f =
       says s (controlLeaves s (pushed (view s) (control bs))) (pushed (view s) (control bs))
       (control-says s ok (pushed (view s) (control bs)) f refl refl refl (sym (sections-plt bs (view s .store))) (sym (sections-tot bs (view s .store))) refl)

@@ -12,15 +12,15 @@ use Rattle.isdb_tlv.specs.Bytes.{be}
 use Rattle.isdb_tlv.specs.Crc.{crcOf}
 use Rattle.isdb_tlv.specs.Fields.{Field, Fit}
 use Rattle.isdb_tlv.proofs.Guards.{cond-elim}
-use Rattle.isdb_mmt.specs.Packet.{Bytes, Piece, Media, readable}
+use Rattle.isdb_mmt.specs.Packet.{Bytes, PayloadUnit, MpuPacket, readable}
 use Rattle.isdb_mmt.specs.Maps.{find, orElse}
-use Rattle.isdb_mmt.specs.Objects.{Mfu, Asset, fresh, gap, didTo, did, unitsDo, noted, mpuIn, mpuNumber, mpuAfter, lastIn, rangeAfter, newMpu, assetAfter}
+use Rattle.isdb_mmt.specs.Objects.{Mfu, Asset, fresh, gap, afterUnit, unitEffect, afterUnits, afterHeaders, mpuIn, mpuNumber, mpuAfter, lastIn, rangeAfter, newMpu, assetAfter}
 use Rattle.isdb_mmt.specs.Section.{length12, longSectionOf}
-use Rattle.isdb_mmt.specs.Joins.{Join, idle}
-use Rattle.isdb_mmt.specs.Kept.{Section, sectionOf, keyOf, versionIn, Kept, otherVersion, keepIf, keep, Counters, Store, Table, emptyTable, mptTable, pltTable, totTable, cutSection, aSection, otherTable, longTable, tableById, tableRead, latest, mptAfter, mptAfterAll, stored, storedAll}
+use Rattle.isdb_mmt.specs.Joins.{PartialMessage, idle}
+use Rattle.isdb_mmt.specs.Kept.{Section, sectionOf, keyOf, versionIn, Kept, otherVersion, keepIf, keep, Counters, KeptTables, Table, emptyTable, mptTable, pltTable, totTable, truncatedSection, aSection, otherTable, longTable, tableById, tableRead, latest, mptAfter, mptAfterAll, stored, storedAll}
 use Rattle.isdb_mmt.specs.GivenTables.{controlTables}
 use Rattle.isdb_mmt.specs.Model.{Control, idleControl}
-use Rattle.isdb_mmt.specs.Needs.{heldLength, joinLength, unitsNeed, tableArea, tablesNeed}
+use Rattle.isdb_mmt.specs.Needs.{heldLength, partialLength, unitsNeed, tableArea, tablesNeed}
 use Rattle.isdb_mmt.specs.Layout.{mostMfuArea, mostMessageArea, mostTableArea}
 use Rattle.isdb_mmt.specs.Session.{numberFields, objectFields, statsFields, mediaFields, controlFields, sectionFields, latestFields, timeFields, countersFields}
 use Rattle.isdb_mmt.specs.Octets.{Octets}
@@ -67,11 +67,11 @@ record Numbers (a b : Asset) : Type 0 where
   mpu : a .mpu ≡ b .mpu
   range : a .range ≡ b .range
 
-units-numbers : (m : Media) (us : List Piece) (a : Asset) → Numbers (unitsDo m a us) a
-unfolding unitsDo didTo
+units-numbers : (m : MpuPacket) (us : List PayloadUnit) (a : Asset) → Numbers (afterUnits m a us) a
+unfolding afterUnits afterUnit
 units-numbers m [] a = record { number = refl; mpu = refl; range = refl }
 units-numbers m (u ∷ us) a =
-    let h = units-numbers m us (didTo a (did m a u)) in record { number = h .number; mpu = h .mpu; range = h .range }
+    let h = units-numbers m us (afterUnit a (unitEffect m a u)) in record { number = h .number; mpu = h .mpu; range = h .range }
 
 mpu-after : (o : Option ℕ) (h : Option PayloadHeader) → NumberOk o → mpuNumber h < 4294967296 → NumberOk (mpuAfter o (mpuIn h))
 unfolding mpuAfter
@@ -89,18 +89,18 @@ range-first false r h a b = a
 range-first true r none a b = a
 range-first true r (some h) a b = last-first r (h .«mpu_sequence_number») a b
 
-pub asset-after : (area n : ℕ) (a : Asset) (m : Media) → AssetOk area n a → MediaOk m → length (readable m) < 65536
-    → unitsNeed m (noted a m) (readable m) ≤ area → AssetOk area (n + mostAdded) (assetAfter a m)
-unfolding assetAfter noted
+pub asset-after : (area n : ℕ) (a : Asset) (m : MpuPacket) → AssetOk area n a → MediaOk m → length (readable m) < 65536
+    → unitsNeed m (afterHeaders a m) (readable m) ≤ area → AssetOk area (n + mostAdded) (assetAfter a m)
+unfolding assetAfter afterHeaders
 asset-after area n a m h o q k =
-    let s = units-numbers m (readable m) (noted a m) in
-    let gone : HeldOk (noted a m .held) = cond-elim HeldOk (gap (a .number) (m .number)) (λ e. tt) (λ e. h .held) in
+    let s = units-numbers m (readable m) (afterHeaders a m) in
+    let gone : HeldOk (afterHeaders a m .held) = cond-elim HeldOk (gap (a .number) (m .number)) (λ e. tt) (λ e. h .held) in
     record {
       counts = asset-fits area n a m (h .counts) q k;
       number = rw (s .number) (o .number);
       mpu = rw (s .mpu) (mpu-after (a .mpu) (m .header) (h .mpu) (o .mpu));
       first = rw (s .range) (range-first (newMpu (a .mpu) (mpuIn (m .header))) (a .range) (m .header) (h .first) (o .mpu));
-      held = held-after m (readable m) (noted a m) (o .mpu) gone (o .pieces);
+      held = held-after m (readable m) (afterHeaders a m) (o .mpu) gone (o .pieces);
     }
 
 zero-object : Fit (objectFields noObject)
@@ -178,20 +178,20 @@ pub record KeptOk (area k : ℕ) (x : Kept) : Type 0 where
 pub section-place : (area k : ℕ) (x : Kept) → area ≤ mostTableArea → KeptOk area k x → Fit (sectionFields (sectionFor k x))
 section-place area k x w h = (h .key, (h .version, (omega (arith, h .fits), tt)))
 
-pub record StoreOk (area n : ℕ) (s : Store) : Type 0 where
+pub record StoreOk (area n : ℕ) (s : KeptTables) : Type 0 where
   pub plt : TableOk area (s .plt)
   pub tot : TableOk area (s .tot)
   pub kept : Every (KeptOk area) (s .kept)
   pub others : (i : ℕ) → getD (s .others) i 0 ≤ n
 
-pub store-ok-more : (area n m : ℕ) (s : Store) → n ≤ m → StoreOk area n s → StoreOk area m s
+pub store-ok-more : (area n m : ℕ) (s : KeptTables) → n ≤ m → StoreOk area n s → StoreOk area m s
 store-ok-more area n m s l h = record { plt = h .plt; tot = h .tot; kept = h .kept; others = λ i. omega (arith, h .others i) }
 
 table-small : (area : ℕ) → area ≤ mostTableArea → (o : Option Bytes) → TableOk area o → tableLength o < 4294967296
 table-small area w none h = omega arith
 table-small area w (some b) h = omega (arith, h .0)
 
-pub latest-place : (area n : ℕ) (s : Store) → area ≤ mostTableArea → StoreOk area n s → Fit (latestFields (latestFor s))
+pub latest-place : (area n : ℕ) (s : KeptTables) → area ≤ mostTableArea → StoreOk area n s → Fit (latestFields (latestFor s))
 unfolding latestFor
 latest-place area n s w h = (
   flag-small (latestFor s .plt),
@@ -209,7 +209,7 @@ ReadOk emptyTable = Unit {0}
 ReadOk (mptTable ok n b) = Octets b
 ReadOk (pltTable ok b) = Octets b
 ReadOk (totTable ok c n b) = Octets b
-ReadOk cutSection = Unit {0}
+ReadOk truncatedSection = Unit {0}
 ReadOk (aSection x) = SectionOk x
 ReadOk (otherTable id) = Unit {0}
 
@@ -273,7 +273,7 @@ kept-ok area x m f q true true false l = f
 kept-ok area x m f q true false b l = f
 kept-ok area x m f q false n b l = f
 
-store-ok : (area n : ℕ) (s : Store) (t : Table) → StoreOk area n s → ReadOk t → tableArea s t ≤ area → StoreOk area (n + 1) (stored s t)
+store-ok : (area n : ℕ) (s : KeptTables) (t : Table) → StoreOk area n s → ReadOk t → tableArea s t ≤ area → StoreOk area (n + 1) (stored s t)
 unfolding stored tableArea keep
 store-ok area n s emptyTable h q l = store-ok-more area n (n + 1) s (omega arith) h
 store-ok area n s (mptTable ok k b) h q l = store-ok-more area n (n + 1) s (omega arith) h
@@ -281,18 +281,18 @@ store-ok area n s (pltTable ok b) h q l =
     record { plt = latest-ok area ok (s .plt) b (h .plt) q l; tot = h .tot; kept = h .kept; others = λ i. omega (arith, h .others i) }
 store-ok area n s (totTable ok c k b) h q l =
     record { plt = h .plt; tot = latest-ok area ok (s .tot) b (h .tot) q l; kept = h .kept; others = λ i. omega (arith, h .others i) }
-store-ok area n s cutSection h q l = store-ok-more area n (n + 1) s (omega arith) h
+store-ok area n s truncatedSection h q l = store-ok-more area n (n + 1) s (omega arith) h
 store-ok area n s (aSection x) h q l =
     record {
       plt = h .plt;
       tot = h .tot;
-      kept = kept-ok area x (s .kept) (h .kept) q (x .headOk) (otherVersion (find (x .key) (s .kept)) (x .version)) (x .bodyOk) l;
+      kept = kept-ok area x (s .kept) (h .kept) q (x .headerAndCrcGood) (otherVersion (find (x .key) (s .kept)) (x .version)) (x .bodyOk) l;
       others = λ i. omega (arith, h .others i);
     }
 store-ok area n s (otherTable id) h q l =
     record { plt = h .plt; tot = h .tot; kept = h .kept; others = counted-one (s .others) id n (h .others) }
 
-pub stores-ok : (area : ℕ) (ts : List Table) (n : ℕ) (s : Store) → StoreOk area n s → AllRead ts → tablesNeed s ts ≤ area
+pub stores-ok : (area : ℕ) (ts : List Table) (n : ℕ) (s : KeptTables) → StoreOk area n s → AllRead ts → tablesNeed s ts ≤ area
     → StoreOk area (n + length ts) (storedAll s ts)
 unfolding storedAll tablesNeed
 stores-ok area [] n s h q l = store-ok-more area n (n + 0) s (omega arith) h
@@ -301,30 +301,30 @@ stores-ok area (t ∷ ts) n s h q l =
     (stores-ok area ts (n + 1) (stored s t) (store-ok area n s t h (q .0) (omega arith)) (q .1) (omega arith))
 
 -- the counts of table ids alone
-pub others-counted : (ts : List Table) (n : ℕ) (s : Store) → ((i : ℕ) → getD (s .others) i 0 ≤ n) → (i : ℕ) → getD (storedAll s ts .others) i 0 ≤ n + length ts
+pub others-counted : (ts : List Table) (n : ℕ) (s : KeptTables) → ((i : ℕ) → getD (s .others) i 0 ≤ n) → (i : ℕ) → getD (storedAll s ts .others) i 0 ≤ n + length ts
 unfolding storedAll stored
 others-counted [] n s h i = omega (arith, h i)
 others-counted (emptyTable ∷ ts) n s h i = omega (arith, others-counted ts n (stored s emptyTable) h i)
 others-counted (mptTable ok k b ∷ ts) n s h i = omega (arith, others-counted ts n (stored s (mptTable ok k b)) h i)
 others-counted (pltTable ok b ∷ ts) n s h i = omega (arith, others-counted ts n (stored s (pltTable ok b)) h i)
 others-counted (totTable ok c k b ∷ ts) n s h i = omega (arith, others-counted ts n (stored s (totTable ok c k b)) h i)
-others-counted (cutSection ∷ ts) n s h i = omega (arith, others-counted ts n (stored s cutSection) h i)
+others-counted (truncatedSection ∷ ts) n s h i = omega (arith, others-counted ts n (stored s truncatedSection) h i)
 others-counted (aSection x ∷ ts) n s h i = omega (arith, others-counted ts n (stored s (aSection x)) h i)
 others-counted (otherTable id ∷ ts) n s h i =
     omega (arith, others-counted ts (n + 1) (stored s (otherTable id)) (counted-one (s .others) id n h) i)
 
 -- the MPT of a control id
-mpt-ok : (area : ℕ) (m : Option Bytes) (s : Store) (t : Table) → TableOk area m → ReadOk t → tableArea s t ≤ area → TableOk area (mptAfter m t)
+mpt-ok : (area : ℕ) (m : Option Bytes) (s : KeptTables) (t : Table) → TableOk area m → ReadOk t → tableArea s t ≤ area → TableOk area (mptAfter m t)
 unfolding mptAfter tableArea
 mpt-ok area m s emptyTable h q l = h
 mpt-ok area m s (mptTable ok k b) h q l = latest-ok area ok m b h q l
 mpt-ok area m s (pltTable ok b) h q l = h
 mpt-ok area m s (totTable ok c k b) h q l = h
-mpt-ok area m s cutSection h q l = h
+mpt-ok area m s truncatedSection h q l = h
 mpt-ok area m s (aSection x) h q l = h
 mpt-ok area m s (otherTable id) h q l = h
 
-pub mpts-ok : (area : ℕ) (ts : List Table) (m : Option Bytes) (s : Store) → TableOk area m → AllRead ts → tablesNeed s ts ≤ area
+pub mpts-ok : (area : ℕ) (ts : List Table) (m : Option Bytes) (s : KeptTables) → TableOk area m → AllRead ts → tablesNeed s ts ≤ area
     → TableOk area (mptAfterAll m ts)
 unfolding mptAfterAll tablesNeed
 mpts-ok area [] m s h q l = h
@@ -342,7 +342,7 @@ pub idle-ok : (message table : ℕ) → ControlOk message table idleControl
 unfolding idleControl idle
 idle-ok message table = record { number = tt; joins = tt; mpt = tt }
 
-join-small : (area : ℕ) → area ≤ mostMessageArea → (o : Option Join) → JoinFits area o → joinLength o < 4294967296
+join-small : (area : ℕ) → area ≤ mostMessageArea → (o : Option PartialMessage) → JoinFits area o → partialLength o < 4294967296
 join-small area w none h = omega arith
 join-small area w (some j) h = omega (arith, h .0)
 

@@ -9,10 +9,10 @@ use lib.Dec.{eqb}
 use lib.ListN.{length}
 use borrow.Author.Tests.{eqb-true}
 use Rattle.isdb_tlv.proofs.Guards.{either}
-use Rattle.isdb_mmt.specs.Packet.{Bytes, Piece, Media as MediaPacket, headerIn, readable}
+use Rattle.isdb_mmt.specs.Packet.{Bytes, PayloadUnit, MpuPacket, headerIn, readable}
 use Rattle.isdb_mmt.specs.Maps.{one, isSome, orElse}
 use Rattle.isdb_mmt.specs.Mpu.{follows}
-use Rattle.isdb_mmt.specs.Objects.{Mfu, Asset, didTo, did, unitsDo, gap, lostBy, mpuIn, newMpu, jumped, mpuAfter, rangeAfter, completes, malformedPayload, noted, assetAfter}
+use Rattle.isdb_mmt.specs.Objects.{Mfu, Asset, afterUnit, unitEffect, afterUnits, gap, lostBy, mpuIn, newMpu, jumped, mpuAfter, rangeAfter, completes, malformedPayload, afterHeaders, assetAfter}
 use Rattle.isdb_mmt.specs.View.{given, headerGiven, itemGiven, mfuOf, assetOfPlace}
 use Rattle.isdb_mmt.specs.Records.{hasHeader, headerOr, hasItem, itemOr, objectFor}
 use Rattle.isdb_mmt.specs.MediaPush.{noObject, heldFor, firstIn, placeFor}
@@ -54,11 +54,11 @@ withUnits a h mfus dropped =
       malformed = a .malformed;
     }
 
-pub units-keep : (m : MediaPacket) (us : List Piece) (a : Asset)
-    → unitsDo m a us ≡ withUnits a (unitsDo m a us .held) (unitsDo m a us .mfus) (unitsDo m a us .dropped)
-unfolding unitsDo didTo
+pub units-keep : (m : MpuPacket) (us : List PayloadUnit) (a : Asset)
+    → afterUnits m a us ≡ withUnits a (afterUnits m a us .held) (afterUnits m a us .mfus) (afterUnits m a us .dropped)
+unfolding afterUnits afterUnit
 units-keep m [] a = refl
-units-keep m (u ∷ us) a = units-keep m us (didTo a (did m a u))
+units-keep m (u ∷ us) a = units-keep m us (afterUnit a (unitEffect m a u))
 
 -- ---- the held object
 
@@ -105,7 +105,7 @@ tidied-is o b e =
     }
 
 -- what the units start from
-module _ (p : Media) (b : Bytes) (m : MediaPacket) (long : p .held ≡ true → length b ≡ p .object .length) where
+module _ (p : Media) (b : Bytes) (m : MpuPacket) (long : p .held ≡ true → length b ≡ p .object .length) where
   starts-by : (x g : Bool) (o : Mfu) → (x ≡ true → tidied (p .object) ≡ objectFor o)
       → (cond (not x) (begun false noObject 0) (cond g (begun false noObject 1) (begun true (tidied (p .object)) 0)) .held ≡ isSome (cond g none (given x o)))
       × ((cond (not x) (begun false noObject 0) (cond g (begun false noObject 1) (begun true (tidied (p .object)) 0)) .object ≡ heldFor (cond g none (given x o)))
@@ -119,22 +119,22 @@ module _ (p : Media) (b : Bytes) (m : MediaPacket) (long : p .held ≡ true → 
   abbrev asset : Asset
   asset = assetOfPlace p b
 
-  starts : (startOf p (m .number) .held ≡ isSome (noted asset m .held))
-      × ((startOf p (m .number) .object ≡ heldFor (noted asset m .held))
+  starts : (startOf p (m .number) .held ≡ isSome (afterHeaders asset m .held))
+      × ((startOf p (m .number) .object ≡ heldFor (afterHeaders asset m .held))
       × (startOf p (m .number) .drops ≡ one (gap (asset .number) (m .number) && isSome (asset .held))))
-  unfolding startOf noted assetOfPlace
+  unfolding startOf afterHeaders assetOfPlace
   starts =
       rw (← gap-is p b (m .number))
       (starts-by (p .held) (gapIn p (m .number)) (mfuOf (p .object) b) (λ t. tidied-is (p .object) b (long t)))
 
-  pub start-held : startOf p (m .number) .held ≡ isSome (noted asset m .held)
+  pub start-held : startOf p (m .number) .held ≡ isSome (afterHeaders asset m .held)
   start-held = starts .0
 
-  pub start-object : startOf p (m .number) .object ≡ heldFor (noted asset m .held)
+  pub start-object : startOf p (m .number) .object ≡ heldFor (afterHeaders asset m .held)
   start-object = starts .1 .0
 
-  start-drops : startOf p (m .number) .drops + asset .dropped ≡ noted asset m .dropped
-  unfolding noted
+  start-drops : startOf p (m .number) .drops + asset .dropped ≡ afterHeaders asset m .dropped
+  unfolding afterHeaders
   start-drops = rw (starts .1 .1) (omega arith)
 
   pub start-zero : (startOf p (m .number) .records ≡ 0) × ((startOf p (m .number) .bytes ≡ 0) × (startOf p (m .number) .longest ≡ 0))
@@ -200,21 +200,21 @@ dropped-of : (p : Media) (b : Bytes) → assetOfPlace p b .dropped ≡ p .stats 
 unfolding assetOfPlace
 dropped-of p b = refl
 
-after-dropped : (a : Asset) (m : MediaPacket) → assetAfter a m .dropped ≡ unitsDo m (noted a m) (readable m) .dropped
+after-dropped : (a : Asset) (m : MpuPacket) → assetAfter a m .dropped ≡ afterUnits m (afterHeaders a m) (readable m) .dropped
 unfolding assetAfter
 after-dropped a m = refl
 
 -- ---- the place
 
-module _ (id : ℕ) (p : Media) (b : Bytes) (m : MediaPacket) (long : p .held ≡ true → length b ≡ p .object .length)
+module _ (id : ℕ) (p : Media) (b : Bytes) (m : MpuPacket) (long : p .held ≡ true → length b ≡ p .object .length)
     (h : MaybeHeader) (eh : m .header ≡ headerIn h) where
   abbrev before : Asset
   before = assetOfPlace p b
 
   pub tied-after : Tied (assetAfter before m)
-  unfolding assetAfter noted
+  unfolding assetAfter afterHeaders
   tied-after =
-      let k = units-keep m (readable m) (noted before m) in
+      let k = units-keep m (readable m) (afterHeaders before m) in
       subst (λ (x : Asset). Tied x) (sym k)
       (subst
       (λ (o : Option PayloadHeader).
@@ -223,22 +223,22 @@ module _ (id : ℕ) (p : Media) (b : Bytes) (m : MediaPacket) (long : p .held �
       (sym eh) (tied-is p b h))
 
   module _ (bad : Bool) (eb : bad ≡ malformedPayload m) (t : Survey)
-      (w : Told m (startOf p (m .number)) (noted before m) t (readable m)) where
+      (w : Told m (startOf p (m .number)) (afterHeaders before m) t (readable m)) where
     mfus-after : p .stats .mfus + t .records ≡ assetAfter before m .mfus
-    unfolding assetAfter noted assetOfPlace
+    unfolding assetAfter afterHeaders assetOfPlace
     mfus-after = let z = start-zero p b m long .0 in omega (arith, w .mfus, z)
 
     dropped-after : p .stats .«mfus_dropped» + t .drops ≡ assetAfter before m .dropped
     dropped-after =
         let d = start-drops p b m long in
         let e : before .dropped ≡ p .stats .«mfus_dropped» = dropped-of p b in
-        let x : assetAfter before m .dropped ≡ unitsDo m (noted before m) (readable m) .dropped = after-dropped before m in
+        let x : assetAfter before m .dropped ≡ afterUnits m (afterHeaders before m) (readable m) .dropped = after-dropped before m in
         omega (arith, w .drops, d, e, x)
 
     pub place-told : placeAfter id p (m .number) (m .scrambled) h bad t ≡ placeFor id (assetAfter before m)
-    unfolding placeAfter statsAfter summed addsOf placeFor assetAfter noted assetOfPlace isSome orElse
+    unfolding placeAfter statsAfter summed addsOf placeFor assetAfter afterHeaders assetOfPlace isSome orElse
     place-told =
-        let k = units-keep m (readable m) (noted before m) in
+        let k = units-keep m (readable m) (afterHeaders before m) in
         let e0 : seenMpu p h ≡ isSome (mpuAfter (before .mpu) (mpuIn (m .header))) =
         seen-is p b h ∙ ap (λ (o : Option PayloadHeader). isSome (mpuAfter (before .mpu) (mpuIn o))) (sym eh) in
         let e1 : lastMpu p h ≡ orElse 0 (mpuAfter (before .mpu) (mpuIn (m .header))) =

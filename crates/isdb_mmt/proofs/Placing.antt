@@ -15,7 +15,7 @@ use Rattle.isdb_mmt.specs.Part.{partOf}
 use Rattle.isdb_mmt.specs.Lent.{part}
 use Rattle.isdb_mmt.specs.Packet.{Bytes}
 use Rattle.isdb_mmt.specs.Message.{contentOf, tablesFrom}
-use Rattle.isdb_mmt.specs.Joins.{Join, Cut, messagesOf, tablesIn, tablesOf, tablesOfAll, partsOf, cutOf}
+use Rattle.isdb_mmt.specs.Joins.{PartialMessage, TablesFound, messagesOf, tablesIn, tablesOf, tablesOfAll, partsOf, cutOf}
 use Rattle.isdb_mmt.specs.declared.part.Part.{Part}
 use Rattle.isdb_mmt.specs.declared.message.Content.{Content}
 use Rattle.isdb_mmt.specs.declared.message.Content.the-variants.{Malformed as badMessage, Nothing, Table as oneTable, Tables}
@@ -50,7 +50,7 @@ bytes-all b (p ∷ ps) =
     ∙ ap (λ (l : List Bytes). l ++ bytesOf (placedOfAll b ps)) (bytes-of (p .start) (partOf b p))
     ∙ ap (λ (l : List Bytes). tablesOf (partOf b p) .tables ++ l) (bytes-all b ps)
 
-pub bytes-cut : (j : Join) → bytesOf (placedCut j) ≡ cutOf j .tables
+pub bytes-cut : (j : PartialMessage) → bytesOf (placedCut j) ≡ cutOf j .tables
 unfolding placedCut cutOf messagesOf
 bytes-cut j =
     either (j .aggregated) (λ t. rw t (bytes-all (j .bytes) (messagesOf j .found))) (λ f. rw f (bytes-of 0 (j .bytes)))
@@ -109,7 +109,7 @@ all-stand m (p ∷ ps) =
     all-append m (placedOf (p .start) (partOf m p)) (placedOfAll m ps)
     (of-stand m (p .start) (partOf m p) (rw zero-add at (part-stands m 0 m p (whole-stands m)))) (all-stand m ps)
 
-pub cut-stands : (j : Join) → AllStand (j .bytes) (placedCut j)
+pub cut-stands : (j : PartialMessage) → AllStand (j .bytes) (placedCut j)
 unfolding placedCut
 cut-stands j = go (j .aggregated)
   where

@@ -9,7 +9,7 @@ use lib.ListN.{length}
 use borrow.Author.Tests.{le-leb, lt-leb, lt-ltb, le-ltb, ltb-true, ltb-false}
 use Rattle.isdb_tlv.specs.Guards.{_<?_}
 use Rattle.isdb_tlv.proofs.Guards.{either}
-use Rattle.isdb_mmt.specs.Packet.{Bytes, Media, Packet, ipError, ntp, nonMmtp, media, message, control, other}
+use Rattle.isdb_mmt.specs.Packet.{Bytes, MpuPacket, Packet, ipError, ntp, nonMmtp, media, message, control, other}
 use Rattle.isdb_mmt.specs.Objects.{Rec}
 use Rattle.isdb_mmt.specs.Model.{pushed, gives}
 use Rattle.isdb_mmt.specs.Needs.{Needs, needs, dataOf}
@@ -101,7 +101,7 @@ four true true false o = refl
 four true true true false = refl
 four true true true true = refl
 
-module _ (s : Session) (ok : Sound (s .state) (s .others) (lengthsOf s)) (m : Media) where
+module _ (s : Session) (ok : Sound (s .state) (s .others) (lengthsOf s)) (m : MpuPacket) where
   abbrev l : Limits
   l = limitsOf (s .state)
 

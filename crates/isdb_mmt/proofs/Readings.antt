@@ -14,7 +14,7 @@ use Rattle.isdb_tlv.proofs.Numbers.{be-lt}
 use Rattle.isdb_mmt.specs.Packet.{Bytes}
 use Rattle.isdb_mmt.specs.Maps.{find}
 use Rattle.isdb_mmt.specs.Objects.{Mfu}
-use Rattle.isdb_mmt.specs.Joins.{Join}
+use Rattle.isdb_mmt.specs.Joins.{PartialMessage}
 use Rattle.isdb_mmt.specs.Lent.{part, placesFrom, namesFrom, among, foundFrom, indexed}
 use Rattle.isdb_mmt.specs.Octets.{Octets}
 use Rattle.isdb_mmt.specs.Layout.{mediaPlaces, mediaSize, controlPlaces, controlSize, sectionPlaces, sectionSize}
@@ -40,7 +40,7 @@ use Rattle.isdb_mmt.proofs.Lent.{names-of, length-names}
 use Rattle.isdb_mmt.proofs.Names.{clash}
 use Rattle.isdb_mmt.proofs.Views.{keys, keys-indexed}
 use Rattle.isdb_mmt.proofs.Sessions.{named}
-use Rattle.isdb_mmt.proofs.Seats.{entries, entry-names}
+use Rattle.isdb_mmt.proofs.PlacesFor.{entries, entry-names}
 use Rattle.isdb_mmt.proofs.MessageLeaves.{controlEntries, control-names}
 use Rattle.isdb_mmt.proofs.LinePlaces.{in-buffer}
 use Rattle.isdb_mmt.proofs.Areas.{length-part}
@@ -76,7 +76,7 @@ object-told : (b : Bool) (n : ℕ) (h : Mfu) → (b ≡ true → length (h .byte
 object-told true n h e = rw (e refl)
 object-told false n h e = refl
 
-join-told : (b : Bool) (n : ℕ) (j : Join) → (b ≡ true → length (j .bytes) ≡ n) → u32If b n ≡ joinedLength (given b j)
+join-told : (b : Bool) (n : ℕ) (j : PartialMessage) → (b ≡ true → length (j .bytes) ≡ n) → u32If b n ≡ joinedLength (given b j)
 join-told true n j e = rw (e refl)
 join-told false n j e = refl
 

@@ -10,15 +10,15 @@ use lib.Dec.{leb}
 use borrow.Author.Tests.{leb-true}
 use Rattle.isdb_tlv.proofs.Guards.{cond-elim}
 use Rattle.isdb_mmt.specs.Part.{partOf}
-use Rattle.isdb_mmt.specs.Packet.{Bytes, Media, Ctl, Packet, ipError, ntp, nonMmtp, media, message, control, other, readable}
+use Rattle.isdb_mmt.specs.Packet.{Bytes, MpuPacket, MessagePacket, Packet, ipError, ntp, nonMmtp, media, message, control, other, readable}
 use Rattle.isdb_mmt.specs.Maps.{one}
-use Rattle.isdb_mmt.specs.Message.{tablesFrom, piecesFrom, contentOf}
+use Rattle.isdb_mmt.specs.Message.{tablesFrom, aggregatedFrom, contentOf}
 use Rattle.isdb_mmt.specs.Objects.{fresh, gap}
-use Rattle.isdb_mmt.specs.Joins.{Join, Line, idle, mostMessage, short, flagsOf, partBefore, joinedOn, partAfter, wholeOf, lineAfter, lineGives, orphan, oversize, Cut, partsOf, tablesIn, tablesOf, tablesOfAll, messagesOf, cutOf, cutOfAll}
+use Rattle.isdb_mmt.specs.Joins.{PartialMessage, Reassembly, idle, mostMessage, short, flagsOf, partBefore, joinedOn, partAfter, wholeOf, reassemblyAfter, messageCompleted, orphan, oversize, TablesFound, partsOf, tablesIn, tablesOf, tablesOfAll, messagesOf, cutOf, cutOfAll}
 use Rattle.isdb_mmt.specs.Kept.{Counters, zeros, tableRead}
 use Rattle.isdb_mmt.specs.GivenTables.{tablesGiven, controlTables}
-use Rattle.isdb_mmt.specs.Model.{Control, idleControl, State, opened, assetOf, controlOf, lineOf, packetCounted, messageCounted, lineCounted, pushed}
-use Rattle.isdb_mmt.specs.Needs.{needs, joinLength, fragmentArea, lineNeeds}
+use Rattle.isdb_mmt.specs.Model.{Control, idleControl, State, opened, assetOf, controlOf, reassemblyOf, packetCounted, messageCounted, reassemblyCounted, pushed}
+use Rattle.isdb_mmt.specs.Needs.{needs, partialLength, fragmentArea, reassemblyNeeds}
 use Rattle.isdb_mmt.specs.Lent.{distinct}
 use Rattle.isdb_mmt.specs.Octets.{Octets}
 use Rattle.isdb_mmt.specs.declared.part.Part.{Part}
@@ -58,25 +58,25 @@ unfolding tablesOfAll tablesOf
 octets-all [] a = tt
 octets-all (m ∷ ms) a = all-append (tablesOf m .tables) (tablesOfAll ms .tables) (octets-in m (a .0) (contentOf m)) (octets-all ms (a .1))
 
-octets-cut : (j : Join) → Octets (j .bytes) → AllOctets (cutOf j .tables)
+octets-cut : (j : PartialMessage) → Octets (j .bytes) → AllOctets (cutOf j .tables)
 unfolding cutOf messagesOf tablesOf
 octets-cut j o =
-    cond-elim (λ (c : Cut). AllOctets (c .tables)) (j .aggregated)
-    (λ e. octets-all (partsOf (j .bytes) (piecesFrom (j .bytes) (j .long) 0 .found)) (octets-parts (j .bytes) o (piecesFrom (j .bytes) (j .long) 0 .found)))
+    cond-elim (λ (c : TablesFound). AllOctets (c .tables)) (j .aggregated)
+    (λ e. octets-all (partsOf (j .bytes) (aggregatedFrom (j .bytes) (j .long) 0 .found)) (octets-parts (j .bytes) o (aggregatedFrom (j .bytes) (j .long) 0 .found)))
     (λ e. octets-in (j .bytes) o (contentOf (j .bytes)))
 
 -- ---- a message that is being joined
 
-abbrev pub JoinFits : ℕ → Option Join → Type 0
+abbrev pub JoinFits : ℕ → Option PartialMessage → Type 0
 JoinFits area none = Unit {0}
 JoinFits area (some j) = (length (j .bytes) ≤ area) × Octets (j .bytes)
 
-before-fits : (area : ℕ) (l : Line) (c : Ctl) → JoinFits area (l .part) → JoinFits area (partBefore l c)
+before-fits : (area : ℕ) (l : Reassembly) (c : MessagePacket) → JoinFits area (l .part) → JoinFits area (partBefore l c)
 unfolding partBefore
 before-fits area l c h = cond-elim (JoinFits area) (gap (l .number) (c .number)) (λ e. tt) (λ e. h)
 
 -- what is joined has at most 1,048,576 bytes
-on-fits : (area : ℕ) (o : Option Join) (d : Bytes) → JoinFits area o → Octets d → JoinFits mostMessage (joinedOn o d)
+on-fits : (area : ℕ) (o : Option PartialMessage) (d : Bytes) → JoinFits area o → Octets d → JoinFits mostMessage (joinedOn o d)
 unfolding joinedOn
 on-fits area none d h q = tt
 on-fits area (some j) d h q =
@@ -84,11 +84,11 @@ on-fits area (some j) d h q =
     (λ e. (omega (arith, leb-true (length (j .bytes) + length d) mostMessage e, length-append (j .bytes) d), octets-append (j .bytes) d (h .1) q))
     (λ e. tt)
 
-join-within : (area big : ℕ) (o : Option Join) → JoinFits big o → joinLength o ≤ area → JoinFits area o
+join-within : (area big : ℕ) (o : Option PartialMessage) → JoinFits big o → partialLength o ≤ area → JoinFits area o
 join-within area big none h l = tt
 join-within area big (some j) h l = (l, h .1)
 
-after-fits : (area : ℕ) (d : Division) (j : Option Join) (c : Ctl) → JoinFits area j → Octets (c .payload)
+after-fits : (area : ℕ) (d : Division) (j : Option PartialMessage) (c : MessagePacket) → JoinFits area j → Octets (c .payload)
     → fragmentArea d j (drop 2 (c .payload)) ≤ area → JoinFits area (partAfter d j c)
 unfolding partAfter
 after-fits area Undivided j c h q l = tt
@@ -97,8 +97,8 @@ after-fits area middlePart j c h q l =
     join-within area mostMessage (joinedOn j (drop 2 (c .payload))) (on-fits area j (drop 2 (c .payload)) h (octets-drop 2 (c .payload) q)) l
 after-fits area lastPart j c h q l = tt
 
-pub line-fits : (area : ℕ) (l : Line) (c : Ctl) → JoinFits area (l .part) → Octets (c .payload) → lineNeeds l c ≤ area → JoinFits area (lineAfter l c .part)
-unfolding lineAfter lineNeeds
+pub line-fits : (area : ℕ) (l : Reassembly) (c : MessagePacket) → JoinFits area (l .part) → Octets (c .payload) → reassemblyNeeds l c ≤ area → JoinFits area (reassemblyAfter l c .part)
+unfolding reassemblyAfter reassemblyNeeds
 line-fits area l c h q = go (short c)
   where
     go : (b : Bool) → cond b 0 (fragmentArea (flagsOf c .division) (partBefore l c) (drop 2 (c .payload))) ≤ area
@@ -106,7 +106,7 @@ line-fits area l c h q = go (short c)
     go true n = h
     go false n = after-fits area (flagsOf c .division) (partBefore l c) c (before-fits area l c h) q n
 
-whole-fits : (area : ℕ) (d : Division) (j : Option Join) (c : Ctl) → JoinFits area j → length (c .payload) < 65536 → Octets (c .payload)
+whole-fits : (area : ℕ) (d : Division) (j : Option PartialMessage) (c : MessagePacket) → JoinFits area j → length (c .payload) < 65536 → Octets (c .payload)
     → JoinFits mostMessage (wholeOf d j c)
 unfolding wholeOf
 whole-fits area Undivided j c h s q = (omega (arith, length-drop 2 (c .payload)), octets-drop 2 (c .payload) q)
@@ -114,19 +114,19 @@ whole-fits area First j c h s q = tt
 whole-fits area middlePart j c h s q = tt
 whole-fits area lastPart j c h s q = on-fits area j (drop 2 (c .payload)) h (octets-drop 2 (c .payload) q)
 
-pub gives-fits : (area : ℕ) (l : Line) (c : Ctl) → JoinFits area (l .part) → length (c .payload) < 65536 → Octets (c .payload) → JoinFits mostMessage (lineGives l c)
-unfolding lineGives
+pub gives-fits : (area : ℕ) (l : Reassembly) (c : MessagePacket) → JoinFits area (l .part) → length (c .payload) < 65536 → Octets (c .payload) → JoinFits mostMessage (messageCompleted l c)
+unfolding messageCompleted
 gives-fits area l c h s q =
     cond-elim (JoinFits mostMessage) (short c) (λ e. tt) (λ e. whole-fits area (flagsOf c .division) (partBefore l c) c (before-fits area l c h) s q)
 
 -- the tables of a message that is whole
-pub record Given (c : Cut) : Type 0 where
+pub record Given (c : TablesFound) : Type 0 where
   pub many : length (c .tables) ≤ mostMessage
   pub long : total (c .tables) ≤ mostMessage
   pub malformed : c .malformed ≤ mostMessage + 1
   pub octets : AllOctets (c .tables)
 
-pub given-cut : (o : Option Join) → JoinFits mostMessage o → Given (cutOfAll o)
+pub given-cut : (o : Option PartialMessage) → JoinFits mostMessage o → Given (cutOfAll o)
 unfolding cutOfAll
 given-cut none h = record { many = omega arith; long = omega arith; malformed = omega arith; octets = tt }
 given-cut (some j) h =
@@ -233,9 +233,9 @@ packet-fits p t b x y z c k l m h =
       splitErrors = h .splitErrors;
     }
 
-pub line-counts : (p t b : ℕ) (c : Counters) (l : Line) (x : Ctl) → cutOfAll (lineGives l x) .malformed ≤ mostMessage + 1 → CountersFit p t b c
-    → CountersFit (p + (mostMessage + 2)) t b (lineCounted c l x)
-unfolding lineCounted messageCounted
+pub line-counts : (p t b : ℕ) (c : Counters) (l : Reassembly) (x : MessagePacket) → cutOfAll (messageCompleted l x) .malformed ≤ mostMessage + 1 → CountersFit p t b c
+    → CountersFit (p + (mostMessage + 2)) t b (reassemblyCounted c l x)
+unfolding reassemblyCounted messageCounted
 line-counts p t b c l x k h =
     record {
       tlvPackets = omega (arith, h .tlvPackets);
@@ -275,7 +275,7 @@ module _ (l : Limits) (n : ℕ) (s : State) (h : Ready l n s) where
         sections = rw es (h .sections);
       }
 
-  ready-media : (m : Media) → length (readable m) < 65536 → Takes l s (media m) → Ready l (n + mostAdded) (pushed s (media m))
+  ready-media : (m : MpuPacket) → length (readable m) < 65536 → Takes l s (media m) → Ready l (n + mostAdded) (pushed s (media m))
   unfolding pushed packetCounted needs assetOf
   ready-media m q t =
       record {
@@ -303,13 +303,13 @@ module _ (l : Limits) (n : ℕ) (s : State) (h : Ready l n s) where
   unfolding idleControl idle
   idle-fits = record { joins = tt; mpt = tt }
 
-  ready-message : (c : Ctl) → length (c .payload) < 65536 → Octets (c .payload) → Takes l s (message c) → Ready l (n + mostAdded) (pushed s (message c))
-  unfolding pushed packetCounted needs controlOf tablesGiven lineCounted messageCounted
+  ready-message : (c : MessagePacket) → length (c .payload) < 65536 → Octets (c .payload) → Takes l s (message c) → Ready l (n + mostAdded) (pushed s (message c))
+  unfolding pushed packetCounted needs controlOf tablesGiven reassemblyCounted messageCounted
   ready-message c q o t =
       let old = every-found (λ i c. ControlFits l c) idleControl (c .id) idle-fits (s .controls) (h .controls) in
-      let line = lineOf (c .id) s in
-      let g = given-cut (lineGives line c) (gives-fits (l .«message_area») line c (old .joins) q o) in
-      let bs = cutOfAll (lineGives line c) .tables in
+      let line = reassemblyOf (c .id) s in
+      let g = given-cut (messageCompleted line c) (gives-fits (l .«message_area») line c (old .joins) q o) in
+      let bs = cutOfAll (messageCompleted line c) .tables in
       let sane = tables-sane bs (g .octets) in
       let many = length-map bs in
       record {

@@ -11,11 +11,11 @@ use lib.Dec.{eqb, leb}
 use Rattle.isdb_tlv.proofs.Guards.{cond-elim}
 use Rattle.isdb_mmt.proofs.Maps.{eqb-true, find-put, find-put-other}
 use Rattle.isdb_mmt.specs.Mpu.{follows, lostFrom}
-use Rattle.isdb_mmt.specs.Packet.{Bytes, Piece, Media, Packet, ipError, ntp, nonMmtp, media, message, control, other, readable}
+use Rattle.isdb_mmt.specs.Packet.{Bytes, PayloadUnit, MpuPacket, Packet, ipError, ntp, nonMmtp, media, message, control, other, readable}
 use Rattle.isdb_mmt.specs.Maps.{one, isSome, find, put, orElse}
-use Rattle.isdb_mmt.specs.Objects.{Mfu, Rec, Asset, mostObject, grown, fresh, gap, lostBy, continued, unitDoes, didTo, did, objectOf, unitsDo, unitsGive, noted, assetAfter, tagged, passes, mediaGives}
+use Rattle.isdb_mmt.specs.Objects.{Mfu, Rec, Asset, mostObject, grown, fresh, gap, lostBy, continued, effectOf, afterUnit, unitEffect, objectOf, afterUnits, deliveredBy, afterHeaders, assetAfter, tagged, passes, mediaGives}
 use Rattle.isdb_mmt.specs.Model.{State, assetOf, pushed, gives}
-use Rattle.isdb_mmt.specs.Book.{Item, seen, got, gots, itemsOf, tapeOf, Book, dropCounted, inOrder, missing, follower, goesOn, write, writeAll, deliveredOf}
+use Rattle.isdb_mmt.specs.Book.{LogEntry, packetNumber, unitReceived, unitsReceived, logEntries, receptionLog, Book, dropCounted, inOrder, missing, follower, continuedBy, entered, enteredAll, deliveredOf}
 use Rattle.isdb_mmt.specs.Demand.{pushAll, giveAll, bytesOf}
 use Rattle.isdb_mmt.specs.declared.mpu.FragmentationIndicator.{FragmentationIndicator}
 use Rattle.isdb_mmt.specs.declared.mpu.FragmentationIndicator.the-variants.{Complete, Head, Middle, Last}
@@ -39,9 +39,9 @@ at w n h k os = record { number = n; held = h; dropped = k; lost = w; delivered 
 
 -- one unit
 unit-parts : (w : ℕ) (c : Option ℕ) (h : Option Mfu) (k : ℕ) (os : List Bytes) (n : ℕ) (f : FragmentationIndicator) (u : Mfu)
-    → write (at w c (bytesOf h) k os) (got n f (u .bytes))
-    ≡ at w c (bytesOf (unitDoes f h u .held)) (k + unitDoes f h u .drops) (os ++ dataOf (unitDoes f h u .outs))
-unfolding write dropCounted goesOn unitDoes continued isSome bytesOf grown
+    → entered (at w c (bytesOf h) k os) (unitReceived n f (u .bytes))
+    ≡ at w c (bytesOf (effectOf f h u .held)) (k + effectOf f h u .drops) (os ++ dataOf (effectOf f h u .outs))
+unfolding entered dropCounted continuedBy effectOf continued isSome bytesOf grown
 unit-parts w c none k os n Complete u = rw add-zero
 unit-parts w c (some h) k os n Complete u = refl
 unit-parts w c none k os n Head u = rw (add-zero, append-nil)
@@ -65,19 +65,19 @@ unit-parts w c (some h) k os n Last u = go (leb (length (h .bytes) + length (u .
     go true = rw add-zero
     go false = rw append-nil
 
-units-written : (m : Media) (a : Asset) (os : List Bytes) (n : ℕ) (us : List Piece)
-    → writeAll (bookOf a os) (gots n us) ≡ bookOf (unitsDo m a us) (os ++ dataOf (unitsGive m a us))
-unfolding writeAll gots unitsDo unitsGive didTo did objectOf
+units-written : (m : MpuPacket) (a : Asset) (os : List Bytes) (n : ℕ) (us : List PayloadUnit)
+    → enteredAll (bookOf a os) (unitsReceived n us) ≡ bookOf (afterUnits m a us) (os ++ dataOf (deliveredBy m a us))
+unfolding enteredAll unitsReceived afterUnits deliveredBy afterUnit unitEffect objectOf
 units-written m a os n [] = rw append-nil
 units-written m a os n (u ∷ us) =
-    ap (λ (b : Book). writeAll b (gots n us)) (unit-parts (a .lost) (a .number) (a .held) (a .dropped) os n (u .fragment) (objectOf m u))
-    ∙ units-written m (didTo a (did m a u)) (os ++ dataOf (did m a u .outs)) n us
+    ap (λ (b : Book). enteredAll b (unitsReceived n us)) (unit-parts (a .lost) (a .number) (a .held) (a .dropped) os n (u .fragment) (objectOf m u))
+    ∙ units-written m (afterUnit a (unitEffect m a u)) (os ++ dataOf (unitEffect m a u .outs)) n us
     ∙ rw (data-append, append-assoc)
 
 -- a packet's number
 seen-parts : (w : ℕ) (c : Option ℕ) (h : Option Mfu) (k : ℕ) (os : List Bytes) (n : ℕ)
-    → write (at w c (bytesOf h) k os) (seen n) ≡ at (w + lostBy c n) (some n) (bytesOf (cond (gap c n) none h)) (k + one (gap c n && isSome h)) os
-unfolding write dropCounted inOrder follower missing lostBy lostFrom gap follows bytesOf isSome
+    → entered (at w c (bytesOf h) k os) (packetNumber n) ≡ at (w + lostBy c n) (some n) (bytesOf (cond (gap c n) none h)) (k + one (gap c n && isSome h)) os
+unfolding entered dropCounted inOrder follower missing lostBy lostFrom gap follows bytesOf isSome
 seen-parts w none h k os n = simp add-zero
 seen-parts w (some l) h k os n = go (eqb n (follower l)) (lostFrom l n) h
   where
@@ -88,18 +88,18 @@ seen-parts w (some l) h k os n = go (eqb n (follower l)) (lostFrom l n) h
     go false z none = simp add-zero
     go false z (some h) = refl
 
-writeAll-append : (b : Book) (xs ys : List Item) → writeAll b (xs ++ ys) ≡ writeAll (writeAll b xs) ys
-unfolding writeAll
+writeAll-append : (b : Book) (xs ys : List LogEntry) → enteredAll b (xs ++ ys) ≡ enteredAll (enteredAll b xs) ys
+unfolding enteredAll
 writeAll-append b [] ys = refl
-writeAll-append b (x ∷ xs) ys = writeAll-append (write b x) xs ys
+writeAll-append b (x ∷ xs) ys = writeAll-append (entered b x) xs ys
 
-media-written : (a : Asset) (os : List Bytes) (m : Media)
-    → writeAll (bookOf a os) (seen (m .number) ∷ gots (m .number) (readable m))
-    ≡ bookOf (assetAfter a m) (os ++ dataOf (unitsGive m (noted a m) (readable m)))
-unfolding writeAll assetAfter noted
+media-written : (a : Asset) (os : List Bytes) (m : MpuPacket)
+    → enteredAll (bookOf a os) (packetNumber (m .number) ∷ unitsReceived (m .number) (readable m))
+    ≡ bookOf (assetAfter a m) (os ++ dataOf (deliveredBy m (afterHeaders a m) (readable m)))
+unfolding enteredAll assetAfter afterHeaders
 media-written a os m =
-    ap (λ (b : Book). writeAll b (gots (m .number) (readable m))) (seen-parts (a .lost) (a .number) (a .held) (a .dropped) os (m .number))
-    ∙ units-written m (noted a m) os (m .number) (readable m)
+    ap (λ (b : Book). enteredAll b (unitsReceived (m .number) (readable m))) (seen-parts (a .lost) (a .number) (a .held) (a .dropped) os (m .number))
+    ∙ units-written m (afterHeaders a m) os (m .number) (readable m)
 
 -- ---- what a push hands out for an id
 
@@ -128,31 +128,31 @@ no-object : (b : Bool) (d : Bytes) → cond (b && false) (d ∷ []) [] ≡ []
 no-object true d = refl
 no-object false d = refl
 
-delivered-passes : (i : ℕ) (pass : Bool) (m : Media) → deliveredOf i (passes pass m) ≡ []
+delivered-passes : (i : ℕ) (pass : Bool) (m : MpuPacket) → deliveredOf i (passes pass m) ≡ []
 unfolding deliveredOf passes
 delivered-passes i pass m =
     cond-elim (λ (rs : List Rec). deliveredOf i rs ≡ []) (pass && (m .scrambled && isSome (m .header))) (λ e. no-object (eqb i (m .id)) (m .raw)) (λ e. refl)
 
 -- ---- a push, for one id
 
-mfus-given : (pass : Bool) (i : ℕ) (a : Asset) (m : Media)
-    → deliveredOf i (mediaGives pass a m) ≡ cond (eqb i (m .id)) (dataOf (unitsGive m (noted a m) (readable m))) []
+mfus-given : (pass : Bool) (i : ℕ) (a : Asset) (m : MpuPacket)
+    → deliveredOf i (mediaGives pass a m) ≡ cond (eqb i (m .id)) (dataOf (deliveredBy m (afterHeaders a m) (readable m))) []
 unfolding mediaGives
 mfus-given pass i a m =
-    deliveredOf-append i (passes pass m) (tagged (m .id) (unitsGive m (noted a m) (readable m)))
+    deliveredOf-append i (passes pass m) (tagged (m .id) (deliveredBy m (afterHeaders a m) (readable m)))
     ∙ rw (delivered-passes, delivered-tagged)
 
-put-written : (i j : ℕ) (s : State) (os : List Bytes) (m : Media) (b : Bool) → eqb i j ≡ b
-    → writeAll (bookOf (assetOf i s) os) (cond b (seen (m .number) ∷ gots (m .number) (readable m)) [])
+put-written : (i j : ℕ) (s : State) (os : List Bytes) (m : MpuPacket) (b : Bool) → eqb i j ≡ b
+    → enteredAll (bookOf (assetOf i s) os) (cond b (packetNumber (m .number) ∷ unitsReceived (m .number) (readable m)) [])
     ≡ bookOf (orElse fresh (find i (put j (assetAfter (assetOf j s) m) (s .assets))))
-    (os ++ cond b (dataOf (unitsGive m (noted (assetOf j s) m) (readable m))) [])
-unfolding writeAll assetOf orElse
+    (os ++ cond b (dataOf (deliveredBy m (afterHeaders (assetOf j s) m) (readable m))) [])
+unfolding enteredAll assetOf orElse
 put-written i j s os m true e = rw (← (eqb-true i j e), find-put) (media-written (assetOf i s) os m)
 put-written i j s os m false e = rw (find-put-other i j _ _ e, append-nil)
 
 push-written : (i : ℕ) (s : State) (os : List Bytes) (p : Packet)
-    → writeAll (bookOf (assetOf i s) os) (itemsOf i p) ≡ bookOf (assetOf i (pushed s p)) (os ++ deliveredOf i (gives s p))
-unfolding itemsOf pushed gives deliveredOf writeAll assetOf
+    → enteredAll (bookOf (assetOf i s) os) (logEntries i p) ≡ bookOf (assetOf i (pushed s p)) (os ++ deliveredOf i (gives s p))
+unfolding logEntries pushed gives deliveredOf enteredAll assetOf
 push-written i s os ipError = rw append-nil
 push-written i s os (ntp t) = rw append-nil
 push-written i s os nonMmtp = rw append-nil
@@ -165,11 +165,11 @@ push-written i s os other = rw append-nil
 -- ---- a run
 
 pub run-written : (i : ℕ) (s : State) (os : List Bytes) (ps : List Packet)
-    → writeAll (bookOf (assetOf i s) os) (tapeOf i ps) ≡ bookOf (assetOf i (pushAll s ps)) (os ++ deliveredOf i (giveAll s ps))
-unfolding tapeOf pushAll giveAll deliveredOf writeAll
+    → enteredAll (bookOf (assetOf i s) os) (receptionLog i ps) ≡ bookOf (assetOf i (pushAll s ps)) (os ++ deliveredOf i (giveAll s ps))
+unfolding receptionLog pushAll giveAll deliveredOf enteredAll
 run-written i s os [] = rw append-nil
 run-written i s os (p ∷ ps) =
-    writeAll-append (bookOf (assetOf i s) os) (itemsOf i p) (tapeOf i ps)
-    ∙ ap (λ (b : Book). writeAll b (tapeOf i ps)) (push-written i s os p)
+    writeAll-append (bookOf (assetOf i s) os) (logEntries i p) (receptionLog i ps)
+    ∙ ap (λ (b : Book). enteredAll b (receptionLog i ps)) (push-written i s os p)
     ∙ run-written i (pushed s p) (os ++ deliveredOf i (gives s p)) ps
     ∙ rw (deliveredOf-append, append-assoc)

@@ -27,7 +27,7 @@ use Rattle.isdb_mmt.specs.declared.decoder.media.Media.{Media}
 use Rattle.isdb_mmt.specs.declared.decoder.control.Control.{Control}
 use Rattle.isdb_mmt.specs.declared.decoder.section.KeptSection.{KeptSection}
 use Rattle.isdb_mmt.proofs.Views.{keys, stands, absent}
-use Rattle.isdb_mmt.proofs.Seats.{getD-indexed, length-indexed, length-map}
+use Rattle.isdb_mmt.proofs.PlacesFor.{getD-indexed, length-indexed, length-map}
 use Rattle.isdb_mmt.proofs.Lent.{length-places}
 use Rattle.isdb_mmt.proofs.LinePlaces.{getD-places}
 use Rattle.isdb_mmt.proofs.Stays.{names-view, media-name, control-name, section-name}

@@ -26,7 +26,7 @@ use Rattle.isdb_mmt.specs.declared.mpu.FragmentType.{FragmentType}
 use Rattle.isdb_mmt.specs.declared.mpu.FragmentType.the-variants.{MpuMetadata, MovieFragmentMetadata, Mfu, Reserved as reservedType}
 use Rattle.isdb_mmt.specs.declared.mpu.PayloadHeader.{PayloadHeader}
 use Rattle.isdb_mmt.specs.declared.mpu.Unit.{Unit as DataUnit}
-use Rattle.isdb_mmt.specs.Packet.{Bytes, ntp, headerIn, pieceOf, piecesOf, unitsFor, unitsRead, mediaOf, clear, readable, byType, mmtpIn, toPort, inFlow, datagramIn, byKind, classify}
+use Rattle.isdb_mmt.specs.Packet.{Bytes, ntp, headerIn, payloadUnit, payloadUnits, unitsFor, unitsRead, mediaOf, clear, readable, byType, mmtpIn, toPort, inFlow, datagramIn, byKind, classify}
 use Rattle.isdb_mmt.specs.Demand.{AllSmall, Small, EverySmall, Feed, packetsOf, AllFit}
 
 take-small : (n : ℕ) (b : Bytes) → length b < 65536 → length (take n b) < 65536
@@ -37,7 +37,7 @@ drop-small n b l = omega (arith, length-drop n b)
 
 -- a media payload
 
-pieces-small : (h : PayloadHeader) (q : Bytes) (us : List DataUnit) → length q < 65536 → AllSmall (map (pieceOf h q) us)
+pieces-small : (h : PayloadHeader) (q : Bytes) (us : List DataUnit) → length q < 65536 → AllSmall (map (payloadUnit h q) us)
 pieces-small h q [] l = tt
 pieces-small h q (u ∷ us) l = (
   take-small (u .«data» .length) (drop (u .«data» .start) q) (drop-small (u .«data» .start) q l),
@@ -45,7 +45,7 @@ pieces-small h q (u ∷ us) l = (
 )
 
 clear-pieces : (scrambled : Bool) (h : PayloadHeader) (q : Bytes) (o : Option (List DataUnit)) → length q < 65536
-    → AllSmall (clear scrambled (piecesOf h q o))
+    → AllSmall (clear scrambled (payloadUnits h q o))
 unfolding clear
 clear-pieces true h q o l = tt
 clear-pieces false h q none l = tt

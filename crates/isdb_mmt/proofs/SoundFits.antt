@@ -6,9 +6,9 @@ use mathlib.Core.Option.{Option, none, some}
 use native.Mathlib.Omega.{arith}
 use lib.ListN.{length, getD}
 use Rattle.isdb_tlv.specs.Fields.{Fit}
-use Rattle.isdb_mmt.specs.Packet.{Bytes, Media, Ctl, Packet, ipError, ntp, nonMmtp, media, message, control, other, classify}
+use Rattle.isdb_mmt.specs.Packet.{Bytes, MpuPacket, MessagePacket, Packet, ipError, ntp, nonMmtp, media, message, control, other, classify}
 use Rattle.isdb_mmt.specs.Objects.{Mfu, assetAfter}
-use Rattle.isdb_mmt.specs.Joins.{Join}
+use Rattle.isdb_mmt.specs.Joins.{PartialMessage}
 use Rattle.isdb_mmt.specs.Model.{State, assetOf, pushed, gives}
 use Rattle.isdb_mmt.specs.Needs.{needs}
 use Rattle.isdb_mmt.specs.Lent.{over}
@@ -37,7 +37,7 @@ abbrev pub HeldOctets : Option Mfu → Type 0
 HeldOctets none = Unit {0}
 HeldOctets (some h) = Octets (h .bytes)
 
-abbrev pub JoinOctets : Option Join → Type 0
+abbrev pub JoinOctets : Option PartialMessage → Type 0
 JoinOctets none = Unit {0}
 JoinOctets (some j) = Octets (j .bytes)
 
@@ -57,7 +57,7 @@ held-octets : (o : Option Mfu) → HeldOk o → HeldOctets o
 held-octets none h = tt
 held-octets (some u) h = h .octets
 
-join-octets : (area : ℕ) (o : Option Join) → JoinFits area o → JoinOctets o
+join-octets : (area : ℕ) (o : Option PartialMessage) → JoinFits area o → JoinOctets o
 join-octets area none h = tt
 join-octets area (some j) h = h .1
 
@@ -112,14 +112,14 @@ module _ (s : Session) (q : Sound (s .state) (s .others) (lengthsOf s)) (h : Len
   is-plain = plain-of kind b (omega (arith, short)) o
 
   -- the place of a media id
-  pub media-fits : (m : Media) → classify kind b ≡ media m → needs (view s) (media m) .object ≤ l .«mfu_area»
+  pub media-fits : (m : MpuPacket) → classify kind b ≡ media m → needs (view s) (media m) .object ≤ l .«mfu_area»
       → Fit (mediaFields (placeFor (m .id) (assetAfter (assetOf (m .id) (view s)) m)))
   media-fits m e a =
       let k = asset-next l mostCount (view s) (storable-view s q h) m (rw e at is-ok) (rw e at is-plain) a in
       asset-place (l .«mfu_area») (mostCount + mostAdded) (m .id) _ (omega (arith, in-order .ranges .object)) (omega arith) (k .0) (k .1)
 
   -- the place of a control id
-  pub control-fits : (c : Ctl) → classify kind b ≡ message c → HasAreas l (view s) (message c)
+  pub control-fits : (c : MessagePacket) → classify kind b ≡ message c → HasAreas l (view s) (message c)
       → Fit (controlFields (controlFor (c .id) (controlAfter (view s) c)))
   control-fits c e a =
       let k = control-next l mostCount (view s) (storable-view s q h) c (rw e at is-ok) (rw e at is-plain) a in

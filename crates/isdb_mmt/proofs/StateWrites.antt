@@ -11,7 +11,7 @@ use lib.ListN.{length, take, drop, length-take}
 use lib.Seq.{length-take-le}
 use Rattle.isdb_tlv.specs.Fields.{written, Fit}
 use Rattle.isdb_tlv.proofs.Fields.{length-written}
-use Rattle.isdb_mmt.specs.Kept.{Kept, Store}
+use Rattle.isdb_mmt.specs.Kept.{Kept, KeptTables}
 use Rattle.isdb_mmt.specs.Maps.{isSome}
 use Rattle.isdb_mmt.specs.Model.{State}
 use Rattle.isdb_mmt.specs.Layout.{usedPlace, latestPlace, timePlace, countersPlace, mediaPlaces, controlPlaces, sectionPlaces, sectionSize, mostMediaIds, mostControlIds, mostSections, mostTableArea, stateSize}
@@ -142,7 +142,7 @@ module _ (l : Limits) (n : State) (few : l .«media_ids» ≤ mostMediaIds) (few
       ∙ sections-2
 
 -- PLT and TOT
-module _ (s : Store) (area : ℕ) (small : area ≤ mostTableArea) (p : tableLength (s .plt) ≤ area) (t : tableLength (s .tot) ≤ area) (b : List ℕ) (long : stateSize ≤ length b) where
+module _ (s : KeptTables) (area : ℕ) (small : area ≤ mostTableArea) (p : tableLength (s .plt) ≤ area) (t : tableLength (s .tot) ≤ area) (b : List ℕ) (long : stateSize ≤ length b) where
   abbrev fields : List ℕ
   fields = written (latestFields (latestFor s))
 

@@ -11,7 +11,7 @@ use borrow.Author.Tests.{le-leb, leb-true}
 use Rattle.isdb_tlv.specs.Bytes.{be}
 use Rattle.isdb_mmt.specs.Packet.{Bytes}
 use Rattle.isdb_mmt.specs.Objects.{Mfu}
-use Rattle.isdb_mmt.specs.Joins.{Join}
+use Rattle.isdb_mmt.specs.Joins.{PartialMessage}
 use Rattle.isdb_mmt.specs.Needs.{heldLength}
 use Rattle.isdb_mmt.specs.Lent.{part, placesFrom, namesFrom, every, indexed}
 use Rattle.isdb_mmt.specs.Limits.{asked}
@@ -115,7 +115,7 @@ held-length : (b : Bool) (u : Mfu) (area : ℕ) → heldLength (given b u) ≤ a
 held-length true u area h e = h
 held-length false u area h e = clash false e refl
 
-join-length : (b : Bool) (j : Join) (area : ℕ) → JoinFits area (given b j) → b ≡ true → length (j .bytes) ≤ area
+join-length : (b : Bool) (j : PartialMessage) (area : ℕ) → JoinFits area (given b j) → b ≡ true → length (j .bytes) ≤ area
 join-length true j area h e = h .0
 join-length false j area h e = clash false e refl
 

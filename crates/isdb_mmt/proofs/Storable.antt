@@ -8,12 +8,12 @@ use mathlib.Core.Option.{Option, none, some}
 use mathlib.Core.List.{List, map}
 use native.Mathlib.Omega.{arith}
 use lib.ListN.{length, getD, drop, length-take}
-use Rattle.isdb_mmt.specs.Packet.{Bytes, Media as MediaPacket, Ctl, Packet, ipError, ntp, nonMmtp, media, message, control, other, classify}
+use Rattle.isdb_mmt.specs.Packet.{Bytes, MpuPacket, MessagePacket, Packet, ipError, ntp, nonMmtp, media, message, control, other, classify}
 use Rattle.isdb_mmt.specs.Objects.{Mfu, Asset, fresh, assetAfter}
-use Rattle.isdb_mmt.specs.Joins.{Join, mostMessage, lineAfter, lineGives, cutOfAll}
+use Rattle.isdb_mmt.specs.Joins.{PartialMessage, mostMessage, reassemblyAfter, messageCompleted, cutOfAll}
 use Rattle.isdb_mmt.specs.Kept.{tableRead, mptAfterAll}
 use Rattle.isdb_mmt.specs.GivenTables.{tablesGiven, controlTables}
-use Rattle.isdb_mmt.specs.Model.{State, Control as ControlState, idleControl, assetOf, controlOf, lineOf, packetCounted, timeAfter, pushed}
+use Rattle.isdb_mmt.specs.Model.{State, Control as ControlState, idleControl, assetOf, controlOf, reassemblyOf, packetCounted, timeAfter, pushed}
 use Rattle.isdb_mmt.specs.Needs.{heldLength, needs}
 use Rattle.isdb_mmt.specs.Lent.{part, placesFrom, every, indexed}
 use Rattle.isdb_mmt.specs.Layout.{mostCount, mediaPlaces, mediaSize, objectPlace, controlPlaces, controlSize, sectionPlaces, sectionSize, timePlace}
@@ -61,11 +61,11 @@ asset-ok-more area n m a l h =
     record { counts = asset-more area n m a l (h .counts); number = h .number; mpu = h .mpu; first = h .first; held = h .held }
 
 -- what a message packet leaves of its id
-abbrev pub controlAfter : State → Ctl → ControlState
+abbrev pub controlAfter : State → MessagePacket → ControlState
 controlAfter s c =
     record {
-      line = lineAfter (lineOf (c .id) s) c;
-      mpt = mptAfterAll (controlOf (c .id) s .mpt) (tablesGiven (lineOf (c .id) s) c);
+      line = reassemblyAfter (reassemblyOf (c .id) s) c;
+      mpt = mptAfterAll (controlOf (c .id) s .mpt) (tablesGiven (reassemblyOf (c .id) s) c);
     }
 
 module _ (l : Limits) (n : ℕ) (s : State) (h : Storable l n s) where
@@ -88,7 +88,7 @@ module _ (l : Limits) (n : ℕ) (s : State) (h : Storable l n s) where
   time-after none q = h .time
   time-after (some t) q = q
 
-  -- an id's asset, and its line
+  -- an id's asset, and its reassembly
   pub asset-of : (i : ℕ) → i < 4294967296 → MediaFits l n i (assetOf i s)
   unfolding assetOf
   asset-of i q = every-found (MediaFits l n) fresh i (q, fresh-ok (l .«mfu_area») n) (s .assets) (h .assets)
@@ -97,36 +97,36 @@ module _ (l : Limits) (n : ℕ) (s : State) (h : Storable l n s) where
   unfolding controlOf
   control-of i q = every-found (LineFits l) idleControl i (q, idle-ok (l .«message_area») (l .«table_area»)) (s .controls) (h .controls)
 
-  pub asset-next : (m : MediaPacket) → MediaOk m → Plain (media m) → needs s (media m) .object ≤ l .«mfu_area»
+  pub asset-next : (m : MpuPacket) → MediaOk m → Plain (media m) → needs s (media m) .object ≤ l .«mfu_area»
       → MediaFits l (n + mostAdded) (m .id) (assetAfter (assetOf (m .id) s) m)
   unfolding needs
   asset-next m o q t =
       let i : m .id < 4294967296 = omega (arith, o .id) in
       (i, asset-after (l .«mfu_area») n (assetOf (m .id) s) m (asset-of (m .id) i .1) o q t)
 
-  -- a message packet: the tables that it gives, and its line after it
-  tables-given : (c : Ctl) → PacketOk (message c) → Plain (message c) → Given (cutOfAll (lineGives (lineOf (c .id) s) c))
+  -- a message packet: the tables that it gives, and its reassembly after it
+  tables-given : (c : MessagePacket) → PacketOk (message c) → Plain (message c) → Given (cutOfAll (messageCompleted (reassemblyOf (c .id) s) c))
   tables-given c o q =
-      given-cut (lineGives (lineOf (c .id) s) c)
-      (gives-fits (l .«message_area») (lineOf (c .id) s) c (control-of (c .id) (omega (arith, o .0)) .1 .joins) (q .0) (q .1))
+      given-cut (messageCompleted (reassemblyOf (c .id) s) c)
+      (gives-fits (l .«message_area») (reassemblyOf (c .id) s) c (control-of (c .id) (omega (arith, o .0)) .1 .joins) (q .0) (q .1))
 
-  pub control-next : (c : Ctl) → PacketOk (message c) → Plain (message c) → HasAreas l s (message c) → LineFits l (c .id) (controlAfter s c)
-  unfolding needs tablesGiven lineAfter
+  pub control-next : (c : MessagePacket) → PacketOk (message c) → Plain (message c) → HasAreas l s (message c) → LineFits l (c .id) (controlAfter s c)
+  unfolding needs tablesGiven reassemblyAfter
   control-next c o q a =
       let i : c .id < 4294967296 = omega (arith, o .0) in
       let old = control-of (c .id) i .1 in
-      let bs = cutOfAll (lineGives (lineOf (c .id) s) c) .tables in (
+      let bs = cutOfAll (messageCompleted (reassemblyOf (c .id) s) c) .tables in (
         i,
         record {
           number = o .1;
-          joins = line-fits (l .«message_area») (lineOf (c .id) s) c (old .joins) (q .1) (a .message);
+          joins = line-fits (l .«message_area») (reassemblyOf (c .id) s) c (old .joins) (q .1) (a .message);
           mpt =
               mpts-ok (l .«table_area») (map tableRead bs) (controlOf (c .id) s .mpt) (s .store) (old .mpt)
               (tables-ok bs (tables-given c o q .octets)) (a .table);
         },
       )
 
-  media-stored : (m : MediaPacket) → MediaOk m → Plain (media m) → needs s (media m) .object ≤ l .«mfu_area»
+  media-stored : (m : MpuPacket) → MediaOk m → Plain (media m) → needs s (media m) .object ≤ l .«mfu_area»
       → Storable l (n + mostAdded) (pushed s (media m))
   unfolding pushed
   media-stored m o q t =
@@ -138,13 +138,13 @@ module _ (l : Limits) (n : ℕ) (s : State) (h : Storable l n s) where
         counters = counted 0 0 0 (omega arith) (omega arith) (omega arith);
       }
 
-  message-counted : (c : Ctl) → PacketOk (message c) → Plain (message c)
+  message-counted : (c : MessagePacket) → PacketOk (message c) → Plain (message c)
       → CountersFit (n + mostAdded) (n + mostAdded) (n + mostAdded) (pushed s (message c) .counters)
   unfolding pushed tablesGiven
   message-counted c o q =
-      let line = lineOf (c .id) s in
+      let line = reassemblyOf (c .id) s in
       let g = tables-given c o q in
-      let bs = cutOfAll (lineGives line c) .tables in
+      let bs = cutOfAll (messageCompleted line c) .tables in
       let many = length-map bs in
       counters-more (n + 1 + (mostMessage + 2)) (n + length (map tableRead bs)) (n + breaksIn (map tableRead bs)) (n + mostAdded) (n + mostAdded) (n + mostAdded)
       _ (omega arith) (omega (arith, many, g .many)) (omega (arith, breaks-read bs, g .long))
@@ -182,18 +182,18 @@ module _ (l : Limits) (n : ℕ) (s : State) (h : Storable l n s) where
   others-next (media m) o q i = omega (arith, h .store .others i)
   others-next (message c) o q i =
       let g = tables-given c o q in
-      let bs = cutOfAll (lineGives (lineOf (c .id) s) c) .tables in
+      let bs = cutOfAll (messageCompleted (reassemblyOf (c .id) s) c) .tables in
       omega (arith, length-map bs, g .many, others-counted (map tableRead bs) n (s .store) (h .store .others) i)
   others-next (control bs) o q i = omega (arith, length-control bs, q .0, others-counted (controlTables bs) n (s .store) (h .store .others) i)
   others-next other o q i = omega (arith, h .store .others i)
 
-  message-stored : (c : Ctl) → PacketOk (message c) → Plain (message c) → HasAreas l s (message c)
+  message-stored : (c : MessagePacket) → PacketOk (message c) → Plain (message c) → HasAreas l s (message c)
       → Storable l (n + mostAdded) (pushed s (message c))
   unfolding pushed needs tablesGiven
   message-stored c o q a =
-      let line = lineOf (c .id) s in
+      let line = reassemblyOf (c .id) s in
       let g = tables-given c o q in
-      let bs = cutOfAll (lineGives line c) .tables in
+      let bs = cutOfAll (messageCompleted line c) .tables in
       let many = length-map bs in
       record {
         assets = others-fit;
@@ -266,7 +266,7 @@ length-given : (b : Bool) (u : Mfu) (n area : ℕ) → length (u .bytes) ≤ n �
 length-given true u n area l h = omega (arith, h refl)
 length-given false u n area l h = omega arith
 
-join-given : (b : Bool) (j : Join) (n area : ℕ) → length (j .bytes) ≤ n → (b ≡ true → n ≤ area) → Octets (j .bytes) → JoinFits area (given b j)
+join-given : (b : Bool) (j : PartialMessage) (n area : ℕ) → length (j .bytes) ≤ n → (b ≡ true → n ≤ area) → Octets (j .bytes) → JoinFits area (given b j)
 join-given true j n area l h o = (omega (arith, h refl), o)
 join-given false j n area l h o = tt
 

@@ -19,7 +19,7 @@ use Rattle.isdb_mmt.specs.Plt.{pltOf}
 use Rattle.isdb_mmt.specs.Tot.{totOf}
 use Rattle.isdb_mmt.specs.Lent.{distinct}
 use Rattle.isdb_mmt.specs.Octets.{Octets}
-use Rattle.isdb_mmt.specs.Kept.{Section, keyOf, sectionOf, parsesAs, Kept, otherVersion, keepIf, keep, Counters, Adds, adds, tabled, sectionAdds, Store, Table, emptyTable, mptTable, pltTable, totTable, cutSection, aSection, otherTable, mptParses, pltParses, totParses, longTable, tableById, tableRead, changes, tableAdds, latest, mptAfter, mptAfterAll, stored, storedAll, countedAll}
+use Rattle.isdb_mmt.specs.Kept.{Section, keyOf, sectionOf, parsesAs, Kept, otherVersion, keepIf, keep, Counters, Increments, increments, tableCounted, sectionIncrements, KeptTables, Table, emptyTable, mptTable, pltTable, totTable, truncatedSection, aSection, otherTable, mptParses, pltParses, totParses, longTable, tableById, tableRead, changes, tableIncrements, latest, mptAfter, mptAfterAll, stored, storedAll, countedAll}
 use Rattle.isdb_mmt.specs.Needs.{tableArea, tablesNeed}
 use Rattle.isdb_mmt.specs.GivenTables.{controlTables}
 use Rattle.isdb_mmt.proofs.Views.{keys}
@@ -36,8 +36,8 @@ Sane emptyTable = Unit {0}
 Sane (mptTable ok n b) = ok ≡ true → mptParses (mptOf b .mpt) ≡ true
 Sane (pltTable ok b) = ok ≡ true → pltParses (pltOf b) ≡ true
 Sane (totTable ok c n b) = ok ≡ true → totParses (totOf b .result) ≡ true
-Sane cutSection = Unit {0}
-Sane (aSection x) = x .headOk ≡ true → x .bodyOk ≡ true → parsesAs (x .key / 2 ^ 24) (x .bytes) ≡ true
+Sane truncatedSection = Unit {0}
+Sane (aSection x) = x .headerAndCrcGood ≡ true → x .bodyOk ≡ true → parsesAs (x .key / 2 ^ 24) (x .bytes) ≡ true
 Sane (otherTable id) = Unit {0}
 
 abbrev pub AllSane : List Table → Type 0
@@ -115,14 +115,14 @@ pub record KeptFits (area k : ℕ) (x : Kept) : Type 0 where
   pub fits : length (x .bytes) ≤ area
   pub parses : parsesAs (k / 2 ^ 24) (x .bytes) ≡ true
 
-pub record StoreFits (area n : ℕ) (s : Store) : Type 0 where
+pub record StoreFits (area n : ℕ) (s : KeptTables) : Type 0 where
   pub plt : Whole pltGood area (s .plt)
   pub tot : Whole totGood area (s .tot)
   pub kept : Every (KeptFits area) (s .kept)
   pub others : (i : ℕ) → getD (s .others) i 0 ≤ n
   pub names : distinct (keys (s .kept)) ≡ true
 
-pub store-more : (area n m : ℕ) (s : Store) → n ≤ m → StoreFits area n s → StoreFits area m s
+pub store-more : (area n m : ℕ) (s : KeptTables) → n ≤ m → StoreFits area n s → StoreFits area m s
 store-more area n m s l h =
     record { plt = h .plt; tot = h .tot; kept = h .kept; others = λ i. omega (arith, h .others i); names = h .names }
 
@@ -141,7 +141,7 @@ module _ (area : ℕ) (x : Section) (m : List (ℕ × Kept)) (f : Every (KeptFit
     all : Every (KeptFits area) r
     names : distinct (keys r) ≡ true
 
-  kept-if : (h n b : Bool) → x .headOk ≡ h → x .bodyOk ≡ b → cond (h && (n && b)) (length (x .bytes)) 0 ≤ area → Same (cond h (keepIf n b x m) m)
+  kept-if : (h n b : Bool) → x .headerAndCrcGood ≡ h → x .bodyOk ≡ b → cond (h && (n && b)) (length (x .bytes)) 0 ≤ area → Same (cond h (keepIf n b x m) m)
   unfolding keepIf
   kept-if true true true e k l =
       record {
@@ -152,7 +152,7 @@ module _ (area : ℕ) (x : Section) (m : List (ℕ × Kept)) (f : Every (KeptFit
   kept-if true false b e k l = record { all = f; names = d }
   kept-if false n b e k l = record { all = f; names = d }
 
-pub store-fits : (area n : ℕ) (s : Store) (t : Table) → StoreFits area n s → Sane t → tableArea s t ≤ area → StoreFits area (n + 1) (stored s t)
+pub store-fits : (area n : ℕ) (s : KeptTables) (t : Table) → StoreFits area n s → Sane t → tableArea s t ≤ area → StoreFits area (n + 1) (stored s t)
 unfolding stored tableArea keep
 store-fits area n s emptyTable h q l = store-more area n (n + 1) s (omega arith) h
 store-fits area n s (mptTable ok k b) h q l = store-more area n (n + 1) s (omega arith) h
@@ -172,14 +172,14 @@ store-fits area n s (totTable ok c k b) h q l =
       others = λ i. omega (arith, h .others i);
       names = h .names;
     }
-store-fits area n s cutSection h q l = store-more area n (n + 1) s (omega arith) h
+store-fits area n s truncatedSection h q l = store-more area n (n + 1) s (omega arith) h
 store-fits area n s (aSection x) h q l =
-    let r = kept-if area x (s .kept) (h .kept) (h .names) q (x .headOk) (otherVersion (find (x .key) (s .kept)) (x .version)) (x .bodyOk) refl refl l in
+    let r = kept-if area x (s .kept) (h .kept) (h .names) q (x .headerAndCrcGood) (otherVersion (find (x .key) (s .kept)) (x .version)) (x .bodyOk) refl refl l in
     record { plt = h .plt; tot = h .tot; kept = r .all; others = λ i. omega (arith, h .others i); names = r .names }
 store-fits area n s (otherTable id) h q l =
     record { plt = h .plt; tot = h .tot; kept = h .kept; others = counted-one (s .others) id n (h .others); names = h .names }
 
-pub stores-fit : (area : ℕ) (ts : List Table) (n : ℕ) (s : Store) → StoreFits area n s → AllSane ts → tablesNeed s ts ≤ area
+pub stores-fit : (area : ℕ) (ts : List Table) (n : ℕ) (s : KeptTables) → StoreFits area n s → AllSane ts → tablesNeed s ts ≤ area
     → StoreFits area (n + length ts) (storedAll s ts)
 unfolding storedAll tablesNeed
 stores-fit area [] n s h q l = store-more area n (n + 0) s (omega arith) h
@@ -188,17 +188,17 @@ stores-fit area (t ∷ ts) n s h q l =
     (stores-fit area ts (n + 1) (stored s t) (store-fits area n s t h (q .0) (omega arith)) (q .1) (omega arith))
 
 -- the MPT of a control id
-mpt-fits : (area : ℕ) (m : Option Bytes) (s : Store) (t : Table) → Whole mptGood area m → Sane t → tableArea s t ≤ area → Whole mptGood area (mptAfter m t)
+mpt-fits : (area : ℕ) (m : Option Bytes) (s : KeptTables) (t : Table) → Whole mptGood area m → Sane t → tableArea s t ≤ area → Whole mptGood area (mptAfter m t)
 unfolding mptAfter tableArea
 mpt-fits area m s emptyTable h q l = h
 mpt-fits area m s (mptTable ok k b) h q l = whole-latest mptGood area ok m b h q l
 mpt-fits area m s (pltTable ok b) h q l = h
 mpt-fits area m s (totTable ok c k b) h q l = h
-mpt-fits area m s cutSection h q l = h
+mpt-fits area m s truncatedSection h q l = h
 mpt-fits area m s (aSection x) h q l = h
 mpt-fits area m s (otherTable id) h q l = h
 
-pub mpts-fit : (area : ℕ) (ts : List Table) (m : Option Bytes) (s : Store) → Whole mptGood area m → AllSane ts → tablesNeed s ts ≤ area
+pub mpts-fit : (area : ℕ) (ts : List Table) (m : Option Bytes) (s : KeptTables) → Whole mptGood area m → AllSane ts → tablesNeed s ts ≤ area
     → Whole mptGood area (mptAfterAll m ts)
 unfolding mptAfterAll tablesNeed
 mpts-fit area [] m s h q l = h
@@ -239,35 +239,35 @@ counters-more p t b p′ t′ b′ c x y z h =
       splitErrors = omega (arith, h .splitErrors);
     }
 
-record Few (n : ℕ) (x : Adds) : Type 0 where
+record Few (n : ℕ) (x : Increments) : Type 0 where
   crcErrors : x .crcErrors ≤ 1
   malformed : x .malformed ≤ 1
   versionChanges : x .versionChanges ≤ 1
   breaks : x .breaks ≤ n
 
-few : (n c m v b : ℕ) → c ≤ 1 → m ≤ 1 → v ≤ 1 → b ≤ n → Few n (adds c m v b)
+few : (n c m v b : ℕ) → c ≤ 1 → m ≤ 1 → v ≤ 1 → b ≤ n → Few n (increments c m v b)
 few n c m v b x y z w = record { crcErrors = x; malformed = y; versionChanges = z; breaks = w }
 
-few-section : (x : Section) (k : Option Kept) → Few (x .breaks) (sectionAdds x k)
-unfolding sectionAdds
+few-section : (x : Section) (k : Option Kept) → Few (x .breaks) (sectionIncrements x k)
+unfolding sectionIncrements
 few-section x k =
-    let P : Adds → Type 0 = Few (x .breaks) in
-    cond-elim P (not (x .headOk)) (λ e. few (x .breaks) _ _ 0 0 (one-le (x .crcBad)) (one-le (not (x .crcBad))) (omega arith) (omega arith)) (λ e.
+    let P : Increments → Type 0 = Few (x .breaks) in
+    cond-elim P (not (x .headerAndCrcGood)) (λ e. few (x .breaks) _ _ 0 0 (one-le (x .crcBad)) (one-le (not (x .crcBad))) (omega arith) (omega arith)) (λ e.
     cond-elim P (not (otherVersion k (x .version))) (λ e. few (x .breaks) 0 0 0 0 (omega arith) (omega arith) (omega arith) (omega arith)) (λ e.
     few (x .breaks) 0 _ _ (x .breaks) (omega arith) (one-le (not (x .bodyOk))) (one-le (isSome k)) (omega arith)))
 
-few-adds : (m : Option Bytes) (s : Store) (t : Table) → Few (breaksOf t) (tableAdds m s t)
-unfolding tableAdds
+few-adds : (m : Option Bytes) (s : KeptTables) (t : Table) → Few (breaksOf t) (tableIncrements m s t)
+unfolding tableIncrements
 few-adds m s emptyTable = few 0 0 0 0 0 (omega arith) (omega arith) (omega arith) (omega arith)
 few-adds m s (mptTable ok n b) = few n 0 _ _ n (omega arith) (one-le (not ok)) (one-le (ok && changes m b)) (omega arith)
 few-adds m s (pltTable ok b) = few 0 0 _ _ 0 (omega arith) (one-le (not ok)) (one-le (ok && changes (s .plt) b)) (omega arith)
 few-adds m s (totTable ok c n b) = few n _ _ 0 n (one-le c) (one-le (not ok && not c)) (omega arith) (omega arith)
-few-adds m s cutSection = few 0 0 1 0 0 (omega arith) (omega arith) (omega arith) (omega arith)
+few-adds m s truncatedSection = few 0 0 1 0 0 (omega arith) (omega arith) (omega arith) (omega arith)
 few-adds m s (aSection x) = few-section x (find (x .key) (s .kept))
 few-adds m s (otherTable id) = few 0 0 0 0 0 (omega arith) (omega arith) (omega arith) (omega arith)
 
-tabled-fits : (p t b n : ℕ) (c : Counters) (x : Adds) → CountersFit p t b c → Few n x → CountersFit p (t + 1) (b + n) (tabled c x)
-unfolding tabled
+tabled-fits : (p t b n : ℕ) (c : Counters) (x : Increments) → CountersFit p t b c → Few n x → CountersFit p (t + 1) (b + n) (tableCounted c x)
+unfolding tableCounted
 tabled-fits p t b n c x h f =
     record {
       tlvPackets = h .tlvPackets;
@@ -284,16 +284,16 @@ tabled-fits p t b n c x h f =
       splitErrors = omega (arith, h .splitErrors, f .breaks);
     }
 
-pub counted-fit : (ts : List Table) (p t b : ℕ) (m : Option Bytes) (s : Store) (c : Counters) → CountersFit p t b c
+pub counted-fit : (ts : List Table) (p t b : ℕ) (m : Option Bytes) (s : KeptTables) (c : Counters) → CountersFit p t b c
     → CountersFit p (t + length ts) (b + breaksIn ts) (countedAll m s c ts)
 unfolding countedAll
 counted-fit [] p t b m s c h = counters-more p t b p (t + 0) (b + 0) c (omega arith) (omega arith) (omega arith) h
 counted-fit (x ∷ ts) p t b m s c h =
     counters-more p (t + 1 + length ts) (b + breaksOf x + breaksIn ts) p (t + suc (length ts)) (b + (breaksOf x + breaksIn ts)) _ (omega arith) (omega arith) (omega arith)
-    (counted-fit ts p (t + 1) (b + breaksOf x) (mptAfter m x) (stored s x) (tabled c (tableAdds m s x)) (tabled-fits p t b (breaksOf x) c _ h (few-adds m s x)))
+    (counted-fit ts p (t + 1) (b + breaksOf x) (mptAfter m x) (stored s x) (tableCounted c (tableIncrements m s x)) (tabled-fits p t b (breaksOf x) c _ h (few-adds m s x)))
 
 -- tables leave the count of packets
-pub counted-packets : (ts : List Table) (m : Option Bytes) (s : Store) (c : Counters) → countedAll m s c ts .tlvPackets ≡ c .tlvPackets
-unfolding countedAll tabled
+pub counted-packets : (ts : List Table) (m : Option Bytes) (s : KeptTables) (c : Counters) → countedAll m s c ts .tlvPackets ≡ c .tlvPackets
+unfolding countedAll tableCounted
 counted-packets [] m s c = refl
-counted-packets (x ∷ ts) m s c = counted-packets ts (mptAfter m x) (stored s x) (tabled c (tableAdds m s x))
+counted-packets (x ∷ ts) m s c = counted-packets ts (mptAfter m x) (stored s x) (tableCounted c (tableIncrements m s x))

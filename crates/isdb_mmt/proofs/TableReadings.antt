@@ -26,7 +26,7 @@ use Rattle.isdb_mmt.specs.Model.{Control as ControlState}
 use Rattle.isdb_mmt.specs.View.{given, controlStateOf, viewBy, view}
 use Rattle.isdb_mmt.specs.Readings.{areaPart, sectionFound, sectionPart, controlFound, mptAt, mptPart, pltPart, totPart, tableIf, tableRead, tableIdOf, sectionRead, mptRead, pltRead, totRead, controlNames, ascending, firstCarried, carried, assetIn, assetIf, assetAmong, assetRead, nothing, toldBy}
 use Rattle.isdb_mmt.specs.ReadingLaws.{namesIn, rises, InOrder}
-use Rattle.isdb_mmt.specs.TableReadingLaws.{saysOf, sectionBytes, mptBytes, Inside, Reads, KeptTables, SaysAsset, saysAsset, carriedBy, mptSays, keptSays, carriedAmong, InsideMpt, AssetRead, CarriedAssets, Passes, PassedBelow, AnswerIs, FirstCarriers}
+use Rattle.isdb_mmt.specs.TableReadingLaws.{saysOf, sectionBytes, mptBytes, Inside, Reads, TablesAreTold, SaysAsset, saysAsset, carriedBy, mptSays, keptSays, carriedAmong, InsideMpt, AssetRead, CarriedAssets, Passes, PassedBelow, AnswerIs, FirstCarriers}
 use Rattle.isdb_mmt.specs.declared.part.Part.{Part}
 use Rattle.isdb_mmt.specs.declared.maybe.MaybeU16.{MaybeU16}
 use Rattle.isdb_mmt.specs.declared.table.mpt.Asset.{Asset}
@@ -40,7 +40,7 @@ use Rattle.isdb_mmt.specs.declared.decoder.place.Found.{Found}
 use Rattle.isdb_mmt.specs.declared.decoder.place.Found.the-variants.{At, Nothing}
 use Rattle.isdb_mmt.proofs.Guards.{was-both}
 use Rattle.isdb_mmt.proofs.Names.{clash}
-use Rattle.isdb_mmt.proofs.Seats.{none-some}
+use Rattle.isdb_mmt.proofs.PlacesFor.{none-some}
 use Rattle.isdb_mmt.proofs.MessageLeaves.{control-names}
 use Rattle.isdb_mmt.proofs.Said.{controlAtPlace, keptEntry, control-found, section-found}
 use Rattle.isdb_mmt.proofs.Readings.{names-told}
@@ -170,7 +170,7 @@ module _ (s : Session) (ok : sound s ≡ true) where
       (given-part (latestOf (s .state) .tot) (areaPart l (l .sections + l .«control_ids» + 1) (latestOf (s .state) .«tot_length»)))
       (given-within (latestOf (s .state) .tot) (l .sections + l .«control_ids» + 1) (latestOf (s .state) .«tot_length») (omega arith) (facts .tot))
 
-pub kept-tables : KeptTables
+pub kept-tables : TablesAreTold
 kept-tables s ok =
     record {
       section = section-read s ok;

@@ -14,7 +14,7 @@ use Rattle.isdb_tlv.specs.declared.mmtp.Header.{Header}
 use Rattle.isdb_tlv.specs.declared.mmtp.Packet.{Packet as MmtpPacket}
 use Rattle.isdb_tlv.specs.declared.mmtp.Parsed.{Parsed}
 use Rattle.isdb_tlv.specs.declared.mmtp.Parsed.the-variants.{None as notMmtp, Some as someMmtp}
-use Rattle.isdb_mmt.specs.Packet.{Bytes, Media, Packet, ipError, ntp, nonMmtp, media, message, control, other, classify, mmtpIn, mediaOf, byType, ctl}
+use Rattle.isdb_mmt.specs.Packet.{Bytes, MpuPacket, Packet, ipError, ntp, nonMmtp, media, message, control, other, classify, mmtpIn, mediaOf, byType, messagePacket}
 use Rattle.isdb_mmt.specs.Model.{State, packetCounted, pushed, gives}
 use Rattle.isdb_mmt.specs.Needs.{needs}
 use Rattle.isdb_mmt.specs.Session.{Session, limitsOf, usedOf, countersOf}
@@ -99,7 +99,7 @@ module _ (s : Session) (ok : Sound (s .state) (s .others) (lengthsOf s)) where
 
 -- ---- a media packet
 
-pub media-pushed : (s : Session) → Sound (s .state) (s .others) (lengthsOf s) → (rows out : Bytes) (m : Media) (r k n : ℕ) (s′ : Session) (rows′ out′ : Bytes)
+pub media-pushed : (s : Session) → Sound (s .state) (s .others) (lengthsOf s) → (rows out : Bytes) (m : MpuPacket) (r k n : ℕ) (s′ : Session) (rows′ out′ : Bytes)
     → MediaPushed s rows out m r k n s′ rows′ out′ → PacketPushed s rows out (media m) r k n s′ rows′ out′
 unfolding packetLeaves
 media-pushed s ok rows out m r k n s′ rows′ out′ h =
@@ -148,11 +148,11 @@ module _ (s : Session) (rows out : Bytes) (h : Header) (b : Bytes) (can : CanTak
       (media-pushed s (can .session) rows out (mediaOf h b) (a .number) (a .records) (a .bytes) s′ rows′ out′ q)
 
   pub type-message : h .«payload_type» ≡ Messages → (n : ℕ) (s′ : Session)
-      → QuietPushed s (message (ctl (h .«packet_id») (h .sequence) b)) n s′
+      → QuietPushed s (message (messagePacket (h .«packet_id») (h .sequence) b)) n s′
       → (a : Answer) → a ≡ refusedAs n → PacketPushed s rows out typed (a .number) (a .records) (a .bytes) s′ rows out
   unfolding gives
   type-message k n s′ q a f =
-      let p : Packet = message (ctl (h .«packet_id») (h .sequence) b) in
+      let p : Packet = message (messagePacket (h .«packet_id») (h .sequence) b) in
       same-packet s rows out p typed (ap (byType h b) (sym k)) (a .number) (a .records) (a .bytes) s′ rows out
       (quiet-arm s rows out p refl n s′ q a f)
 

@@ -3,7 +3,7 @@ use Prim.Native.Nat.{ℕ, max}
 use mathlib.Core.Path.{_≡_, refl, sym, ap, _∙_}
 use mathlib.Core.List.{List, [], _∷_}
 use native.Mathlib.Omega.{arith}
-use Rattle.isdb_mmt.specs.Kept.{Table, mptAfterAll, storedAll, countedAll, tableAdds, tabled, stored, mptAfter}
+use Rattle.isdb_mmt.specs.Kept.{Table, mptAfterAll, storedAll, countedAll, tableIncrements, tableCounted, stored, mptAfter}
 use Rattle.isdb_mmt.specs.Needs.{tableArea, tablesNeed}
 use Rattle.isdb_mmt.specs.Tally.{Tally, taken, takenAll}
 

@@ -8,9 +8,9 @@ use native.Mathlib.Omega.{arith}
 use lib.Dec.{leb}
 use lib.ListN.{length, length-append}
 use Rattle.isdb_mmt.specs.Part.{partOf}
-use Rattle.isdb_mmt.specs.Packet.{Piece, Media as MediaPacket, pieceOf}
+use Rattle.isdb_mmt.specs.Packet.{PayloadUnit, MpuPacket, payloadUnit}
 use Rattle.isdb_mmt.specs.Maps.{one, isSome}
-use Rattle.isdb_mmt.specs.Objects.{Mfu, Asset, Did, mostObject, mpuNumber, grown, continued, unitDoes, didTo, objectOf, did, unitsDo, unitsGive, tagged}
+use Rattle.isdb_mmt.specs.Objects.{Mfu, Asset, UnitEffect, mostObject, mpuNumber, grown, continued, effectOf, afterUnit, objectOf, unitEffect, afterUnits, deliveredBy, tagged}
 use Rattle.isdb_mmt.specs.Needs.{unitArea, unitsNeed, dataOf}
 use Rattle.isdb_mmt.specs.Records.{objectFor}
 use Rattle.isdb_mmt.specs.MediaPush.{heldFor}
@@ -44,7 +44,7 @@ bytes-append (x ∷ xs) ys = rw (bytes-append xs ys) (omega arith)
 
 -- ---- one unit
 
-pub record Step (f : FragmentationIndicator) (t r : Survey) (d : Did) : Type 0 where
+pub record Step (f : FragmentationIndicator) (t r : Survey) (d : UnitEffect) : Type 0 where
   pub held : r .held ≡ isSome (d .held)
   pub object : r .object ≡ heldFor (d .held)
   pub drops : r .drops ≡ t .drops + d .drops
@@ -101,80 +101,80 @@ grown-some ends t p n k e el =
 
 module _ (t : Survey) (u : DataUnit) (g : Mfu) (mpu : ℕ) (rap : Bool) (eg : unitObject mpu rap u (length (g .bytes)) ≡ objectFor g) where
   pub step-told : (f : FragmentationIndicator) (o : Option Mfu) → t .held ≡ isSome o → t .object ≡ heldFor o
-      → Step f t (surveyed f mpu rap t u (length (g .bytes))) (unitDoes f o g)
-  unfolding surveyed completeUnit headUnit unitDoes isSome
+      → Step f t (surveyed f mpu rap t u (length (g .bytes))) (effectOf f o g)
+  unfolding surveyed completeUnit headUnit effectOf isSome
   step-told Complete o eh eo =
       record { held = refl; object = refl; drops = rw eh; records = refl; bytes = omega arith; longest = omega arith }
   step-told Head o eh eo =
       record { held = refl; object = eg; drops = rw eh; records = omega arith; bytes = omega arith; longest = refl }
   step-told Middle none eh eo =
-      subst (λ (x : Survey). Step Middle t x (unitDoes Middle none g)) (sym (grown-none false t (u .«data») (length (g .bytes)) eh))
+      subst (λ (x : Survey). Step Middle t x (effectOf Middle none g)) (sym (grown-none false t (u .«data») (length (g .bytes)) eh))
       (record { held = eh; object = eo; drops = omega arith; records = omega arith; bytes = omega arith; longest = omega arith })
   step-told Middle (some h) eh eo =
       let el : t .object .length ≡ length (h .bytes) = ap (λ (x : Object). x .length) eo in
-      subst (λ (x : Survey). Step Middle t x (unitDoes Middle (some h) g))
+      subst (λ (x : Survey). Step Middle t x (effectOf Middle (some h) g))
       (sym (grown-some false t (u .«data») (length (g .bytes)) (length (h .bytes)) eh el))
       (step-middle t (u .«data») h g eh eo (leb (length (h .bytes) + length (g .bytes)) mostObject))
   step-told Last none eh eo =
-      subst (λ (x : Survey). Step Last t x (unitDoes Last none g)) (sym (grown-none true t (u .«data») (length (g .bytes)) eh))
+      subst (λ (x : Survey). Step Last t x (effectOf Last none g)) (sym (grown-none true t (u .«data») (length (g .bytes)) eh))
       (record { held = eh; object = eo; drops = omega arith; records = omega arith; bytes = omega arith; longest = omega arith })
   step-told Last (some h) eh eo =
       let el : t .object .length ≡ length (h .bytes) = ap (λ (x : Object). x .length) eo in
-      subst (λ (x : Survey). Step Last t x (unitDoes Last (some h) g))
+      subst (λ (x : Survey). Step Last t x (effectOf Last (some h) g))
       (sym (grown-some true t (u .«data») (length (g .bytes)) (length (h .bytes)) eh el))
       (step-last t (u .«data») h g eh eo (leb (length (h .bytes) + length (g .bytes)) mostObject))
 
 -- ---- all units of a payload
 
-pub record Told (m : MediaPacket) (t : Survey) (a : Asset) (r : Survey) (us : List Piece) : Type 0 where
-  pub held : r .held ≡ isSome (unitsDo m a us .held)
-  pub object : r .object ≡ heldFor (unitsDo m a us .held)
-  pub drops : a .dropped + r .drops ≡ t .drops + unitsDo m a us .dropped
-  pub mfus : a .mfus + r .records ≡ t .records + unitsDo m a us .mfus
-  pub records : r .records ≡ t .records + length (unitsGive m a us)
-  pub bytes : r .bytes ≡ t .bytes + bytesIn (unitsGive m a us)
+pub record Told (m : MpuPacket) (t : Survey) (a : Asset) (r : Survey) (us : List PayloadUnit) : Type 0 where
+  pub held : r .held ≡ isSome (afterUnits m a us .held)
+  pub object : r .object ≡ heldFor (afterUnits m a us .held)
+  pub drops : a .dropped + r .drops ≡ t .drops + afterUnits m a us .dropped
+  pub mfus : a .mfus + r .records ≡ t .records + afterUnits m a us .mfus
+  pub records : r .records ≡ t .records + length (deliveredBy m a us)
+  pub bytes : r .bytes ≡ t .bytes + bytesIn (deliveredBy m a us)
   pub longest : r .longest ≡ max (t .longest) (unitsNeed m a us)
 
-pub told-empty : (m : MediaPacket) (t : Survey) (a : Asset) → t .held ≡ isSome (a .held) → t .object ≡ heldFor (a .held) → Told m t a t []
-unfolding unitsDo unitsGive unitsNeed
+pub told-empty : (m : MpuPacket) (t : Survey) (a : Asset) → t .held ≡ isSome (a .held) → t .object ≡ heldFor (a .held) → Told m t a t []
+unfolding afterUnits deliveredBy unitsNeed
 told-empty m t a eh eo =
     record { held = eh; object = eo; drops = omega arith; mfus = omega arith; records = omega arith; bytes = omega arith; longest = omega arith }
 
-module _ (m : MediaPacket) (h : PayloadHeader) (q : List ℕ) where
+module _ (m : MpuPacket) (h : PayloadHeader) (q : List ℕ) where
   one-told : (u : DataUnit) (t : Survey) (a : Asset) → t .held ≡ isSome (a .held) → t .object ≡ heldFor (a .held)
-      → Step (h .fragmentation) t (surveyed (h .fragmentation) (mpuNumber (m .header)) (m .rap) t u (length (partOf q (u .«data»)))) (did m a (pieceOf h q u))
-  unfolding did unitObject objectOf
-  one-told u t a eh eo = step-told t u (objectOf m (pieceOf h q u)) (mpuNumber (m .header)) (m .rap) refl (h .fragmentation) (a .held) eh eo
+      → Step (h .fragmentation) t (surveyed (h .fragmentation) (mpuNumber (m .header)) (m .rap) t u (length (partOf q (u .«data»)))) (unitEffect m a (payloadUnit h q u))
+  unfolding unitEffect unitObject objectOf
+  one-told u t a eh eo = step-told t u (objectOf m (payloadUnit h q u)) (mpuNumber (m .header)) (m .rap) refl (h .fragmentation) (a .held) eh eo
 
-  held-is : (a : Asset) (d : Did) → d .held ≡ didTo a d .held
-  unfolding didTo
+  held-is : (a : Asset) (d : UnitEffect) → d .held ≡ afterUnit a d .held
+  unfolding afterUnit
   held-is a d = refl
 
-  held-did : (a : Asset) (d : Did) → isSome (d .held) ≡ isSome (didTo a d .held)
-  unfolding didTo
+  held-did : (a : Asset) (d : UnitEffect) → isSome (d .held) ≡ isSome (afterUnit a d .held)
+  unfolding afterUnit
   held-did a d = refl
 
-  dropped-is : (a : Asset) (d : Did) → didTo a d .dropped ≡ a .dropped + d .drops
-  unfolding didTo
+  dropped-is : (a : Asset) (d : UnitEffect) → afterUnit a d .dropped ≡ a .dropped + d .drops
+  unfolding afterUnit
   dropped-is a d = refl
 
-  mfus-is : (a : Asset) (d : Did) → didTo a d .mfus ≡ a .mfus + length (d .outs)
-  unfolding didTo
+  mfus-is : (a : Asset) (d : UnitEffect) → afterUnit a d .mfus ≡ a .mfus + length (d .outs)
+  unfolding afterUnit
   mfus-is a d = refl
 
   pub survey-told : (us : List DataUnit) (t : Survey) (a : Asset) → t .held ≡ isSome (a .held) → t .object ≡ heldFor (a .held)
-      → Told m t a (surveyAll (h .fragmentation) (mpuNumber (m .header)) (m .rap) q t us) (map (pieceOf h q) us)
-  unfolding surveyAll unitsDo unitsGive unitsNeed
+      → Told m t a (surveyAll (h .fragmentation) (mpuNumber (m .header)) (m .rap) q t us) (map (payloadUnit h q) us)
+  unfolding surveyAll afterUnits deliveredBy unitsNeed
   survey-told [] t a eh eo =
       record { held = eh; object = eo; drops = omega arith; mfus = omega arith; records = omega arith; bytes = omega arith; longest = omega arith }
   survey-told (u ∷ us) t a eh eo =
-      let x : Piece = pieceOf h q u in
-      let d : Did = did m a x in
+      let x : PayloadUnit = payloadUnit h q u in
+      let d : UnitEffect = unitEffect m a x in
       let t1 : Survey = surveyed (h .fragmentation) (mpuNumber (m .header)) (m .rap) t u (length (partOf q (u .«data»))) in
       let s : Step (h .fragmentation) t t1 d = one-told u t a eh eo in
-      let a1 : Asset = didTo a d in
+      let a1 : Asset = afterUnit a d in
       let r : Survey = surveyAll (h .fragmentation) (mpuNumber (m .header)) (m .rap) q t1 us in
-      let w : Told m t1 a1 r (map (pieceOf h q) us) = survey-told us t1 a1 (s .held ∙ held-did a d) (s .object ∙ ap heldFor (held-is a d)) in
+      let w : Told m t1 a1 r (map (payloadUnit h q) us) = survey-told us t1 a1 (s .held ∙ held-did a d) (s .object ∙ ap heldFor (held-is a d)) in
       let da : a1 .dropped ≡ a .dropped + d .drops = dropped-is a d in
       let ma : a1 .mfus ≡ a .mfus + length (d .outs) = mfus-is a d in
       record {

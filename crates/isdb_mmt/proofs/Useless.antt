@@ -13,7 +13,7 @@ use Rattle.isdb_mmt.specs.Maps.{find, orElse}
 use Rattle.isdb_mmt.specs.Objects.{fresh as freshAsset}
 use Rattle.isdb_mmt.specs.Kept.{Section}
 use Rattle.isdb_mmt.specs.Model.{opened, assetOf}
-use Rattle.isdb_mmt.specs.Book.{book, isHeld, deliveredOf, wellFormed, wellFormedIn, reaching, allIdle, sectionsFrom, linesAfter, sectionsAmong}
+use Rattle.isdb_mmt.specs.Book.{book, isHeld, deliveredOf, wellFormed, wellFormedIn, reaching, allIdle, sectionsFrom, reassembliesAfter, sectionsAmong}
 use Rattle.isdb_mmt.specs.Demand.{bytesOf}
 use Rattle.isdb_mmt.specs.Lent.{every}
 use Rattle.isdb_mmt.specs.Layout.{stateSize}
@@ -53,7 +53,7 @@ unfolding told
 book-held = refl
 
 one-section : length (wellFormed nitKey (packetOf nit ∷ [])) ≡ 1
-unfolding told wellFormed wellFormedIn reaching allIdle sectionsFrom linesAfter sectionsAmong
+unfolding told wellFormed wellFormedIn reaching allIdle sectionsFrom reassembliesAfter sectionsAmong
 one-section = refl
 
 -- ---- the session

@@ -36,7 +36,7 @@ use Rattle.isdb_mmt.specs.declared.table.mpt.MaybeMpt.the-variants.{None
 use Rattle.isdb_mmt.specs.declared.table.plt.Plt.{Plt as PltRead}
 use Rattle.isdb_mmt.specs.declared.table.plt.MaybePlt.{MaybePlt}
 use Rattle.isdb_mmt.specs.declared.table.plt.MaybePlt.the-variants.{None as noPlt, Some as somePlt}
-use Rattle.isdb_mmt.specs.Kept.{Body, mptParses, pltParses, totParses, totCrcBad, keyOf, declaredSection, declaredTable, Section, sectionOf, bodyRead as modelBody, longTable, cutSection, aSection, tableById, tableRead}
+use Rattle.isdb_mmt.specs.Kept.{Body, mptParses, pltParses, totParses, totCrcBad, keyOf, declaredSection, declaredTable, Section, sectionOf, bodyRead as modelBody, longTable, truncatedSection, aSection, tableById, tableRead}
 use Rattle.isdb_mmt.specs.Eit.{eitBody, eitOf}
 use Rattle.isdb_mmt.specs.Sdt.{sdtBody, sdtOf}
 use Rattle.isdb_mmt.specs.Bit.{bitBody, bitOf}
@@ -161,7 +161,7 @@ few-table t n en d ed = rw ed (omega (arith, length-take (n + 4) t, en))
 
 -- ---- a section
 
-head-in : (t : Bytes) (h : SectionHeader) → longSectionOf t ≡ goodSection h → sectionOf t .headOk ≡ true
+head-in : (t : Bytes) (h : SectionHeader) → longSectionOf t ≡ goodSection h → sectionOf t .headerAndCrcGood ≡ true
 unfolding sectionOf
 head-in t h e = rw e
 

@@ -14,12 +14,12 @@ use borrow.Author.Tests.{lt-ltb, le-ltb, ltb-true, ltb-false}
 use Rattle.isdb_tlv.specs.Guards.{if_then_else_, _<?_, _=?_}
 use Rattle.isdb_tlv.proofs.Guards.{either, cond-elim}
 use Rattle.isdb_mmt.specs.Layout.{mostSections, mostControlIds, mostMessageArea, mostTableArea, mostCount, tableIds, controlPlaces, controlSize, sectionPlaces, sectionSize, stateSize}
-use Rattle.isdb_mmt.specs.Packet.{Bytes, Ctl, message}
+use Rattle.isdb_mmt.specs.Packet.{Bytes, MessagePacket, message}
 use Rattle.isdb_mmt.specs.Maps.{one, isSome}
-use Rattle.isdb_mmt.specs.Joins.{Join, Line, mostMessage, short, cutOf, cutOfAll, lineGives}
-use Rattle.isdb_mmt.specs.Kept.{Kept, Counters as Counts, Store, Table, tableRead, mptAfterAll, storedAll, countedAll}
+use Rattle.isdb_mmt.specs.Joins.{PartialMessage, Reassembly, mostMessage, short, cutOf, cutOfAll, messageCompleted}
+use Rattle.isdb_mmt.specs.Kept.{Kept, Counters as Counts, KeptTables, Table, tableRead, mptAfterAll, storedAll, countedAll}
 use Rattle.isdb_mmt.specs.GivenTables.{tablesGiven}
-use Rattle.isdb_mmt.specs.Model.{State, Control as ControlState, packetCounted, messageCounted, lineCounted, controlOf, lineOf, pushed}
+use Rattle.isdb_mmt.specs.Model.{State, Control as ControlState, packetCounted, messageCounted, reassemblyCounted, controlOf, reassemblyOf, pushed}
 use Rattle.isdb_mmt.specs.Needs.{needs, tablesNeed}
 use Rattle.isdb_mmt.specs.Octets.{Octets}
 use Rattle.isdb_mmt.specs.Lent.{part, over, namesFrom}
@@ -28,15 +28,15 @@ use Rattle.isdb_mmt.specs.Check.{packetCounts, tableCounts, controlSound
 use Rattle.isdb_mmt.specs.View.{given, tableAt, countsOf, viewBy, view}
 use Rattle.isdb_mmt.specs.Opening.{lent}
 use Rattle.isdb_mmt.specs.Placing.{tableLength, latestFor, countersFor}
-use Rattle.isdb_mmt.specs.Leaves.{sectionRows, withSections, bytesOver, keptOver, latestOver, controlSeat, messageAt, messageIn, packetLeaves}
+use Rattle.isdb_mmt.specs.Leaves.{sectionRows, withSections, bytesOver, keptOver, latestOver, controlPlaceFor, messageAt, messageIn, packetLeaves}
 use Rattle.isdb_mmt.specs.Push.{asksOf, QuietPushed}
-use Rattle.isdb_mmt.specs.Fragments.{fateOf, byDivision, flagsIn, continued, goesOn, grownLength, joinedBy, noneJoined, controlWith, laidBy, areaBy, wholeBy, completes, faultsOf, fragmentCounted, CanCount}
+use Rattle.isdb_mmt.specs.Fragments.{fateOf, byDivision, flagsIn, continued, continuedBy, grownLength, joinedBy, noneJoined, controlWith, laidBy, areaBy, wholeBy, completes, faultsOf, fragmentCounted, CanCount}
 use Rattle.isdb_mmt.specs.Lines.{blankPlace, placeIn, withLine, withCounts, meetingOf}
 use Rattle.isdb_mmt.specs.Verdict.{indexSize}
 use Rattle.isdb_mmt.specs.Dry.{CanWalk}
 use Rattle.isdb_mmt.specs.Commit.{putAreas, loggedFrom, CanStoreAreas}
 use Rattle.isdb_mmt.specs.Start.{recentLength, latestWith, countersWith, tablesAsk, malformedMore, CountsFit}
-use Rattle.isdb_mmt.specs.WholeMessage.{isLast, beforeBy, joinBy, heldIn, WalkedWhole, CanWalkWhole, wholeAsk, usedWhole, placeWhole, stateLeft, CanLeaveState, seatAt, CanPushWhole, CanPushAt}
+use Rattle.isdb_mmt.specs.WholeMessage.{isLast, beforeBy, joinBy, heldIn, WalkedWhole, CanWalkWhole, wholeAsk, usedWhole, placeWhole, stateLeft, CanLeaveState, placeForAt, CanPushWhole, CanPushAt}
 use Rattle.isdb_mmt.specs.declared.decoder.limits.Limits.{Limits}
 use Rattle.isdb_mmt.specs.declared.decoder.counts.Counters.{Counters}
 use Rattle.isdb_mmt.specs.declared.decoder.head.Used.{Used}
@@ -47,14 +47,14 @@ use Rattle.isdb_mmt.specs.declared.decoder.messages.Joined.{Joined}
 use Rattle.isdb_mmt.specs.declared.decoder.messages.Meeting.{Meeting}
 use Rattle.isdb_mmt.specs.declared.message.Division.{Division}
 use Rattle.isdb_mmt.specs.declared.message.Division.the-variants.{Undivided as undivided, First as first, Middle as middle, Last as lastPart}
-use Rattle.isdb_mmt.specs.declared.decoder.place.Seat.{Seat}
-use Rattle.isdb_mmt.specs.declared.decoder.place.Seat.the-variants.{Old, New, Full}
+use Rattle.isdb_mmt.specs.declared.decoder.place.PlaceFor.{PlaceFor}
+use Rattle.isdb_mmt.specs.declared.decoder.place.PlaceFor.the-variants.{Own, Free, NoneFree}
 use Rattle.isdb_mmt.specs.declared.decoder.walk.Going.{Going}
 use Rattle.isdb_mmt.proofs.Names.{clash}
 use Rattle.isdb_mmt.proofs.Lent.{length-names}
 use Rattle.isdb_mmt.proofs.Limits.{Passed, passed}
 use Rattle.isdb_mmt.proofs.Checks.{count-was, place-was, control-was}
-use Rattle.isdb_mmt.proofs.Seats.{seat-was-old}
+use Rattle.isdb_mmt.proofs.PlacesFor.{place-for-was-old}
 use Rattle.isdb_mmt.proofs.Fragments.{Does}
 use Rattle.isdb_mmt.proofs.LinePlaces.{Sits, sits-old, sits-new, does, own, mpt-before, asks-message, leaves-parts, length-kept, no-place}
 use Rattle.isdb_mmt.proofs.Verdicts.{found-within}
@@ -115,7 +115,7 @@ NotLong c b Whole = grownLength c b ≤ mostMessage
 goes : (c : Control) (n : ℕ) (b : Bytes) (ends : Bool) → NotLong c b (continued ends c n b)
 unfolding continued
 goes c n b ends =
-    cond-elim (NotLong c b) (not (goesOn c n)) (λ e. tt) (λ e.
+    cond-elim (NotLong c b) (not (continuedBy c n)) (λ e. tt) (λ e.
     cond-elim (NotLong c b) (mostMessage <? grownLength c b) (λ d. tt) (λ d.
     cond-elim (NotLong c b) ends (λ z. ltb-false mostMessage (grownLength c b) d) (λ z. tt)))
 
@@ -190,7 +190,7 @@ none-asked l area r e =
 
 -- ---- a packet
 
-module _ (s : Session) (x : Ctl) (y : Meeting) (i k : ℕ) (ix log mine seam : List ℕ) (can : CanPushAt s x y i k ix log mine seam) where
+module _ (s : Session) (x : MessagePacket) (y : Meeting) (i k : ℕ) (ix log mine seam : List ℕ) (can : CanPushAt s x y i k ix log mine seam) where
   abbrev ok : Sound (s .state) (s .others) (lengthsOf s)
   ok = can .packet .session
 
@@ -212,13 +212,13 @@ module _ (s : Session) (x : Ctl) (y : Meeting) (i k : ℕ) (ix log mine seam : L
   whole : completes f ≡ true
   whole = can .packet .whole
 
-  seat-met : y .seat ≡ controlSeat (s .state) (x .id)
+  place-for-met : y .«place_for» ≡ controlPlaceFor (s .state) (x .id)
   unfolding meetingOf
-  seat-met = ap (λ (z : Meeting). z .seat) (can .packet .meets)
+  place-for-met = ap (λ (z : Meeting). z .«place_for») (can .packet .meets)
 
-  place-met : c ≡ placeIn (s .state) (y .seat)
+  place-met : c ≡ placeIn (s .state) (y .«place_for»)
   unfolding meetingOf
-  place-met = ap (λ (z : Meeting). z .place) (can .packet .meets) ∙ ap (placeIn (s .state)) (sym seat-met)
+  place-met = ap (λ (z : Meeting). z .place) (can .packet .meets) ∙ ap (placeIn (s .state)) (sym place-for-met)
 
   fate-met : f ≡ fateOf c (x .number) b
   unfolding meetingOf
@@ -226,21 +226,21 @@ module _ (s : Session) (x : Ctl) (y : Meeting) (i k : ℕ) (ix log mine seam : L
       ap (λ (z : Meeting). z .fate) (can .packet .meets)
       ∙ ap (λ (z : Control). fateOf z (x .number) b) (sym (ap (λ (z : Meeting). z .place) (can .packet .meets)))
 
-  sits-by : (k : ℕ) → y .seat ≡ seatAt i k → k ≤ 1 → Sits s (x .id) i k c
+  sits-by : (k : ℕ) → y .«place_for» ≡ placeForAt i k → k ≤ 1 → Sits s (x .id) i k c
   unfolding placeIn
-  sits-by zero e h = subst (Sits s (x .id) i 0) (sym (place-met ∙ ap (placeIn (s .state)) e)) (sits-old s ok (x .id) i (sym seat-met ∙ e))
-  sits-by (suc zero) e h = subst (Sits s (x .id) i 1) (sym (place-met ∙ ap (placeIn (s .state)) e)) (sits-new s ok (x .id) i (sym seat-met ∙ e))
+  sits-by zero e h = subst (Sits s (x .id) i 0) (sym (place-met ∙ ap (placeIn (s .state)) e)) (sits-old s ok (x .id) i (sym place-for-met ∙ e))
+  sits-by (suc zero) e h = subst (Sits s (x .id) i 1) (sym (place-met ∙ ap (placeIn (s .state)) e)) (sits-new s ok (x .id) i (sym place-for-met ∙ e))
   sits-by (suc (suc k)) e h = absurd (omega arith)
 
   at : Sits s (x .id) i k c
-  at = sits-by k (can .seat) (can .few)
+  at = sits-by k (can .place-for) (can .few)
 
-  small-by : (k : ℕ) → y .seat ≡ seatAt i k → c .mpt ≡ true → c .«mpt_length» ≤ l .«table_area»
-  unfolding placeIn controlSeat controlsIn
+  small-by : (k : ℕ) → y .«place_for» ≡ placeForAt i k → c .mpt ≡ true → c .«mpt_length» ≤ l .«table_area»
+  unfolding placeIn controlPlaceFor controlsIn
   small-by zero e t =
       let u : ℕ = usedOf (s .state) .«control_ids» in
       let names : List ℕ = namesFrom u controlSize controlPlaces (s .state) in
-      let w = found-within 0 names (x .id) i (seat-was-old names (l .«control_ids») (x .id) i (sym seat-met ∙ e)) in
+      let w = found-within 0 names (x .id) i (place-for-was-old names (l .«control_ids») (x .id) i (sym place-for-met ∙ e)) in
       let n : length names ≡ u = length-names controlSize u controlPlaces (s .state) in
       let q = control-was l (controlAt (s .state) i) (place-was (controlSound l) controlPlaceOf u controlSize controlPlaces (s .state) i (ok .messages) (omega arith)) in
       let ec : c ≡ controlAt (s .state) i = place-met ∙ ap (placeIn (s .state)) e in
@@ -248,7 +248,7 @@ module _ (s : Session) (x : Ctl) (y : Meeting) (i k : ℕ) (ix log mine seam : L
   small-by (suc k) e t = clash false (rw (place-met ∙ ap (placeIn (s .state)) e) at t) refl
 
   small : c .mpt ≡ true → c .«mpt_length» ≤ l .«table_area»
-  small t = small-by k (can .seat) t
+  small t = small-by k (can .place-for) t
 
   abbrev met : Passed l (lengthsOf s)
   met = passed l (lengthsOf s) (ok .limits)
@@ -283,7 +283,7 @@ module _ (s : Session) (x : Ctl) (y : Meeting) (i k : ℕ) (ix log mine seam : L
   abbrev m : Bytes
   m = heldIn (s .state) (s .messages) i c
 
-  abbrev j : Join
+  abbrev j : PartialMessage
   j = joinBy (isLast f) c m b
 
   message-room : (i + 1) * l .«message_area» ≤ length (s .messages)
@@ -321,13 +321,13 @@ module _ (s : Session) (x : Ctl) (y : Meeting) (i k : ℕ) (ix log mine seam : L
   abbrev n : State
   n = pushed v (message x)
 
-  abbrev line : Line
-  line = lineOf (x .id) v
+  abbrev line : Reassembly
+  line = reassemblyOf (x .id) v
 
   done : Does line x c m f
   done = does s ok x i k c at f fate-met
 
-  gives-is : lineGives line x ≡ some j
+  gives-is : messageCompleted line x ≡ some j
   gives-is = done .whole ∙ whole-is f whole c m b
 
   abbrev ts : List Table
@@ -335,7 +335,7 @@ module _ (s : Session) (x : Ctl) (y : Meeting) (i k : ℕ) (ix log mine seam : L
 
   given-is : tablesGiven line x ≡ ts
   unfolding tablesGiven cutOfAll
-  given-is = ap (λ (o : Option Join). map tableRead (cutOfAll o .tables)) gives-is
+  given-is = ap (λ (o : Option PartialMessage). map tableRead (cutOfAll o .tables)) gives-is
 
   abbrev mptB : Option Bytes
   mptB = given (c .mpt) (part ((l .sections + i) * l .«table_area») (c .«mpt_length») (s .tables))
@@ -353,13 +353,13 @@ module _ (s : Session) (x : Ctl) (y : Meeting) (i k : ℕ) (ix log mine seam : L
   abbrev c₁ : Counts
   c₁ = malformedMore c₀ (cutOf j .malformed)
 
-  line-counts : lineCounted (packetCounted (v .counters) 0 0 0) line x ≡ c₁
-  unfolding lineCounted messageCounted packetCounted view viewBy cutOfAll
+  line-counts : reassemblyCounted (packetCounted (v .counters) 0 0 0) line x ≡ c₁
+  unfolding reassemblyCounted messageCounted packetCounted view viewBy cutOfAll
   line-counts =
       let orphans = ap (λ z. a₀ .«orphan_fragments» + one z) (done .orphans) in
       let oversizes = ap (λ z. a₀ .oversize + one z) (done .oversizes) in
-      let bad : a₀ .«message_malformed» + (one (short x) + cutOfAll (lineGives line x) .malformed) ≡ a₀ .«message_malformed» + one (faultsOf f .malformed) + cutOf j .malformed =
-      ap (λ (o : Option Join). a₀ .«message_malformed» + (one (short x) + cutOfAll o .malformed)) gives-is
+      let bad : a₀ .«message_malformed» + (one (short x) + cutOfAll (messageCompleted line x) .malformed) ≡ a₀ .«message_malformed» + one (faultsOf f .malformed) + cutOf j .malformed =
+      ap (λ (o : Option PartialMessage). a₀ .«message_malformed» + (one (short x) + cutOfAll o .malformed)) gives-is
       ∙ ap (λ z. a₀ .«message_malformed» + (one z + cutOf j .malformed)) (done .shorts)
       ∙ assoc (a₀ .«message_malformed») (one (faultsOf f .malformed)) (cutOf j .malformed) in
       λ q.
@@ -395,7 +395,7 @@ module _ (s : Session) (x : Ctl) (y : Meeting) (i k : ℕ) (ix log mine seam : L
     kept-now = length (n .store .kept)
 
     kept-is : length (storedAll (v .store) ts .kept) ≡ kept-now
-    kept-is = ap (λ (z : Store). length (z .kept)) (sym store-is)
+    kept-is = ap (λ (z : KeptTables). length (z .kept)) (sym store-is)
 
     grows : usedOf (s .state) .sections ≤ kept-now
     grows =
@@ -484,7 +484,7 @@ module _ (s : Session) (x : Ctl) (y : Meeting) (i k : ℕ) (ix log mine seam : L
                 (latestOver l (storedAll (v .store) ts) (keptOver (l .«table_area») 0 (storedAll (v .store) ts .kept) (s .tables))))
                 (sym mpt-is)
                 ∙ ap
-                (λ (y : Store).
+                (λ (y : KeptTables).
                 bytesOver ((l .sections + i) * l .«table_area») (controlOf (x .id) n .mpt) (latestOver l y (keptOver (l .«table_area») 0 (y .kept) (s .tables))))
                 (sym store-is)
 
@@ -492,13 +492,13 @@ module _ (s : Session) (x : Ctl) (y : Meeting) (i k : ℕ) (ix log mine seam : L
             others-left =
                 eo
                 ∙ message-others s ok i (at .free) (c .mpt) (c .«mpt_length») small j c₀ (length (j .bytes) + 1) r ix₂ log₂ mine₂ w (free .full)
-                ∙ ap (λ (y : Store). y .others) (sym store-is)
+                ∙ ap (λ (y : KeptTables). y .others) (sym store-is)
 
             rows-left : take (sectionSize * r .used) ix₂ ≡ sectionRows (n .store .kept)
             rows-left =
                 message-rows s ok i (at .free) (c .mpt) (c .«mpt_length») small j c₀ (length (j .bytes) + 1) r ix₂ log₂ mine₂ w (free .full) (free .few) (free .fits)
                 (λ t. omega (arith, o t)) li
-                ∙ ap (λ (y : Store). sectionRows (y .kept)) (sym store-is)
+                ∙ ap (λ (y : KeptTables). sectionRows (y .kept)) (sym store-is)
 
             counters-left : countersWith (fragmentCounted f a₀) r ≡ countersFor (n .counters)
             counters-left =
@@ -525,9 +525,9 @@ module _ (s : Session) (x : Ctl) (y : Meeting) (i k : ℕ) (ix log mine seam : L
                 let h = sym (none-after f whole c b) in
                 ep ∙ (λ t. controlWith (x .id) (x .number) (h t) (mpt-there t) (mpt-long t))
 
-            seat-by : (k : ℕ) → y .seat ≡ seatAt i k → messageAt s n (x .id) (y .seat) ≡ messageIn s n (x .id) i
-            seat-by zero h = ap (messageAt s n (x .id)) h
-            seat-by (suc k) h = ap (messageAt s n (x .id)) h
+            place-for-by : (k : ℕ) → y .«place_for» ≡ placeForAt i k → messageAt s n (x .id) (y .«place_for») ≡ messageIn s n (x .id) i
+            place-for-by zero h = ap (messageAt s n (x .id)) h
+            place-for-by (suc k) h = ap (messageAt s n (x .id)) h
 
             session-left : lent state′ others′ (s .objects) (s .messages) tables′ ≡ packetLeaves s (message x)
             session-left =
@@ -549,7 +549,7 @@ module _ (s : Session) (x : Ctl) (y : Meeting) (i k : ℕ) (ix log mine seam : L
                 (laidBy f (i * l .«message_area») c b (s .messages))
                 (bytesOver ((l .sections + i) * l .«table_area») (controlOf (x .id) n .mpt)
                 (latestOver l (n .store) (keptOver (l .«table_area») 0 (n .store .kept) (s .tables)))))
-                ∙ sym (leaves-parts s ok x i k c at f fate-met (free .room) (y .seat) (sym seat-met) (seat-by k (can .seat)))
+                ∙ sym (leaves-parts s ok x i k c at f fate-met (free .room) (y .«place_for») (sym place-for-met) (place-for-by k (can .place-for)))
 
             pub whole-taken : QuietPushed s (message x) 0 (lent state′ others′ (s .objects) (s .messages) tables′)
             whole-taken = record { number = sym e0 ∙ number-is; same = λ h. absurd (h refl); session = λ h. session-left }
@@ -591,9 +591,9 @@ module _ (s : Session) (x : Ctl) (y : Meeting) (i k : ℕ) (ix log mine seam : L
               (ep ∙ (λ t. controlWith (x .id) (x .number) (ej t) (r .mpt .there) (en t))) state′
               (es ∙ ap (λ (y : Counters). stateLeft i k p y r ix₂ (s .state)) cs-is)
 
--- ---- the packet's seat
+-- ---- the packet's place
 
-module _ (s : Session) (x : Ctl) (y : Meeting) (h : CanPushWhole s x y) where
-  pub whole-full : y .seat ≡ Full → QuietPushed s (message x) 8 s
+module _ (s : Session) (x : MessagePacket) (y : Meeting) (h : CanPushWhole s x y) where
+  pub whole-full : y .«place_for» ≡ NoneFree → QuietPushed s (message x) 8 s
   unfolding meetingOf
-  whole-full e = no-place s (h .session) x (sym (ap (λ (z : Meeting). z .seat) (h .meets)) ∙ e)
+  whole-full e = no-place s (h .session) x (sym (ap (λ (z : Meeting). z .«place_for») (h .meets)) ∙ e)

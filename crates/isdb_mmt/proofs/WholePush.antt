@@ -16,7 +16,7 @@ use Rattle.isdb_tlv.specs.Guards.{if_then_else_, _<?_, _=?_}
 use Rattle.isdb_tlv.proofs.Guards.{either}
 use Rattle.isdb_tlv.proofs.Fields.{length-written}
 use Rattle.isdb_mmt.specs.Layout.{mostSections, mostControlIds, mostMessageArea, mostTableArea, mostCount, tableIds, usedPlace, latestPlace, countersPlace, controlPlaces, controlSize, sectionPlaces, sectionSize, stateSize}
-use Rattle.isdb_mmt.specs.Packet.{Bytes, Ctl, message}
+use Rattle.isdb_mmt.specs.Packet.{Bytes, MessagePacket, message}
 use Rattle.isdb_mmt.specs.Lent.{part, over}
 use Rattle.isdb_mmt.specs.Session.{Session, limitsOf, usedOf, usedFields, countersOf, countersFields, controlFields, latestFields}
 use Rattle.isdb_mmt.specs.MediaPush.{withUsed}
@@ -24,7 +24,7 @@ use Rattle.isdb_mmt.specs.Lines.{withLine, withCounts}
 use Rattle.isdb_mmt.specs.Verdict.{indexSize}
 use Rattle.isdb_mmt.specs.Dry.{Walked, CanWalk}
 use Rattle.isdb_mmt.specs.Start.{recentAt, goingIn, tablesAsk, countersWith, latestWith, CanGo}
-use Rattle.isdb_mmt.specs.Joins.{Join, cutOf}
+use Rattle.isdb_mmt.specs.Joins.{PartialMessage, cutOf}
 use Rattle.isdb_mmt.specs.Kept.{tableRead}
 use Rattle.isdb_mmt.specs.Placed.{joinOf, placedCut}
 use Rattle.isdb_mmt.specs.declared.decoder.verdict.Recent.{Recent}

@@ -1,5 +1,5 @@
 -- What the session is held against, drawn from the accepted packets alone: nothing here mentions a state. Of a media id: its
--- tape, its book (the term of the scope), the objects begun, and the stretches of tape that delivered objects are. Of a key: its
+-- reception log, its book (the term of the scope), the objects begun, and the stretches of the log that delivered objects are. Of a key: its
 -- well-formed sections, and the first of the last run of equal version.
 use Prim.Native.Nat.{ℕ, _+_, _-_, _%_, min}
 use mathlib.Core.Path.{_≡_}
@@ -9,37 +9,37 @@ use mathlib.Core.Option.{Option, none, some}
 use mathlib.Core.List.{List, [], _∷_, _++_, map}
 use lib.ListN.{length}
 use Rattle.isdb_tlv.specs.Guards.{if_then_else_, _≤?_, _=?_}
-use Rattle.isdb_mmt.specs.Packet.{Bytes, Piece, Packet, ipError, ntp, nonMmtp, media, message, control, other, readable}
+use Rattle.isdb_mmt.specs.Packet.{Bytes, PayloadUnit, Packet, ipError, ntp, nonMmtp, media, message, control, other, readable}
 use Rattle.isdb_mmt.specs.Objects.{Rec}
-use Rattle.isdb_mmt.specs.Joins.{Line, idle, lineAfter}
-use Rattle.isdb_mmt.specs.Kept.{Section, sectionOf, Table, aSection, emptyTable, mptTable, pltTable, totTable, cutSection, otherTable}
+use Rattle.isdb_mmt.specs.Joins.{Reassembly, idle, reassemblyAfter}
+use Rattle.isdb_mmt.specs.Kept.{Section, sectionOf, Table, aSection, emptyTable, mptTable, pltTable, totTable, truncatedSection, otherTable}
 use Rattle.isdb_mmt.specs.GivenTables.{tablesGiven}
 use Rattle.isdb_mmt.specs.declared.mpu.FragmentationIndicator.{FragmentationIndicator}
 use Rattle.isdb_mmt.specs.declared.mpu.FragmentationIndicator.the-variants.{Complete, Head, Middle, Last}
 
--- an id's tape: for each of its MPU-type packets the number, then the units of its readable clear payload under that number
-pub data Item : Type 0 where
-  seen : ℕ → Item
-  got : ℕ → FragmentationIndicator → Bytes → Item
+-- an id's reception log: for each of its MPU-type packets the number, then the units of its readable clear payload under that number
+pub data LogEntry : Type 0 where
+  packetNumber : ℕ → LogEntry
+  unitReceived : ℕ → FragmentationIndicator → Bytes → LogEntry
 
-unfoldable pub gots : ℕ → List Piece → List Item
-gots n [] = []
-gots n (u ∷ us) = got n (u .fragment) (u .bytes) ∷ gots n us
+unfoldable pub unitsReceived : ℕ → List PayloadUnit → List LogEntry
+unitsReceived n [] = []
+unitsReceived n (u ∷ us) = unitReceived n (u .fragment) (u .bytes) ∷ unitsReceived n us
 
-unfoldable pub itemsOf : ℕ → Packet → List Item
-unfolding gots
-itemsOf i ipError = []
-itemsOf i (ntp t) = []
-itemsOf i nonMmtp = []
-itemsOf i (media m) = if i =? m .id then seen (m .number) ∷ gots (m .number) (readable m) else []
-itemsOf i (message c) = []
-itemsOf i (control bs) = []
-itemsOf i other = []
+unfoldable pub logEntries : ℕ → Packet → List LogEntry
+unfolding unitsReceived
+logEntries i ipError = []
+logEntries i (ntp t) = []
+logEntries i nonMmtp = []
+logEntries i (media m) = if i =? m .id then packetNumber (m .number) ∷ unitsReceived (m .number) (readable m) else []
+logEntries i (message c) = []
+logEntries i (control bs) = []
+logEntries i other = []
 
-unfoldable pub tapeOf : ℕ → List Packet → List Item
-unfolding itemsOf
-tapeOf i [] = []
-tapeOf i (p ∷ ps) = itemsOf i p ++ tapeOf i ps
+unfoldable pub receptionLog : ℕ → List Packet → List LogEntry
+unfolding logEntries
+receptionLog i [] = []
+receptionLog i (p ∷ ps) = logEntries i p ++ receptionLog i ps
 
 -- the book: its own words for the number behind another and for the largest object
 unfoldable pub follower : ℕ → ℕ
@@ -74,36 +74,36 @@ missing none n = 0
 missing (some l) n = if n =? follower l then 0 else min ((n + 8589934592 - l - 1) % 4294967296) 1048576
 
 -- a continuing unit with data `d`; `e` says whether it is a Last
-unfoldable pub goesOn : Book → Bool → Bytes → Option Bytes → Book
-goesOn b e d none = b
-goesOn b e d (some h) =
+unfoldable pub continuedBy : Book → Bool → Bytes → Option Bytes → Book
+continuedBy b e d none = b
+continuedBy b e d (some h) =
     if length h + length d ≤? limit
     then (if e
     then record { number = b .number; held = none; dropped = b .dropped; lost = b .lost; delivered = b .delivered ++ ((h ++ d) ∷ []) }
     else record { number = b .number; held = some (h ++ d); dropped = b .dropped; lost = b .lost; delivered = b .delivered })
     else record { number = b .number; held = none; dropped = b .dropped + 1; lost = b .lost; delivered = b .delivered }
 
-unfoldable pub write : Book → Item → Book
-unfolding dropCounted inOrder missing goesOn
-write b (seen n) =
+unfoldable pub entered : Book → LogEntry → Book
+unfolding dropCounted inOrder missing continuedBy
+entered b (packetNumber n) =
     if inOrder (b .number) n
     then record { number = some n; held = b .held; dropped = b .dropped; lost = b .lost + missing (b .number) n; delivered = b .delivered }
     else record { number = some n; held = none; dropped = dropCounted (b .held) (b .dropped); lost = b .lost + missing (b .number) n; delivered = b .delivered }
-write b (got n Complete d) =
+entered b (unitReceived n Complete d) =
     record { number = b .number; held = none; dropped = dropCounted (b .held) (b .dropped); lost = b .lost; delivered = b .delivered ++ (d ∷ []) }
-write b (got n Head d) =
+entered b (unitReceived n Head d) =
     record { number = b .number; held = some d; dropped = dropCounted (b .held) (b .dropped); lost = b .lost; delivered = b .delivered }
-write b (got n Middle d) = goesOn b false d (b .held)
-write b (got n Last d) = goesOn b true d (b .held)
+entered b (unitReceived n Middle d) = continuedBy b false d (b .held)
+entered b (unitReceived n Last d) = continuedBy b true d (b .held)
 
-unfoldable pub writeAll : Book → List Item → Book
-unfolding write
-writeAll b [] = b
-writeAll b (x ∷ xs) = writeAll (write b x) xs
+unfoldable pub enteredAll : Book → List LogEntry → Book
+unfolding entered
+enteredAll b [] = b
+enteredAll b (x ∷ xs) = enteredAll (entered b x) xs
 
 unfoldable pub book : ℕ → List Packet → Book
-unfolding nothing writeAll tapeOf
-book i ps = writeAll nothing (tapeOf i ps)
+unfolding nothing enteredAll receptionLog
+book i ps = enteredAll nothing (receptionLog i ps)
 
 unfoldable pub isHeld : Option Bytes → ℕ
 isHeld none = 0
@@ -116,7 +116,7 @@ begins Head = 1
 begins Middle = 0
 begins Last = 0
 
-unfoldable pub begunIn : List Piece → ℕ
+unfoldable pub begunIn : List PayloadUnit → ℕ
 unfolding begins
 begunIn [] = 0
 begunIn (u ∷ us) = begins (u .fragment) + begunIn us
@@ -142,35 +142,35 @@ deliveredOf i [] = []
 deliveredOf i (r ∷ rs) = if (i =? r .id) && not (r .scrambled) then r .mfu .bytes ∷ deliveredOf i rs else deliveredOf i rs
 
 -- on from number `n`: each packet's number follows the one before, and every unit is a Middle; the last number is `m`
-abbrev pub Unbroken : ℕ → List Item → ℕ → Type 0
+abbrev pub Unbroken : ℕ → List LogEntry → ℕ → Type 0
 Unbroken n [] m = n ≡ m
-Unbroken n (seen k ∷ t) m = (k ≡ follower n) × Unbroken k t m
-Unbroken n (got k Complete d ∷ t) m = ⊥
-Unbroken n (got k Head d ∷ t) m = ⊥
-Unbroken n (got k Middle d ∷ t) m = Unbroken n t m
-Unbroken n (got k Last d ∷ t) m = ⊥
+Unbroken n (packetNumber k ∷ t) m = (k ≡ follower n) × Unbroken k t m
+Unbroken n (unitReceived k Complete d ∷ t) m = ⊥
+Unbroken n (unitReceived k Head d ∷ t) m = ⊥
+Unbroken n (unitReceived k Middle d ∷ t) m = Unbroken n t m
+Unbroken n (unitReceived k Last d ∷ t) m = ⊥
 
--- the data of the units of a stretch of tape, joined
-unfoldable pub joined : List Item → Bytes
+-- the data of the units of a stretch of the log, joined
+unfoldable pub joined : List LogEntry → Bytes
 joined [] = []
-joined (seen k ∷ t) = joined t
-joined (got k f d ∷ t) = d ++ joined t
+joined (packetNumber k ∷ t) = joined t
+joined (unitReceived k f d ∷ t) = d ++ joined t
 
--- a stretch of tape that is one object: a Complete unit; or a Head, then Middles over numbers without a break, up to a Last
-pub data Object : List Item → Type 0 where
-  whole : (n : ℕ) (d : Bytes) → Object (got n Complete d ∷ [])
-  divided : (n : ℕ) (d : Bytes) (mid : List Item) (m : ℕ) (e : Bytes) → Unbroken n mid m → Object (got n Head d ∷ mid ++ (got m Last e ∷ []))
+-- a stretch of the log that is one object: a Complete unit; or a Head, then Middles over numbers without a break, up to a Last
+pub data Object : List LogEntry → Type 0 where
+  whole : (n : ℕ) (d : Bytes) → Object (unitReceived n Complete d ∷ [])
+  divided : (n : ℕ) (d : Bytes) (mid : List LogEntry) (m : ℕ) (e : Bytes) → Unbroken n mid m → Object (unitReceived n Head d ∷ mid ++ (unitReceived m Last e ∷ []))
 
--- the objects `os` are stretches of the tape, in order and apart from one another, each with its stretch's data
-pub data Cut : List Item → List Bytes → Type 0 where
-  done : Cut [] []
-  skip : (x : Item) {t : List Item} {os : List Bytes} → Cut t os → Cut (x ∷ t) os
-  object : {o t : List Item} {os : List Bytes} → Object o → Cut t os → Cut (o ++ t) (joined o ∷ os)
+-- the objects `os` are stretches of the log, in order and apart from one another, each with its stretch's data
+pub data MadeOf : List LogEntry → List Bytes → Type 0 where
+  done : MadeOf [] []
+  skip : (x : LogEntry) {t : List LogEntry} {os : List Bytes} → MadeOf t os → MadeOf (x ∷ t) os
+  object : {o t : List LogEntry} {os : List Bytes} → Object o → MadeOf t os → MadeOf (o ++ t) (joined o ∷ os)
 
 -- a key's well-formed sections: header, CRC and body all parse
 unfoldable pub wellFormedIn : ℕ → List Section → List Section
 wellFormedIn k [] = []
-wellFormedIn k (x ∷ xs) = if (k =? x .key) && (x .headOk && x .bodyOk) then x ∷ wellFormedIn k xs else wellFormedIn k xs
+wellFormedIn k (x ∷ xs) = if (k =? x .key) && (x .headerAndCrcGood && x .bodyOk) then x ∷ wellFormedIn k xs else wellFormedIn k xs
 
 -- the sections among tables; MPT, PLT and TOT are none
 unfoldable pub sectionsAmong : List Table → List Section
@@ -180,27 +180,27 @@ sectionsAmong (emptyTable ∷ ts) = sectionsAmong ts
 sectionsAmong (mptTable ok n b ∷ ts) = sectionsAmong ts
 sectionsAmong (pltTable ok b ∷ ts) = sectionsAmong ts
 sectionsAmong (totTable ok c n b ∷ ts) = sectionsAmong ts
-sectionsAmong (cutSection ∷ ts) = sectionsAmong ts
+sectionsAmong (truncatedSection ∷ ts) = sectionsAmong ts
 sectionsAmong (otherTable id ∷ ts) = sectionsAmong ts
 
 -- the control ids' messages being joined, as a function of the id: nothing of a session's places
-abbrev pub Lines : Type 0
-Lines = ℕ → Line
+abbrev pub Reassemblies : Type 0
+Reassemblies = ℕ → Reassembly
 
 -- no control id has a message
-unfoldable pub allIdle : Lines
+unfoldable pub allIdle : Reassemblies
 allIdle i = idle
 
-unfoldable pub linesAfter : Lines → Packet → Lines
-linesAfter ls ipError i = ls i
-linesAfter ls (ntp t) i = ls i
-linesAfter ls nonMmtp i = ls i
-linesAfter ls (media m) i = ls i
-linesAfter ls (message c) i = if i =? c .id then lineAfter (ls (c .id)) c else ls i
-linesAfter ls (control bs) i = ls i
-linesAfter ls other i = ls i
+unfoldable pub reassembliesAfter : Reassemblies → Packet → Reassemblies
+reassembliesAfter ls ipError i = ls i
+reassembliesAfter ls (ntp t) i = ls i
+reassembliesAfter ls nonMmtp i = ls i
+reassembliesAfter ls (media m) i = ls i
+reassembliesAfter ls (message c) i = if i =? c .id then reassemblyAfter (ls (c .id)) c else ls i
+reassembliesAfter ls (control bs) i = ls i
+reassembliesAfter ls other i = ls i
 
-unfoldable pub sectionsFrom : Lines → Packet → List Section
+unfoldable pub sectionsFrom : Reassemblies → Packet → List Section
 unfolding sectionsAmong
 sectionsFrom ls ipError = []
 sectionsFrom ls (ntp t) = []
@@ -211,10 +211,10 @@ sectionsFrom ls (control bs) = map sectionOf bs
 sectionsFrom ls other = []
 
 -- the sections that reach `keep`, in order, drawn from the packets alone
-unfoldable pub reaching : Lines → List Packet → List Section
-unfolding sectionsFrom linesAfter
+unfoldable pub reaching : Reassemblies → List Packet → List Section
+unfolding sectionsFrom reassembliesAfter
 reaching ls [] = []
-reaching ls (p ∷ ps) = sectionsFrom ls p ++ reaching (linesAfter ls p) ps
+reaching ls (p ∷ ps) = sectionsFrom ls p ++ reaching (reassembliesAfter ls p) ps
 
 unfoldable pub wellFormed : ℕ → List Packet → List Section
 unfolding wellFormedIn reaching allIdle
@@ -226,10 +226,10 @@ AllOf v [] = Unit {0}
 AllOf v (x ∷ xs) = (x .version ≡ v) × AllOf v xs
 
 -- the last of the sections, if there is one, has another version than `v`
-abbrev pub EndsOff : ℕ → List Section → Type 0
-EndsOff v [] = Unit {0}
-EndsOff v (x ∷ []) = x .version ≢ v
-EndsOff v (x ∷ y ∷ ys) = EndsOff v (y ∷ ys)
+abbrev pub LastDiffers : ℕ → List Section → Type 0
+LastDiffers v [] = Unit {0}
+LastDiffers v (x ∷ []) = x .version ≢ v
+LastDiffers v (x ∷ y ∷ ys) = LastDiffers v (y ∷ ys)
 
 -- `x` is the first of the last run of equal version in `xs`
 pub record FirstOfLastRun (x : Section) (xs : List Section) : Type 0 where
@@ -237,4 +237,4 @@ pub record FirstOfLastRun (x : Section) (xs : List Section) : Type 0 where
   pub run : List Section
   pub is : xs ≡ before ++ x ∷ run
   pub alike : AllOf (x .version) run
-  pub starts : EndsOff (x .version) before
+  pub starts : LastDiffers (x .version) before

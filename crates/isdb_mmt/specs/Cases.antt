@@ -29,13 +29,13 @@ use Rattle.isdb_mmt.specs.Mpt.{declaredLength, mptAssets, mptTable, mptO
 use Rattle.isdb_mmt.specs.Message.{divisionOf, paTables, sectionTable, contentOf, tableAt, tablesFrom}
 use Rattle.isdb_mmt.specs.Packet.{Bytes, Packet, mediaOf, clear, readable, classify}
 use Rattle.isdb_mmt.specs.Maps.{find, put, orElse, isSome}
-use Rattle.isdb_mmt.specs.Objects.{Asset, Rec, fresh, gap, lostBy, grown, continued, unitDoes, didTo, objectOf, did, unitsDo, unitsGive, newMpu, jumped, mpuAfter, rangeAfter, malformedPayload, noted, assetAfter, tagged, passes, mediaGives}
-use Rattle.isdb_mmt.specs.Joins.{Join, idle, partBefore, joinedOn, partAfter, wholeOf, lineAfter, lineGives, orphan, oversize, tablesOf, tablesOfAll, messagesOf, cutOf, cutOfAll}
-use Rattle.isdb_mmt.specs.Kept.{Kept, bodyRead, sectionOf, otherVersion, keepIf, keep, keepAll, zeros, tabled, sectionAdds, tableById, tableRead, tableAdds, mptAfter, mptAfterAll, stored, storedAll, countedAll}
+use Rattle.isdb_mmt.specs.Objects.{Asset, Rec, fresh, gap, lostBy, grown, continued, effectOf, afterUnit, objectOf, unitEffect, afterUnits, deliveredBy, newMpu, jumped, mpuAfter, rangeAfter, malformedPayload, afterHeaders, assetAfter, tagged, passes, mediaGives}
+use Rattle.isdb_mmt.specs.Joins.{PartialMessage, idle, partBefore, joinedOn, partAfter, wholeOf, reassemblyAfter, messageCompleted, orphan, oversize, tablesOf, tablesOfAll, messagesOf, cutOf, cutOfAll}
+use Rattle.isdb_mmt.specs.Kept.{Kept, bodyRead, sectionOf, otherVersion, keepIf, keep, keepAll, zeros, tableCounted, sectionIncrements, tableById, tableRead, tableIncrements, mptAfter, mptAfterAll, stored, storedAll, countedAll}
 use Rattle.isdb_mmt.specs.GivenTables.{tablesGiven}
-use Rattle.isdb_mmt.specs.Model.{State, Control, opened, idleControl, assetOf, controlOf, packetCounted, messageCounted, lineCounted, timeAfter, pushed, gives}
-use Rattle.isdb_mmt.specs.Book.{book, nothing, writeAll, write, tapeOf, itemsOf, gots, follower, dropCounted, inOrder, missing, goesOn, deliveredOf}
-use Rattle.isdb_mmt.specs.Needs.{Needs, needs, unitsNeed, lineNeeds, tableArea, tablesNeed}
+use Rattle.isdb_mmt.specs.Model.{State, Control, opened, idleControl, assetOf, controlOf, packetCounted, messageCounted, reassemblyCounted, timeAfter, pushed, gives}
+use Rattle.isdb_mmt.specs.Book.{book, nothing, enteredAll, entered, receptionLog, logEntries, unitsReceived, follower, dropCounted, inOrder, missing, continuedBy, deliveredOf}
+use Rattle.isdb_mmt.specs.Needs.{Needs, needs, unitsNeed, reassemblyNeeds, tableArea, tablesNeed}
 use Rattle.isdb_mmt.specs.declared.maybe.MaybeU32.the-variants.{None as noU32}
 use Rattle.isdb_mmt.specs.declared.mpu.MfuHeader.{MfuHeader}
 use Rattle.isdb_mmt.specs.declared.mpu.MaybeMfu.{MaybeMfu}
@@ -107,7 +107,7 @@ pub data Told : Type 0 where
   joined : ℕ → ℕ → Option ℕ → Option Bytes → Option Bytes → Told
   asks : Needs → Told
 
-abbrev joiningIn : Option Join → Option Bytes
+abbrev joiningIn : Option PartialMessage → Option Bytes
 joiningIn none = none
 joiningIn (some j) = some (j .bytes)
 
@@ -117,7 +117,7 @@ joinedIn s c =
     joined (s .counters .orphans) (s .counters .messageMalformed) (c .line .number) (joiningIn (c .line .part)) (c .mpt)
 
 unfoldable pub told : Ask → Told
-unfolding bytesOf be feed feedByte crcOf packetType compressedOf fecType payloadType bitsOf entry extensionAt afterFixed mmtpOf isTlvSi sectionAt sectionsFrom sectionsOf lengthWidth stepAt splitFrom splitOf streamIdentifier descriptorOf descriptorsOf fragmentType indicator payloadHeader unitIn unitAt unitStep unitsFrom unitsOf follows lostFrom longSectionOf entryAt entriesFrom entriesTold nitBody nitOf sdtBody sdtOf declaredLength mptAssets mptTable mptOf divisionOf paTables sectionTable contentOf tableAt tablesFrom mediaOf classify find put orElse isSome fresh gap lostBy grown continued unitDoes didTo objectOf did unitsDo unitsGive clear readable newMpu jumped mpuAfter rangeAfter malformedPayload noted assetAfter tagged passes mediaGives idle partBefore joinedOn partAfter wholeOf lineAfter lineGives orphan oversize tablesOf tablesOfAll messagesOf cutOf cutOfAll bodyRead sectionOf otherVersion keepIf keep keepAll zeros tabled sectionAdds tableById tableRead tableAdds mptAfter mptAfterAll stored storedAll countedAll opened idleControl assetOf controlOf packetCounted messageCounted lineCounted tablesGiven timeAfter pushed gives book nothing writeAll write tapeOf itemsOf gots follower dropCounted inOrder missing goesOn deliveredOf needs unitsNeed lineNeeds tableArea tablesNeed pushAll giveAll heldBytes
+unfolding bytesOf be feed feedByte crcOf packetType compressedOf fecType payloadType bitsOf entry extensionAt afterFixed mmtpOf isTlvSi sectionAt sectionsFrom sectionsOf lengthWidth stepAt splitFrom splitOf streamIdentifier descriptorOf descriptorsOf fragmentType indicator payloadHeader unitIn unitAt unitStep unitsFrom unitsOf follows lostFrom longSectionOf entryAt entriesFrom entriesTold nitBody nitOf sdtBody sdtOf declaredLength mptAssets mptTable mptOf divisionOf paTables sectionTable contentOf tableAt tablesFrom mediaOf classify find put orElse isSome fresh gap lostBy grown continued effectOf afterUnit objectOf unitEffect afterUnits deliveredBy clear readable newMpu jumped mpuAfter rangeAfter malformedPayload afterHeaders assetAfter tagged passes mediaGives idle partBefore joinedOn partAfter wholeOf reassemblyAfter messageCompleted orphan oversize tablesOf tablesOfAll messagesOf cutOf cutOfAll bodyRead sectionOf otherVersion keepIf keep keepAll zeros tableCounted sectionIncrements tableById tableRead tableIncrements mptAfter mptAfterAll stored storedAll countedAll opened idleControl assetOf controlOf packetCounted messageCounted reassemblyCounted tablesGiven timeAfter pushed gives book nothing enteredAll entered receptionLog logEntries unitsReceived follower dropCounted inOrder missing continuedBy deliveredOf needs unitsNeed reassemblyNeeds tableArea tablesNeed pushAll giveAll heldBytes
 told (widthOf t) = width (lengthWidth t)
 told (decodedOf s) = decoded (descriptorsOf s)
 told (bodiesOf s) = bodies (map (λ r. partOf s (r .body)) (splitOf s .found))

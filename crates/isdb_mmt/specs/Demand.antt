@@ -5,12 +5,12 @@ use mathlib.Core.Bool.{Bool}
 use mathlib.Core.Option.{Option, none, some}
 use mathlib.Core.List.{List, [], _∷_, _++_, map}
 use lib.ListN.{length}
-use Rattle.isdb_mmt.specs.Packet.{Bytes, Piece, Packet, classify, ipError, ntp, nonMmtp, media, message, control, other, readable}
+use Rattle.isdb_mmt.specs.Packet.{Bytes, PayloadUnit, Packet, classify, ipError, ntp, nonMmtp, media, message, control, other, readable}
 use Rattle.isdb_mmt.specs.Maps.{find}
 use Rattle.isdb_mmt.specs.Objects.{Mfu, Rec}
 use Rattle.isdb_mmt.specs.Kept.{Kept, Section}
 use Rattle.isdb_mmt.specs.Model.{State, opened, assetOf, pushed, gives}
-use Rattle.isdb_mmt.specs.Book.{tapeOf, book, isHeld, begun, deliveredOf, Cut, wellFormed, FirstOfLastRun}
+use Rattle.isdb_mmt.specs.Book.{receptionLog, book, isHeld, begun, deliveredOf, MadeOf, wellFormed, FirstOfLastRun}
 
 -- the packets one after the other, and all that they give out
 unfoldable pub pushAll : State → List Packet → State
@@ -35,7 +35,7 @@ abbrev pub lostOf : ℕ → State → ℕ
 lostOf i s = assetOf i s .lost
 
 -- a unit is a part of its packet, which has at most 65,535 bytes
-abbrev pub AllSmall : List Piece → Type 0
+abbrev pub AllSmall : List PayloadUnit → Type 0
 AllSmall [] = Unit {0}
 AllSmall (u ∷ us) = (length (u .bytes) < 65536) × AllSmall us
 
@@ -76,7 +76,7 @@ pub record OfId (k w : ℕ) (h : Option Bytes) (os : List Bytes) (ps : List Pack
   pub dropped : k ≡ book i ps .dropped
   pub lost : w ≡ book i ps .lost
   pub held : h ≡ book i ps .held
-  pub made : Cut (tapeOf i ps) os
+  pub made : MadeOf (receptionLog i ps) os
   pub bounded : Bounded h
 
 -- of a key: what is kept is the first of the last run of equal version among its well-formed sections, and nothing is kept

@@ -9,8 +9,8 @@ use Rattle.isdb_tlv.specs.Guards.{if_then_else_, _<?_}
 use Rattle.isdb_mmt.specs.Packet.{Bytes}
 use Rattle.isdb_mmt.specs.Maps.{isSome, one}
 use Rattle.isdb_mmt.specs.Message.{fragmentOf}
-use Rattle.isdb_mmt.specs.Joins.{Join, mostMessage}
-use Rattle.isdb_mmt.specs.Needs.{joinLength}
+use Rattle.isdb_mmt.specs.Joins.{PartialMessage, mostMessage}
+use Rattle.isdb_mmt.specs.Needs.{partialLength}
 use Rattle.isdb_mmt.specs.Lent.{over}
 use Rattle.isdb_mmt.specs.Layout.{mostCount}
 use Rattle.isdb_mmt.specs.Place.{gapAfter}
@@ -27,8 +27,8 @@ use Rattle.isdb_mmt.specs.declared.decoder.messages.Joined.{Joined}
 -- ---- what becomes of a fragment
 
 -- a message is there to be continued: a gap takes it away
-unfoldable pub goesOn : Control → ℕ → Bool
-goesOn c n = if c .joining then not (gapAfter (c .seen) (c .sequence) n) else false
+unfoldable pub continuedBy : Control → ℕ → Bool
+continuedBy c n = if c .joining then not (gapAfter (c .seen) (c .sequence) n) else false
 
 -- the message's length with the fragment, whose data start at 2
 abbrev pub grownLength : Control → Bytes → ℕ
@@ -36,7 +36,7 @@ grownLength c b = c .length + (length b - 2)
 
 unfoldable pub continued : Bool → Control → ℕ → Bytes → Fate
 continued ends c n b =
-    if not (goesOn c n) then Orphan
+    if not (continuedBy c n) then Orphan
     else if mostMessage <? grownLength c b then Oversize
     else if ends then Whole
     else Grown
@@ -74,8 +74,8 @@ joinedBy Grown c b = joinedWith (c .«long_length») (c .aggregated) (grownLengt
 joinedBy Whole c b = noneJoined
 
 -- the model's, as a place holds it
-abbrev pub joinedAs : Option Join → Joined
-joinedAs o = record { joining = isSome o; «long_length» = longIn o; aggregated = aggregatedIn o; length = joinLength o }
+abbrev pub joinedAs : Option PartialMessage → Joined
+joinedAs o = record { joining = isSome o; «long_length» = longIn o; aggregated = aggregatedIn o; length = partialLength o }
 
 -- the place after, with the MPT that is kept then
 abbrev pub controlWith : ℕ → ℕ → Joined → Bool → ℕ → Control
@@ -115,7 +115,7 @@ areaBy Grown c b = grownLength c b
 areaBy Whole c b = grownLength c b
 
 -- the message that is whole with it, where `m` is what was joined before
-unfoldable pub wholeBy : Fate → Control → Bytes → Bytes → Option Join
+unfoldable pub wholeBy : Fate → Control → Bytes → Bytes → Option PartialMessage
 wholeBy Short c m b = none
 wholeBy Undivided c m b = some (record { long = flagsIn b .«long_length»; aggregated = flagsIn b .aggregated; bytes = drop 2 b })
 wholeBy First c m b = none

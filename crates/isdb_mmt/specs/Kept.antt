@@ -43,7 +43,7 @@ use Rattle.isdb_mmt.specs.Maps.{find, put, isSome, one}
 -- body parses, and how many descriptor loops break on the way; its declared bytes
 pub record Section : Type 0 where
   pub key : ℕ
-  pub headOk : Bool
+  pub headerAndCrcGood : Bool
   pub crcBad : Bool
   pub version : ℕ
   pub bodyOk : Bool
@@ -117,7 +117,7 @@ unfoldable pub sectionOf : Bytes → Section
 sectionOf b =
     record {
       key = keyOf b;
-      headOk = headIsOk (longSectionOf b);
+      headerAndCrcGood = headIsOk (longSectionOf b);
       crcBad = crcIsBad (longSectionOf b);
       version = versionIn (longSectionOf b);
       bodyOk = bodyRead (getD b 0 0) b .ok;
@@ -147,7 +147,7 @@ keepIf false b x m = m
 -- header and CRC; then the version, against the kept one's; then the body
 unfoldable pub keep : Section → List (ℕ × Kept) → List (ℕ × Kept)
 unfolding keepIf otherVersion find
-keep x m = cond (x .headOk) (keepIf (otherVersion (find (x .key) m) (x .version)) (x .bodyOk) x m) m
+keep x m = cond (x .headerAndCrcGood) (keepIf (otherVersion (find (x .key) m) (x .version)) (x .bodyOk) x m) m
 
 unfoldable pub keepAll : List Section → List (ℕ × Kept) → List (ℕ × Kept)
 unfolding keep
@@ -186,18 +186,18 @@ zeros =
     }
 
 -- what a table adds to the counts
-pub record Adds : Type 0 where
+pub record Increments : Type 0 where
   pub crcErrors : ℕ
   pub malformed : ℕ
   pub versionChanges : ℕ
   pub breaks : ℕ
 
-abbrev pub adds : ℕ → ℕ → ℕ → ℕ → Adds
-adds c m v b = record { crcErrors = c; malformed = m; versionChanges = v; breaks = b }
+abbrev pub increments : ℕ → ℕ → ℕ → ℕ → Increments
+increments c m v b = record { crcErrors = c; malformed = m; versionChanges = v; breaks = b }
 
 -- a table more, with what it adds
-unfoldable pub tabled : Counters → Adds → Counters
-tabled c x =
+unfoldable pub tableCounted : Counters → Increments → Counters
+tableCounted c x =
     record {
       tlvPackets = c .tlvPackets;
       ipErrors = c .ipErrors;
@@ -215,23 +215,23 @@ tabled c x =
 
 -- a section: a bad header or CRC is counted; a section of the kept version is passed over; another counts a version change
 -- before its body is read
-unfoldable pub sectionAdds : Section → Option Kept → Adds
+unfoldable pub sectionIncrements : Section → Option Kept → Increments
 unfolding otherVersion isSome
-sectionAdds x k =
-    if not (x .headOk) then adds (one (x .crcBad)) (one (not (x .crcBad))) 0 0
-    else if not (otherVersion k (x .version)) then adds 0 0 0 0
-    else adds 0 (one (not (x .bodyOk))) (one (isSome k)) (x .breaks)
+sectionIncrements x k =
+    if not (x .headerAndCrcGood) then increments (one (x .crcBad)) (one (not (x .crcBad))) 0 0
+    else if not (otherVersion k (x .version)) then increments 0 0 0 0
+    else increments 0 (one (not (x .bodyOk))) (one (isSome k)) (x .breaks)
 
 -- what is kept, beside the MPT of each control id
-pub record Store : Type 0 where
+pub record KeptTables : Type 0 where
   pub plt : Option Bytes
   pub tot : Option Bytes
   pub kept : List (ℕ × Kept)
   -- a count for each of the 256 table ids that are not read
   pub others : List ℕ
 
-abbrev pub storeWith : Store → List (ℕ × Kept) → Store
-storeWith s k = record { plt = s .plt; tot = s .tot; kept = k; others = s .others }
+abbrev pub keptTablesWith : KeptTables → List (ℕ × Kept) → KeptTables
+keptTablesWith s k = record { plt = s .plt; tot = s .tot; kept = k; others = s .others }
 
 -- a table of a message, by its id (Table 4-8)
 pub data Table : Type 0 where
@@ -244,7 +244,7 @@ pub data Table : Type 0 where
   -- A1h: whether it parses, and whether the CRC is what fails
   totTable : Bool → Bool → ℕ → Bytes → Table
   -- 8Bh to 9Bh, 9Dh, 9Fh, A0h under 7 bytes
-  cutSection : Table
+  truncatedSection : Table
   aSection : Section → Table
   otherTable : ℕ → Table
 
@@ -269,7 +269,7 @@ abbrev pub declaredTable : Bytes → Bytes
 declaredTable b = take (be 2 b 2 + 4) b
 
 abbrev pub longTable : Bytes → Table
-longTable b = if length b <? 7 then cutSection else aSection (sectionOf b)
+longTable b = if length b <? 7 then truncatedSection else aSection (sectionOf b)
 
 unfoldable pub tableById : ℕ → Bytes → Table
 tableById id b =
@@ -293,14 +293,14 @@ changes none b = false
 changes (some old) b = not (getD old 1 0 =? getD b 1 0)
 
 -- what a table adds to the counts, from the MPT `m` that is kept for its control id and all else that is kept
-unfoldable pub tableAdds : Option Bytes → Store → Table → Adds
-tableAdds m s emptyTable = adds 0 0 0 0
-tableAdds m s (mptTable ok breaks b) = adds 0 (one (not ok)) (one (ok && changes m b)) breaks
-tableAdds m s (pltTable ok b) = adds 0 (one (not ok)) (one (ok && changes (s .plt) b)) 0
-tableAdds m s (totTable ok crc breaks b) = adds (one crc) (one (not ok && not crc)) 0 breaks
-tableAdds m s cutSection = adds 0 1 0 0
-tableAdds m s (aSection x) = sectionAdds x (find (x .key) (s .kept))
-tableAdds m s (otherTable id) = adds 0 0 0 0
+unfoldable pub tableIncrements : Option Bytes → KeptTables → Table → Increments
+tableIncrements m s emptyTable = increments 0 0 0 0
+tableIncrements m s (mptTable ok breaks b) = increments 0 (one (not ok)) (one (ok && changes m b)) breaks
+tableIncrements m s (pltTable ok b) = increments 0 (one (not ok)) (one (ok && changes (s .plt) b)) 0
+tableIncrements m s (totTable ok crc breaks b) = increments (one crc) (one (not ok && not crc)) 0 breaks
+tableIncrements m s truncatedSection = increments 0 1 0 0
+tableIncrements m s (aSection x) = sectionIncrements x (find (x .key) (s .kept))
+tableIncrements m s (otherTable id) = increments 0 0 0 0
 
 -- what is kept after it
 abbrev pub latest : Bool → Option Bytes → Bytes → Option Bytes
@@ -313,7 +313,7 @@ mptAfter m emptyTable = m
 mptAfter m (mptTable ok breaks b) = latest ok m b
 mptAfter m (pltTable ok b) = m
 mptAfter m (totTable ok crc breaks b) = m
-mptAfter m cutSection = m
+mptAfter m truncatedSection = m
 mptAfter m (aSection x) = m
 mptAfter m (otherTable id) = m
 
@@ -323,25 +323,25 @@ mptAfterAll m [] = m
 mptAfterAll m (t ∷ ts) = mptAfterAll (mptAfter m t) ts
 
 -- all else
-unfoldable pub stored : Store → Table → Store
+unfoldable pub stored : KeptTables → Table → KeptTables
 stored s emptyTable = s
 stored s (mptTable ok breaks b) = s
 stored s (pltTable ok b) =
     record { plt = latest ok (s .plt) b; tot = s .tot; kept = s .kept; others = s .others }
 stored s (totTable ok crc breaks b) =
     record { plt = s .plt; tot = latest ok (s .tot) b; kept = s .kept; others = s .others }
-stored s cutSection = s
-stored s (aSection x) = storeWith s (keep x (s .kept))
+stored s truncatedSection = s
+stored s (aSection x) = keptTablesWith s (keep x (s .kept))
 stored s (otherTable id) =
     record { plt = s .plt; tot = s .tot; kept = s .kept; others = set (s .others) id (getD (s .others) id 0 + 1) }
 
-unfoldable pub storedAll : Store → List Table → Store
+unfoldable pub storedAll : KeptTables → List Table → KeptTables
 unfolding stored
 storedAll s [] = s
 storedAll s (t ∷ ts) = storedAll (stored s t) ts
 
 -- the counts after tables, each from what those before it leave
-unfoldable pub countedAll : Option Bytes → Store → Counters → List Table → Counters
-unfolding mptAfter stored tabled tableAdds
+unfoldable pub countedAll : Option Bytes → KeptTables → Counters → List Table → Counters
+unfolding mptAfter stored tableCounted tableIncrements
 countedAll m s c [] = c
-countedAll m s c (t ∷ ts) = countedAll (mptAfter m t) (stored s t) (tabled c (tableAdds m s t)) ts
+countedAll m s c (t ∷ ts) = countedAll (mptAfter m t) (stored s t) (tableCounted c (tableIncrements m s t)) ts

@@ -7,26 +7,26 @@ use mathlib.Core.Option.{Option, none, some}
 use mathlib.Core.List.{List, [], _∷_, _++_}
 use lib.ListN.{length}
 use Rattle.isdb_tlv.specs.Fields.{written}
-use Rattle.isdb_mmt.specs.Packet.{Bytes, Ctl, Packet, ipError, ntp, nonMmtp, media, message, control, other}
-use Rattle.isdb_mmt.specs.Joins.{Join}
-use Rattle.isdb_mmt.specs.Kept.{Kept, Store, Counters as Counts}
+use Rattle.isdb_mmt.specs.Packet.{Bytes, MessagePacket, Packet, ipError, ntp, nonMmtp, media, message, control, other}
+use Rattle.isdb_mmt.specs.Joins.{PartialMessage}
+use Rattle.isdb_mmt.specs.Kept.{Kept, KeptTables, Counters as Counts}
 use Rattle.isdb_mmt.specs.Model.{State, Control as ControlState, controlOf, pushed}
-use Rattle.isdb_mmt.specs.Lent.{over, namesFrom, seatOf}
+use Rattle.isdb_mmt.specs.Lent.{over, namesFrom, placeForName}
 use Rattle.isdb_mmt.specs.Layout.{usedPlace, latestPlace, timePlace, countersPlace, controlPlaces, controlSize, sectionPlaces}
 use Rattle.isdb_mmt.specs.Session.{Session, limitsOf, usedOf, usedFields, latestFields, timeFields, countersFields, controlFields, sectionFields}
 use Rattle.isdb_mmt.specs.View.{view}
 use Rattle.isdb_mmt.specs.Opening.{lent}
 use Rattle.isdb_mmt.specs.Placing.{controlFor, sectionFor, latestFor, countersFor}
 use Rattle.isdb_mmt.specs.MediaPush.{withUsed, mediaLeaves}
-use Rattle.isdb_mmt.specs.declared.decoder.place.Seat.{Seat}
-use Rattle.isdb_mmt.specs.declared.decoder.place.Seat.the-variants.{Old, New, Full}
+use Rattle.isdb_mmt.specs.declared.decoder.place.PlaceFor.{PlaceFor}
+use Rattle.isdb_mmt.specs.declared.decoder.place.PlaceFor.the-variants.{Own, Free, NoneFree}
 use Rattle.isdb_mmt.specs.declared.decoder.limits.Limits.{Limits}
 use Rattle.isdb_mmt.specs.declared.decoder.head.Used.{Used}
 use Rattle.isdb_mmt.specs.declared.decoder.section.KeptSection.{KeptSection}
 
 -- ---- places
 
-abbrev pub joinedIn : Option Join → Option Bytes
+abbrev pub joinedIn : Option PartialMessage → Option Bytes
 joinedIn none = none
 joinedIn (some j) = some (j .bytes)
 
@@ -51,7 +51,7 @@ sectionRows (e ∷ es) = written (sectionFields (keptPlace e)) ++ sectionRows es
 abbrev pub withSections : List (ℕ × Kept) → List ℕ → List ℕ
 withSections kept l = over sectionPlaces (sectionRows kept) l
 
-abbrev pub withLatest : Store → List ℕ → List ℕ
+abbrev pub withLatest : KeptTables → List ℕ → List ℕ
 withLatest s l = over latestPlace (written (latestFields (latestFor s))) l
 
 abbrev pub withTime : Option ℕ → List ℕ → List ℕ
@@ -77,7 +77,7 @@ keptOver area i [] t = t
 keptOver area i (e ∷ es) t = keptOver area (i + 1) es (over (i * area) (e .1 .bytes) t)
 
 -- then PLT and TOT
-abbrev pub latestOver : Limits → Store → Bytes → Bytes
+abbrev pub latestOver : Limits → KeptTables → Bytes → Bytes
 latestOver l s t =
     bytesOver ((l .sections + l .«control_ids» + 1) * l .«table_area») (s .tot)
     (bytesOver ((l .sections + l .«control_ids») * l .«table_area») (s .plt) t)
@@ -104,16 +104,16 @@ messageIn s n id i =
     (bytesOver ((limitsOf (s .state) .sections + i) * limitsOf (s .state) .«table_area») (controlOf id n .mpt)
     (latestOver (limitsOf (s .state)) (n .store) (keptOver (limitsOf (s .state) .«table_area») 0 (n .store .kept) (s .tables))))
 
-unfoldable pub controlSeat : List ℕ → ℕ → Seat
-controlSeat l id = seatOf (namesFrom (usedOf l .«control_ids») controlSize controlPlaces l) (limitsOf l .«control_ids») id
+unfoldable pub controlPlaceFor : List ℕ → ℕ → PlaceFor
+controlPlaceFor l id = placeForName (namesFrom (usedOf l .«control_ids») controlSize controlPlaces l) (limitsOf l .«control_ids») id
 
-abbrev pub messageAt : Session → State → ℕ → Seat → Session
-messageAt s n id (Old i) = messageIn s n id i
-messageAt s n id (New i) = messageIn s n id i
-messageAt s n id Full = s
+abbrev pub messageAt : Session → State → ℕ → PlaceFor → Session
+messageAt s n id (Own i) = messageIn s n id i
+messageAt s n id (Free i) = messageIn s n id i
+messageAt s n id NoneFree = s
 
-unfoldable pub messageLeaves : Session → Ctl → Session
-messageLeaves s c = messageAt s (pushed (view s) (message c)) (c .id) (controlSeat (s .state) (c .id))
+unfoldable pub messageLeaves : Session → MessagePacket → Session
+messageLeaves s c = messageAt s (pushed (view s) (message c)) (c .id) (controlPlaceFor (s .state) (c .id))
 
 unfoldable pub packetLeaves : Session → Packet → Session
 packetLeaves s ipError = countedIn s (pushed (view s) ipError)

@@ -8,8 +8,8 @@ use Rattle.isdb_tlv.specs.Guards.{if_then_else_, _=?_, _<?_}
 use Rattle.isdb_tlv.specs.Bytes.{be}
 use Rattle.isdb_mmt.specs.declared.decoder.place.Found.{Found}
 use Rattle.isdb_mmt.specs.declared.decoder.place.Found.the-variants.{At, Nothing}
-use Rattle.isdb_mmt.specs.declared.decoder.place.Seat.{Seat}
-use Rattle.isdb_mmt.specs.declared.decoder.place.Seat.the-variants.{Old, New, Full}
+use Rattle.isdb_mmt.specs.declared.decoder.place.PlaceFor.{PlaceFor}
+use Rattle.isdb_mmt.specs.declared.decoder.place.PlaceFor.the-variants.{Own, Free, NoneFree}
 
 -- the `n` bytes from `at`
 abbrev pub part : ℕ → ℕ → List ℕ → List ℕ
@@ -61,13 +61,13 @@ foundFrom i [] x = Nothing
 foundFrom i (y ∷ ys) x = if y =? x then At i else foundFrom (i + 1) ys x
 
 -- the place of `x`, or the next free one of `limit`
-abbrev pub seatAfter : ℕ → ℕ → Found → Seat
-seatAfter n limit (At i) = Old i
-seatAfter n limit Nothing = if n <? limit then New n else Full
+abbrev pub placeForFound : ℕ → ℕ → Found → PlaceFor
+placeForFound n limit (At i) = Own i
+placeForFound n limit Nothing = if n <? limit then Free n else NoneFree
 
-unfoldable pub seatOf : List ℕ → ℕ → ℕ → Seat
+unfoldable pub placeForName : List ℕ → ℕ → ℕ → PlaceFor
 unfolding foundFrom
-seatOf names limit x = seatAfter (length names) limit (foundFrom 0 names x)
+placeForName names limit x = placeForFound (length names) limit (foundFrom 0 names x)
 
 -- whether a test holds of each
 unfoldable pub every : {A : Type 0} → (A → Bool) → List A → Bool

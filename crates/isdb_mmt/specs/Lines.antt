@@ -7,13 +7,13 @@ use mathlib.Core.List.{List}
 use lib.ListN.{length}
 use Rattle.isdb_tlv.specs.Guards.{if_then_else_, _<?_}
 use Rattle.isdb_tlv.specs.Fields.{written}
-use Rattle.isdb_mmt.specs.Packet.{Bytes, Ctl}
+use Rattle.isdb_mmt.specs.Packet.{Bytes, MessagePacket}
 use Rattle.isdb_mmt.specs.Lent.{over}
 use Rattle.isdb_mmt.specs.Layout.{latestPlace, countersPlace, controlPlaces, controlSize, mostControlIds, mostMessageArea, stateSize}
 use Rattle.isdb_mmt.specs.Session.{Session, limitsOf, usedOf, latestOf, latestFields, countersOf, countersFields, controlFields, controlAt}
 use Rattle.isdb_mmt.specs.Check.{PlacesThere, Sound, lengthsOf}
 use Rattle.isdb_mmt.specs.MediaPush.{withUsed}
-use Rattle.isdb_mmt.specs.Leaves.{controlSeat}
+use Rattle.isdb_mmt.specs.Leaves.{controlPlaceFor}
 use Rattle.isdb_mmt.specs.Push.{mostBytes}
 use Rattle.isdb_mmt.specs.Fragments.{fateOf, joinedBy, controlWith, laidBy, areaBy, completes, fragmentCounted, CanCount}
 use Rattle.isdb_mmt.specs.declared.decoder.counts.Counters.{Counters}
@@ -22,11 +22,11 @@ use Rattle.isdb_mmt.specs.declared.decoder.head.Latest.{Latest}
 use Rattle.isdb_mmt.specs.declared.decoder.control.Control.{Control}
 use Rattle.isdb_mmt.specs.declared.decoder.messages.Fate.{Fate}
 use Rattle.isdb_mmt.specs.declared.decoder.messages.Meeting.{Meeting}
-use Rattle.isdb_mmt.specs.declared.decoder.place.Seat.{Seat}
-use Rattle.isdb_mmt.specs.declared.decoder.place.Seat.the-variants.{Old, New, Full}
+use Rattle.isdb_mmt.specs.declared.decoder.place.PlaceFor.{PlaceFor}
+use Rattle.isdb_mmt.specs.declared.decoder.place.PlaceFor.the-variants.{Own, Free, NoneFree}
 
-abbrev pub ctl : ℕ → ℕ → Bytes → Ctl
-ctl id n b = record { id = id; number = n; payload = b }
+abbrev pub messagePacket : ℕ → ℕ → Bytes → MessagePacket
+messagePacket id n b = record { id = id; number = n; payload = b }
 
 -- ---- the place
 
@@ -45,15 +45,15 @@ blankPlace =
     }
 
 -- an id without a place has a blank one
-unfoldable pub placeIn : List ℕ → Seat → Control
-placeIn l (Old i) = controlAt l i
-placeIn l (New i) = blankPlace
-placeIn l Full = blankPlace
+unfoldable pub placeIn : List ℕ → PlaceFor → Control
+placeIn l (Own i) = controlAt l i
+placeIn l (Free i) = blankPlace
+placeIn l NoneFree = blankPlace
 
-abbrev pub SeatThere : Seat → Type 0
-SeatThere (Old i) = i < mostControlIds
-SeatThere (New i) = Unit {0}
-SeatThere Full = Unit {0}
+abbrev pub SeatThere : PlaceFor → Type 0
+SeatThere (Own i) = i < mostControlIds
+SeatThere (Free i) = Unit {0}
+SeatThere NoneFree = Unit {0}
 
 -- ---- what is stored; the length of what is absent is 0
 
@@ -107,14 +107,14 @@ pub record JoinedAt (l m : List ℕ) (i k id n : ℕ) (b : Bytes) (c : Control) 
   pub state : r ≡ 0 → l′ ≡ stateNext i k (placeNext id n c f b) f l
   pub messages : r ≡ 0 → m′ ≡ laidBy f (i * limitsOf l .«message_area») c b m
 
--- ---- what a message packet meets: the seat of its id, its place, and what becomes of its fragment
+-- ---- what a message packet meets: the place of its id, its place, and what becomes of its fragment
 
-unfoldable pub meetingOf : List ℕ → Ctl → Meeting
+unfoldable pub meetingOf : List ℕ → MessagePacket → Meeting
 meetingOf l x =
     record {
-      seat = controlSeat l (x .id);
-      place = placeIn l (controlSeat l (x .id));
-      fate = fateOf (placeIn l (controlSeat l (x .id))) (x .number) (x .payload);
+      «place_for» = controlPlaceFor l (x .id);
+      place = placeIn l (controlPlaceFor l (x .id));
+      fate = fateOf (placeIn l (controlPlaceFor l (x .id))) (x .number) (x .payload);
     }
 
 pub record CanMeet (l : List ℕ) (b : Bytes) : Type 0 where
@@ -122,7 +122,7 @@ pub record CanMeet (l : List ℕ) (b : Bytes) : Type 0 where
   pub short : length b ≤ mostBytes
 
 -- no message is whole with it
-pub record CanJoin (s : Session) (x : Ctl) (y : Meeting) : Type 0 where
+pub record CanJoin (s : Session) (x : MessagePacket) (y : Meeting) : Type 0 where
   pub session : Sound (s .state) (s .others) (lengthsOf s)
   pub short : length (x .payload) ≤ mostBytes
   pub meets : y ≡ meetingOf (s .state) x

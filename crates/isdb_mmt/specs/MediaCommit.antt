@@ -30,8 +30,8 @@ use Rattle.isdb_mmt.specs.declared.mpu.PayloadHeader.{PayloadHeader}
 use Rattle.isdb_mmt.specs.declared.mpu.MaybeHeader.{MaybeHeader}
 use Rattle.isdb_mmt.specs.declared.mpu.MaybeHeader.the-variants.{None as noPayload, Some as payload}
 use Rattle.isdb_mmt.specs.declared.mpu.Unit.{Unit as DataUnit}
-use Rattle.isdb_mmt.specs.declared.decoder.place.Seat.{Seat}
-use Rattle.isdb_mmt.specs.declared.decoder.place.Seat.the-variants.{Old, New, Full}
+use Rattle.isdb_mmt.specs.declared.decoder.place.PlaceFor.{PlaceFor}
+use Rattle.isdb_mmt.specs.declared.decoder.place.PlaceFor.the-variants.{Own, Free, NoneFree}
 use Rattle.isdb_mmt.specs.declared.decoder.counts.AssetStats.{AssetStats}
 use Rattle.isdb_mmt.specs.declared.decoder.limits.Limits.{Limits}
 use Rattle.isdb_mmt.specs.declared.decoder.media.Object.{Object}
@@ -42,7 +42,7 @@ use Rattle.isdb_mmt.specs.declared.decoder.records.Answer.{Answer}
 
 -- ---- the place that a packet starts from: its id's, or a blank one
 
-pub record CanSeat (s : List ℕ) (l : Limits) : Type 0 where
+pub record CanTakePlace (s : List ℕ) (l : Limits) : Type 0 where
   pub there : PlacesThere s
   pub limits : l ≡ limitsOf s
 
@@ -74,15 +74,15 @@ blank =
       stats = noStats;
     }
 
-unfoldable pub placeIn : List ℕ → Seat → Media
-placeIn l (Old i) = mediaAt l i
-placeIn l (New i) = blank
-placeIn l Full = blank
+unfoldable pub placeIn : List ℕ → PlaceFor → Media
+placeIn l (Own i) = mediaAt l i
+placeIn l (Free i) = blank
+placeIn l NoneFree = blank
 
-abbrev pub indexOf : Seat → ℕ
-indexOf (Old i) = i
-indexOf (New i) = i
-indexOf Full = 0
+abbrev pub indexOf : PlaceFor → ℕ
+indexOf (Own i) = i
+indexOf (Free i) = i
+indexOf NoneFree = 0
 
 -- ---- the answer
 
@@ -105,11 +105,11 @@ fitsNumber area longest rows given records bytes =
     else if given <? bytes then 10
     else 0
 
-unfoldable pub numberOf : Seat → ℕ → ℕ → ℕ → ℕ → ℕ → ℕ → ℕ
+unfoldable pub numberOf : PlaceFor → ℕ → ℕ → ℕ → ℕ → ℕ → ℕ → ℕ
 unfolding fitsNumber
-numberOf Full area longest rows given records bytes = 8
-numberOf (Old i) area longest rows given records bytes = fitsNumber area longest rows given records bytes
-numberOf (New i) area longest rows given records bytes = fitsNumber area longest rows given records bytes
+numberOf NoneFree area longest rows given records bytes = 8
+numberOf (Own i) area longest rows given records bytes = fitsNumber area longest rows given records bytes
+numberOf (Free i) area longest rows given records bytes = fitsNumber area longest rows given records bytes
 
 abbrev pub refused : ℕ → Answer
 refused n = record { number = n; records = 0; bytes = 0 }
@@ -121,11 +121,11 @@ abbrev pub answerBy : ℕ → ℕ → ℕ → Answer
 answerBy n records bytes = if n =? 0 then accepted records bytes else refused n
 
 -- from the limits and the look at a payload of n bytes
-unfoldable pub answerOf : Seat → Limits → Bool → Look → ℕ → ℕ → ℕ → Answer
+unfoldable pub answerOf : PlaceFor → Limits → Bool → Look → ℕ → ℕ → ℕ → Answer
 unfolding passesOn numberOf
-answerOf seat l scrambled r n rows given =
+answerOf place-for l scrambled r n rows given =
     let passed : Bool = passesOn (l .«pass_scrambled») scrambled (r .header) in
-    answerBy (numberOf seat (l .«mfu_area») (r .units .longest) rows given (recordsOf passed (r .units)) (bytesOf passed n (r .units)))
+    answerBy (numberOf place-for (l .«mfu_area») (r .units .longest) rows given (recordsOf passed (r .units)) (bytesOf passed n (r .units)))
     (recordsOf passed (r .units)) (bytesOf passed n (r .units))
 
 -- what the sums are made of
@@ -206,31 +206,31 @@ pub record CanPass (b rows given : Bytes) : Type 0 where
 
 -- ---- the state
 
-unfoldable pub stateAfter : List ℕ → Media → Seat → List ℕ
-stateAfter l m (Old i) =
+unfoldable pub stateAfter : List ℕ → Media → PlaceFor → List ℕ
+stateAfter l m (Own i) =
     withPackets (countersOf l .«tlv_packets» + 1) (over (mediaPlaces + mediaSize * i) (written (mediaFields m)) l)
-stateAfter l m (New i) =
+stateAfter l m (Free i) =
     withPackets (countersOf l .«tlv_packets» + 1)
     (withUsed (oneMore (usedOf l)) (over (mediaPlaces + mediaSize * i) (written (mediaFields m)) l))
-stateAfter l m Full = l
+stateAfter l m NoneFree = l
 
-pub record CanStore (l : List ℕ) (seat : Seat) : Type 0 where
+pub record CanStore (l : List ℕ) (place-for : PlaceFor) : Type 0 where
   pub long : stateSize ≤ length l
-  pub index : indexOf seat < mostMediaIds
+  pub index : indexOf place-for < mostMediaIds
   pub used : usedOf l .«media_ids» ≤ mostMediaIds
   pub packets : countersOf l .«tlv_packets» ≤ mostCount
 
 -- ---- all of it
 
-pub record CanCommitAll (l : Limits) (seat : Seat) (p : Media) (r : Look) (h : Header) (b state objects rows given : Bytes) : Type 0 where
-  pub commit : CanCommit (indexOf seat * l .«mfu_area») (l .«pass_scrambled») p r h b objects rows given
-  pub store : CanStore state seat
+pub record CanCommitAll (l : Limits) (place-for : PlaceFor) (p : Media) (r : Look) (h : Header) (b state objects rows given : Bytes) : Type 0 where
+  pub commit : CanCommit (indexOf place-for * l .«mfu_area») (l .«pass_scrambled») p r h b objects rows given
+  pub store : CanStore state place-for
   pub modest : Modest (p .stats)
   pub area : l .«mfu_area» ≤ mostMfuArea
 
-pub record CommittedAll (l : Limits) (seat : Seat) (p : Media) (r : Look) (h : Header) (b state objects rows given state′ objects′ rows′ given′ : Bytes) : Type 0 where
-  pub commit : Committed (indexOf seat * l .«mfu_area») (l .«pass_scrambled») p h b objects rows given objects′ rows′ given′
-  pub store : state′ ≡ stateAfter state (placeAfter (h .«packet_id») p (h .sequence) (h .«scramble_info») (r .header) (r .bad) (r .units)) seat
+pub record CommittedAll (l : Limits) (place-for : PlaceFor) (p : Media) (r : Look) (h : Header) (b state objects rows given state′ objects′ rows′ given′ : Bytes) : Type 0 where
+  pub commit : Committed (indexOf place-for * l .«mfu_area») (l .«pass_scrambled») p h b objects rows given objects′ rows′ given′
+  pub store : state′ ≡ stateAfter state (placeAfter (h .«packet_id») p (h .sequence) (h .«scramble_info») (r .header) (r .bad) (r .units)) place-for
 
 -- ---- a push: question 5 is answered yes
 

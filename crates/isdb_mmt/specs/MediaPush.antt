@@ -8,20 +8,20 @@ use mathlib.Core.List.{List, [], _∷_}
 use lib.ListN.{length}
 use Rattle.isdb_tlv.specs.Guards.{if_then_else_, _<?_}
 use Rattle.isdb_tlv.specs.Fields.{field, written}
-use Rattle.isdb_mmt.specs.Packet.{Bytes, Media as MediaPacket, media}
+use Rattle.isdb_mmt.specs.Packet.{Bytes, MpuPacket, media}
 use Rattle.isdb_mmt.specs.Maps.{isSome, orElse}
 use Rattle.isdb_mmt.specs.Objects.{Mfu, Asset, assetAfter}
 use Rattle.isdb_mmt.specs.Model.{assetOf, gives}
 use Rattle.isdb_mmt.specs.Needs.{Needs, needs}
-use Rattle.isdb_mmt.specs.Lent.{over, namesFrom, seatOf}
+use Rattle.isdb_mmt.specs.Lent.{over, namesFrom, placeForName}
 use Rattle.isdb_mmt.specs.Layout.{usedPlace, countersPlace, mediaPlaces, mediaSize}
 use Rattle.isdb_mmt.specs.Session.{Session, limitsOf, usedOf, usedFields, countersOf, mediaFields}
 use Rattle.isdb_mmt.specs.View.{view}
 use Rattle.isdb_mmt.specs.Opening.{lent}
 use Rattle.isdb_mmt.specs.Records.{rowSize, rowsFrom, dataFrom}
 unfoldable pub use Rattle.isdb_mmt.specs.Placing.{noObject, heldFor, firstIn, statsFor, placeFor}
-use Rattle.isdb_mmt.specs.declared.decoder.place.Seat.{Seat}
-use Rattle.isdb_mmt.specs.declared.decoder.place.Seat.the-variants.{Old, New, Full}
+use Rattle.isdb_mmt.specs.declared.decoder.place.PlaceFor.{PlaceFor}
+use Rattle.isdb_mmt.specs.declared.decoder.place.PlaceFor.the-variants.{Own, Free, NoneFree}
 use Rattle.isdb_mmt.specs.declared.decoder.counts.AssetStats.{AssetStats}
 use Rattle.isdb_mmt.specs.declared.decoder.head.Used.{Used}
 use Rattle.isdb_mmt.specs.declared.decoder.limits.Limits.{Limits}
@@ -47,23 +47,23 @@ withUsed u l = over usedPlace (written (usedFields u)) l
 abbrev pub withPackets : ℕ → List ℕ → List ℕ
 withPackets n l = over countersPlace (written (field 8 n ∷ [])) l
 
-unfoldable pub mediaSeat : List ℕ → ℕ → Seat
-mediaSeat l id = seatOf (namesFrom (usedOf l .«media_ids») mediaSize mediaPlaces l) (limitsOf l .«media_ids») id
+unfoldable pub mediaPlaceFor : List ℕ → ℕ → PlaceFor
+mediaPlaceFor l id = placeForName (namesFrom (usedOf l .«media_ids») mediaSize mediaPlaces l) (limitsOf l .«media_ids») id
 
-abbrev pub leavesAt : Session → ℕ → Asset → Seat → Session
-leavesAt s id a (Old i) =
+abbrev pub leavesAt : Session → ℕ → Asset → PlaceFor → Session
+leavesAt s id a (Own i) =
     lent (withPackets (countersOf (s .state) .«tlv_packets» + 1) (withPlace i id a (s .state))) (s .others)
     (heldOver (i * limitsOf (s .state) .«mfu_area») (a .held) (s .objects)) (s .messages) (s .tables)
-leavesAt s id a (New i) =
+leavesAt s id a (Free i) =
     lent (withPackets (countersOf (s .state) .«tlv_packets» + 1) (withUsed (oneMore (usedOf (s .state))) (withPlace i id a (s .state)))) (s .others)
     (heldOver (i * limitsOf (s .state) .«mfu_area») (a .held) (s .objects)) (s .messages) (s .tables)
-leavesAt s id a Full = s
+leavesAt s id a NoneFree = s
 
-unfoldable pub assetNext : Session → MediaPacket → Asset
+unfoldable pub assetNext : Session → MpuPacket → Asset
 assetNext s m = assetAfter (assetOf (m .id) (view s)) m
 
-unfoldable pub mediaLeaves : Session → MediaPacket → Session
-mediaLeaves s m = leavesAt s (m .id) (assetNext s m) (mediaSeat (s .state) (m .id))
+unfoldable pub mediaLeaves : Session → MpuPacket → Session
+mediaLeaves s m = leavesAt s (m .id) (assetNext s m) (mediaPlaceFor (s .state) (m .id))
 
 -- ---- questions 8 to 10, by what the model would need
 
@@ -75,12 +75,12 @@ asksFor l u rows given n =
     else if given <? n .dataBytes then 10
     else 0
 
-unfoldable pub mediaAsks : Session → ℕ → ℕ → MediaPacket → ℕ
+unfoldable pub mediaAsks : Session → ℕ → ℕ → MpuPacket → ℕ
 mediaAsks s rows given m = asksFor (limitsOf (s .state)) (usedOf (s .state)) rows given (needs (view s) (media m))
 
 -- ---- a push: what is lent, with the output buffers, before and after
 
-pub record MediaPushed (s : Session) (rows given : Bytes) (m : MediaPacket) (r records bytes : ℕ) (s′ : Session) (rows′ given′ : Bytes) : Type 0 where
+pub record MediaPushed (s : Session) (rows given : Bytes) (m : MpuPacket) (r records bytes : ℕ) (s′ : Session) (rows′ given′ : Bytes) : Type 0 where
   pub number : r ≡ mediaAsks s (length rows) (length given) m
   pub same : (r ≡ 0 → ⊥) → s′ ≡ s
   pub kept : (r ≡ 0 → ⊥) → (rows′ ≡ rows) × (given′ ≡ given)

@@ -11,8 +11,8 @@ use Rattle.isdb_mmt.specs.declared.part.Part.{Part}
 use Rattle.isdb_mmt.specs.declared.message.Division.{Division}
 use Rattle.isdb_mmt.specs.declared.message.Division.the-variants.{Undivided, First, Middle, Last}
 use Rattle.isdb_mmt.specs.declared.message.Fragment.{Fragment}
-use Rattle.isdb_mmt.specs.declared.message.PieceStep.{PieceStep}
-use Rattle.isdb_mmt.specs.declared.message.PieceStep.the-variants.{End, Malformed, Piece}
+use Rattle.isdb_mmt.specs.declared.message.MessageStep.{MessageStep}
+use Rattle.isdb_mmt.specs.declared.message.MessageStep.the-variants.{End, Malformed, Message}
 use Rattle.isdb_mmt.specs.declared.message.Content.{Content}
 use Rattle.isdb_mmt.specs.declared.message.Content.the-variants.{Malformed as badMessage, Nothing, Table as oneTable, Tables}
 use Rattle.isdb_mmt.specs.declared.message.TableStep.{TableStep}
@@ -35,11 +35,11 @@ abbrev pub prefixWidth : Bool → ℕ
 prefixWidth long = if long then 4 else 2
 
 -- a message of an aggregated payload: a length and so many bytes; a tail too short for a length is dropped
-unfoldable pub pieceAt : List ℕ → Bool → ℕ → PieceStep
-pieceAt s long at =
+unfoldable pub aggregatedAt : List ℕ → Bool → ℕ → MessageStep
+aggregatedAt s long at =
     if length s - at <? prefixWidth long then End
     else if length s - (at + prefixWidth long) <? be (prefixWidth long) s at then Malformed
-    else Piece (part (at + prefixWidth long) (be (prefixWidth long) s at)) (at + prefixWidth long + be (prefixWidth long) s at)
+    else Message (part (at + prefixWidth long) (be (prefixWidth long) s at)) (at + prefixWidth long + be (prefixWidth long) s at)
 
 -- PA message: id 16 bits, version 8, length 32, body, as far as it is there
 abbrev pub bodyPart : List ℕ → Part
@@ -78,26 +78,26 @@ tableAt s at =
     else table (part at (be 2 s (at + 2) + 4)) (at + (be 2 s (at + 2) + 4))
 
 -- the messages of an aggregated payload's data, and how many lengths run past the end (0 or 1)
-pub record Pieces : Type 0 where
+pub record Aggregated : Type 0 where
   pub found : List Part
   pub malformed : ℕ
 
-abbrev pub alsoPiece : Part → Pieces → Pieces
-alsoPiece p l = record { found = p ∷ l .found; malformed = l .malformed }
+abbrev pub alsoMessage : Part → Aggregated → Aggregated
+alsoMessage p l = record { found = p ∷ l .found; malformed = l .malformed }
 
-abbrev pub pieceItem : PieceStep → Next Pieces
-pieceItem End = stop (record { found = []; malformed = 0 })
-pieceItem Malformed = stop (record { found = []; malformed = 1 })
-pieceItem (Piece p next) = more next (alsoPiece p)
+abbrev pub aggregatedItem : MessageStep → Next Aggregated
+aggregatedItem End = stop (record { found = []; malformed = 0 })
+aggregatedItem Malformed = stop (record { found = []; malformed = 1 })
+aggregatedItem (Message p next) = more next (alsoMessage p)
 
-unfoldable pub piecesFrom : List ℕ → Bool → ℕ → Pieces
-piecesFrom s long at = walk (λ p. pieceItem (pieceAt s long p)) (record { found = []; malformed = 0 }) (length s) at
+unfoldable pub aggregatedFrom : List ℕ → Bool → ℕ → Aggregated
+aggregatedFrom s long at = walk (λ p. aggregatedItem (aggregatedAt s long p)) (record { found = []; malformed = 0 }) (length s) at
 
 -- the tables of a PA message's body from a place on, and how many run past its end (0 or 1)
-abbrev pub tableItem : TableStep → Next Pieces
+abbrev pub tableItem : TableStep → Next Aggregated
 tableItem noMore = stop (record { found = []; malformed = 0 })
 tableItem badTable = stop (record { found = []; malformed = 1 })
-tableItem (table p next) = more next (alsoPiece p)
+tableItem (table p next) = more next (alsoMessage p)
 
-unfoldable pub tablesFrom : List ℕ → ℕ → Pieces
+unfoldable pub tablesFrom : List ℕ → ℕ → Aggregated
 tablesFrom s at = walk (λ p. tableItem (tableAt s p)) (record { found = []; malformed = 0 }) (length s) at

@@ -5,16 +5,16 @@ use mathlib.Core.Bool.{Bool}
 use mathlib.Core.Option.{Option, none, some}
 use mathlib.Core.List.{List, []}
 use lib.ListN.{replicate}
-use Rattle.isdb_mmt.specs.Packet.{Bytes, Ctl, Packet, ipError, ntp, nonMmtp, media, message, control, other}
+use Rattle.isdb_mmt.specs.Packet.{Bytes, MessagePacket, Packet, ipError, ntp, nonMmtp, media, message, control, other}
 use Rattle.isdb_mmt.specs.Maps.{find, put, orElse, one}
 use Rattle.isdb_mmt.specs.Objects.{fresh, assetAfter, mediaGives, Asset, Rec}
-use Rattle.isdb_mmt.specs.Joins.{idle, lineAfter, lineGives, orphan, oversize, cutOfAll, short, Line}
-use Rattle.isdb_mmt.specs.Kept.{zeros, mptAfterAll, storedAll, countedAll, Counters, Store}
+use Rattle.isdb_mmt.specs.Joins.{idle, reassemblyAfter, messageCompleted, orphan, oversize, cutOfAll, short, Reassembly}
+use Rattle.isdb_mmt.specs.Kept.{zeros, mptAfterAll, storedAll, countedAll, Counters, KeptTables}
 use Rattle.isdb_mmt.specs.GivenTables.{tablesGiven, controlTables}
 
 -- what is known of a control id: the message being joined, and the kept MPT
 pub record Control : Type 0 where
-  pub line : Line
+  pub line : Reassembly
   pub mpt : Option Bytes
 
 unfoldable pub idleControl : Control
@@ -27,7 +27,7 @@ pub record State : Type 0 where
   pub passing : Bool
   pub assets : List (ℕ × Asset)
   pub controls : List (ℕ × Control)
-  pub store : Store
+  pub store : KeptTables
   -- the last NTP timestamp
   pub time : Option ℕ
   pub counters : Counters
@@ -51,8 +51,8 @@ unfoldable pub controlOf : ℕ → State → Control
 unfolding orElse idleControl find
 controlOf i s = orElse idleControl (find i (s .controls))
 
-abbrev pub lineOf : ℕ → State → Line
-lineOf i s = controlOf i s .line
+abbrev pub reassemblyOf : ℕ → State → Reassembly
+reassemblyOf i s = controlOf i s .line
 
 -- a packet, with what is counted of it beside tables
 unfoldable pub packetCounted : Counters → ℕ → ℕ → ℕ → Counters
@@ -89,10 +89,10 @@ messageCounted c orphans oversizes bad =
       splitErrors = c .splitErrors;
     }
 
--- the counters that message.rs keeps, for a packet of a line
-unfoldable pub lineCounted : Counters → Line → Ctl → Counters
-lineCounted c l x =
-    messageCounted c (one (orphan l x)) (one (oversize l x)) (one (short x) + cutOfAll (lineGives l x) .malformed)
+-- the counters that message.rs keeps, for a message packet
+unfoldable pub reassemblyCounted : Counters → Reassembly → MessagePacket → Counters
+reassemblyCounted c l x =
+    messageCounted c (one (orphan l x)) (one (oversize l x)) (one (short x) + cutOfAll (messageCompleted l x) .malformed)
 
 unfoldable pub timeAfter : Option ℕ → Option ℕ → Option ℕ
 timeAfter o none = o
@@ -103,7 +103,7 @@ counting s c =
     record { passing = s .passing; assets = s .assets; controls = s .controls; store = s .store; time = s .time; counters = c }
 
 unfoldable pub pushed : State → Packet → State
-unfolding put assetAfter assetOf controlOf lineAfter lineGives mptAfterAll storedAll countedAll packetCounted lineCounted tablesGiven timeAfter
+unfolding put assetAfter assetOf controlOf reassemblyAfter messageCompleted mptAfterAll storedAll countedAll packetCounted reassemblyCounted tablesGiven timeAfter
 pushed s ipError = counting s (packetCounted (s .counters) 1 0 0)
 pushed s nonMmtp = counting s (packetCounted (s .counters) 0 1 0)
 pushed s other = counting s (packetCounted (s .counters) 0 0 0)
@@ -132,15 +132,15 @@ pushed s (message c) =
       controls =
           put (c .id)
           (record {
-            line = lineAfter (lineOf (c .id) s) c;
-            mpt = mptAfterAll (controlOf (c .id) s .mpt) (tablesGiven (lineOf (c .id) s) c);
+            line = reassemblyAfter (reassemblyOf (c .id) s) c;
+            mpt = mptAfterAll (controlOf (c .id) s .mpt) (tablesGiven (reassemblyOf (c .id) s) c);
           })
           (s .controls);
-      store = storedAll (s .store) (tablesGiven (lineOf (c .id) s) c);
+      store = storedAll (s .store) (tablesGiven (reassemblyOf (c .id) s) c);
       time = s .time;
       counters =
           countedAll (controlOf (c .id) s .mpt) (s .store)
-          (lineCounted (packetCounted (s .counters) 0 0 0) (lineOf (c .id) s) c) (tablesGiven (lineOf (c .id) s) c);
+          (reassemblyCounted (packetCounted (s .counters) 0 0 0) (reassemblyOf (c .id) s) c) (tablesGiven (reassemblyOf (c .id) s) c);
     }
 pushed s (control bs) =
     record {

@@ -5,13 +5,13 @@ use mathlib.Core.Bool.{Bool, true, false, cond, _&&_}
 use mathlib.Core.Option.{Option, none, some}
 use mathlib.Core.List.{List, [], _∷_}
 use lib.ListN.{length, drop}
-use Rattle.isdb_mmt.specs.Packet.{Bytes, Piece, Media, Ctl, Packet, ipError, ntp, nonMmtp, media, message, control, other, readable}
+use Rattle.isdb_mmt.specs.Packet.{Bytes, PayloadUnit, MpuPacket, MessagePacket, Packet, ipError, ntp, nonMmtp, media, message, control, other, readable}
 use Rattle.isdb_mmt.specs.Maps.{find}
-use Rattle.isdb_mmt.specs.Objects.{Mfu, Asset, Did, did, didTo, noted, Rec}
-use Rattle.isdb_mmt.specs.Joins.{Join, Line, short, flagsOf, partBefore, joinedOn}
-use Rattle.isdb_mmt.specs.Kept.{Section, otherVersion, Store, stored, Table, emptyTable, mptTable, pltTable, totTable, cutSection, aSection, otherTable}
+use Rattle.isdb_mmt.specs.Objects.{Mfu, Asset, UnitEffect, unitEffect, afterUnit, afterHeaders, Rec}
+use Rattle.isdb_mmt.specs.Joins.{PartialMessage, Reassembly, short, flagsOf, partBefore, joinedOn}
+use Rattle.isdb_mmt.specs.Kept.{Section, otherVersion, KeptTables, stored, Table, emptyTable, mptTable, pltTable, totTable, truncatedSection, aSection, otherTable}
 use Rattle.isdb_mmt.specs.GivenTables.{tablesGiven, controlTables}
-use Rattle.isdb_mmt.specs.Model.{State, assetOf, controlOf, lineOf, pushed, gives}
+use Rattle.isdb_mmt.specs.Model.{State, assetOf, controlOf, reassemblyOf, pushed, gives}
 use Rattle.isdb_mmt.specs.declared.mpu.FragmentationIndicator.{FragmentationIndicator}
 use Rattle.isdb_mmt.specs.declared.mpu.FragmentationIndicator.the-variants.{Complete, Head, Middle, Last}
 use Rattle.isdb_mmt.specs.declared.message.Division.{Division}
@@ -40,44 +40,44 @@ longestOf [] = 0
 longestOf (h ∷ hs) = max (length (h .bytes)) (longestOf hs)
 
 -- a Complete unit needs no area; an object above the maximum is dropped and asks for none
-abbrev pub unitArea : FragmentationIndicator → Did → ℕ
+abbrev pub unitArea : FragmentationIndicator → UnitEffect → ℕ
 unitArea Complete r = 0
 unitArea Head r = heldLength (r .held)
 unitArea Middle r = heldLength (r .held)
 unitArea Last r = longestOf (r .outs)
 
-unfoldable pub unitsNeed : Media → Asset → List Piece → ℕ
-unfolding did didTo
+unfoldable pub unitsNeed : MpuPacket → Asset → List PayloadUnit → ℕ
+unfolding unitEffect afterUnit
 unitsNeed m a [] = 0
-unitsNeed m a (u ∷ us) = max (unitArea (u .fragment) (did m a u)) (unitsNeed m (didTo a (did m a u)) us)
+unitsNeed m a (u ∷ us) = max (unitArea (u .fragment) (unitEffect m a u)) (unitsNeed m (afterUnit a (unitEffect m a u)) us)
 
-abbrev pub joinLength : Option Join → ℕ
-joinLength none = 0
-joinLength (some j) = length (j .bytes)
+abbrev pub partialLength : Option PartialMessage → ℕ
+partialLength none = 0
+partialLength (some j) = length (j .bytes)
 
 -- an undivided message needs no area
-abbrev pub fragmentArea : Division → Option Join → Bytes → ℕ
+abbrev pub fragmentArea : Division → Option PartialMessage → Bytes → ℕ
 fragmentArea Undivided j d = 0
 fragmentArea First j d = length d
-fragmentArea middlePart j d = joinLength (joinedOn j d)
-fragmentArea lastPart j d = joinLength (joinedOn j d)
+fragmentArea middlePart j d = partialLength (joinedOn j d)
+fragmentArea lastPart j d = partialLength (joinedOn j d)
 
-unfoldable pub lineNeeds : Line → Ctl → ℕ
+unfoldable pub reassemblyNeeds : Reassembly → MessagePacket → ℕ
 unfolding partBefore joinedOn
-lineNeeds l c = cond (short c) 0 (fragmentArea (flagsOf c .division) (partBefore l c) (drop 2 (c .payload)))
+reassemblyNeeds l c = cond (short c) 0 (fragmentArea (flagsOf c .division) (partBefore l c) (drop 2 (c .payload)))
 
 -- a table that is kept; one that is passed over or fails asks for none
-unfoldable pub tableArea : Store → Table → ℕ
+unfoldable pub tableArea : KeptTables → Table → ℕ
 unfolding find otherVersion
 tableArea s emptyTable = 0
 tableArea s (mptTable ok breaks b) = cond ok (length b) 0
 tableArea s (pltTable ok b) = cond ok (length b) 0
 tableArea s (totTable ok crc breaks b) = cond ok (length b) 0
-tableArea s cutSection = 0
-tableArea s (aSection x) = cond (x .headOk && (otherVersion (find (x .key) (s .kept)) (x .version) && x .bodyOk)) (length (x .bytes)) 0
+tableArea s truncatedSection = 0
+tableArea s (aSection x) = cond (x .headerAndCrcGood && (otherVersion (find (x .key) (s .kept)) (x .version) && x .bodyOk)) (length (x .bytes)) 0
 tableArea s (otherTable id) = 0
 
-unfoldable pub tablesNeed : Store → List Table → ℕ
+unfoldable pub tablesNeed : KeptTables → List Table → ℕ
 unfolding tableArea stored
 tablesNeed s [] = 0
 tablesNeed s (t ∷ ts) = max (tableArea s t) (tablesNeed (stored s t) ts)
@@ -86,7 +86,7 @@ abbrev pub objectFor : State → Packet → ℕ
 objectFor s ipError = 0
 objectFor s (ntp t) = 0
 objectFor s nonMmtp = 0
-objectFor s (media m) = unitsNeed m (noted (assetOf (m .id) s) m) (readable m)
+objectFor s (media m) = unitsNeed m (afterHeaders (assetOf (m .id) s) m) (readable m)
 objectFor s (message c) = 0
 objectFor s (control bs) = 0
 objectFor s other = 0
@@ -96,7 +96,7 @@ messageFor s ipError = 0
 messageFor s (ntp t) = 0
 messageFor s nonMmtp = 0
 messageFor s (media m) = 0
-messageFor s (message c) = lineNeeds (lineOf (c .id) s) c
+messageFor s (message c) = reassemblyNeeds (reassemblyOf (c .id) s) c
 messageFor s (control bs) = 0
 messageFor s other = 0
 
@@ -105,7 +105,7 @@ tableFor s ipError = 0
 tableFor s (ntp t) = 0
 tableFor s nonMmtp = 0
 tableFor s (media m) = 0
-tableFor s (message c) = tablesNeed (s .store) (tablesGiven (lineOf (c .id) s) c)
+tableFor s (message c) = tablesNeed (s .store) (tablesGiven (reassemblyOf (c .id) s) c)
 tableFor s (control bs) = tablesNeed (s .store) (controlTables bs)
 tableFor s other = 0
 
@@ -114,7 +114,7 @@ dataOf [] = 0
 dataOf (r ∷ rs) = length (r .mfu .bytes) + dataOf rs
 
 unfoldable pub needs : State → Packet → Needs
-unfolding pushed gives unitsNeed noted assetOf readable lineNeeds controlOf tablesNeed tablesGiven
+unfolding pushed gives unitsNeed afterHeaders assetOf readable reassemblyNeeds controlOf tablesNeed tablesGiven
 needs s p =
     record {
       mediaIds = length (pushed s p .assets) - length (s .assets);

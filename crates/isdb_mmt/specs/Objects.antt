@@ -7,7 +7,7 @@ use mathlib.Core.List.{List, [], _∷_, _++_}
 use lib.ListN.{length}
 use Rattle.isdb_tlv.specs.Guards.{if_then_else_, _≤?_, _=?_}
 use Rattle.isdb_mmt.specs.Mpu.{follows, lostFrom, completesOf}
-use Rattle.isdb_mmt.specs.Packet.{Bytes, Piece, Media, readable}
+use Rattle.isdb_mmt.specs.Packet.{Bytes, PayloadUnit, MpuPacket, readable}
 use Rattle.isdb_mmt.specs.declared.maybe.MaybeU32.{MaybeU32}
 use Rattle.isdb_mmt.specs.declared.maybe.MaybeU32.the-variants.{None as noU32}
 use Rattle.isdb_mmt.specs.declared.mpu.FragmentationIndicator.{FragmentationIndicator}
@@ -74,7 +74,7 @@ lostBy none n = 0
 lostBy (some l) n = if follows l n then 0 else lostFrom l n
 
 -- what one unit does: the object held after it, how many are dropped, which are delivered
-pub record Did : Type 0 where
+pub record UnitEffect : Type 0 where
   pub held : Option Mfu
   pub drops : ℕ
   pub outs : List Mfu
@@ -83,22 +83,22 @@ unfoldable pub grown : Mfu → Bytes → Mfu
 grown h d = record { mpu = h .mpu; rap = h .rap; mfu = h .mfu; itemId = h .itemId; bytes = h .bytes ++ d }
 
 -- an object continued: it fits or it is dropped; its end delivers it
-unfoldable pub continued : Bool → Bool → Mfu → Did
+unfoldable pub continued : Bool → Bool → Mfu → UnitEffect
 continued true true h = record { held = none; drops = 0; outs = h ∷ [] }
 continued true false h = record { held = some h; drops = 0; outs = [] }
 continued false e h = record { held = none; drops = 1; outs = [] }
 
-unfoldable pub unitDoes : FragmentationIndicator → Option Mfu → Mfu → Did
+unfoldable pub effectOf : FragmentationIndicator → Option Mfu → Mfu → UnitEffect
 unfolding isSome continued grown
-unitDoes Complete h u = record { held = none; drops = one (isSome h); outs = u ∷ [] }
-unitDoes Head h u = record { held = some u; drops = one (isSome h); outs = [] }
-unitDoes Middle none u = record { held = none; drops = 0; outs = [] }
-unitDoes Middle (some h) u = continued (length (h .bytes) + length (u .bytes) ≤? mostObject) false (grown h (u .bytes))
-unitDoes Last none u = record { held = none; drops = 0; outs = [] }
-unitDoes Last (some h) u = continued (length (h .bytes) + length (u .bytes) ≤? mostObject) true (grown h (u .bytes))
+effectOf Complete h u = record { held = none; drops = one (isSome h); outs = u ∷ [] }
+effectOf Head h u = record { held = some u; drops = one (isSome h); outs = [] }
+effectOf Middle none u = record { held = none; drops = 0; outs = [] }
+effectOf Middle (some h) u = continued (length (h .bytes) + length (u .bytes) ≤? mostObject) false (grown h (u .bytes))
+effectOf Last none u = record { held = none; drops = 0; outs = [] }
+effectOf Last (some h) u = continued (length (h .bytes) + length (u .bytes) ≤? mostObject) true (grown h (u .bytes))
 
-unfoldable pub didTo : Asset → Did → Asset
-didTo a r =
+unfoldable pub afterUnit : Asset → UnitEffect → Asset
+afterUnit a r =
     record {
       number = a .number;
       mpu = a .mpu;
@@ -124,23 +124,23 @@ mpuNumber none = 0
 mpuNumber (some h) = h .«mpu_sequence_number»
 
 -- the object that a unit begins
-unfoldable pub objectOf : Media → Piece → Mfu
+unfoldable pub objectOf : MpuPacket → PayloadUnit → Mfu
 objectOf m u =
     record { mpu = mpuNumber (m .header); rap = m .rap; mfu = u .mfu; itemId = u .itemId; bytes = u .bytes }
 
-unfoldable pub did : Media → Asset → Piece → Did
-unfolding unitDoes objectOf
-did m a u = unitDoes (u .fragment) (a .held) (objectOf m u)
+unfoldable pub unitEffect : MpuPacket → Asset → PayloadUnit → UnitEffect
+unfolding effectOf objectOf
+unitEffect m a u = effectOf (u .fragment) (a .held) (objectOf m u)
 
-unfoldable pub unitsDo : Media → Asset → List Piece → Asset
-unfolding didTo did
-unitsDo m a [] = a
-unitsDo m a (u ∷ us) = unitsDo m (didTo a (did m a u)) us
+unfoldable pub afterUnits : MpuPacket → Asset → List PayloadUnit → Asset
+unfolding afterUnit unitEffect
+afterUnits m a [] = a
+afterUnits m a (u ∷ us) = afterUnits m (afterUnit a (unitEffect m a u)) us
 
-unfoldable pub unitsGive : Media → Asset → List Piece → List Mfu
-unfolding didTo did
-unitsGive m a [] = []
-unitsGive m a (u ∷ us) = did m a u .outs ++ unitsGive m (didTo a (did m a u)) us
+unfoldable pub deliveredBy : MpuPacket → Asset → List PayloadUnit → List Mfu
+unfolding afterUnit unitEffect
+deliveredBy m a [] = []
+deliveredBy m a (u ∷ us) = unitEffect m a u .outs ++ deliveredBy m (afterUnit a (unitEffect m a u)) us
 
 unfoldable pub newMpu : Option ℕ → Option ℕ → Bool
 newMpu o none = false
@@ -171,14 +171,14 @@ completes none = false
 completes (some h) = completesOf (h .fragmentation)
 
 -- a payload whose header fails, or a clear one whose units do
-unfoldable pub malformedPayload : Media → Bool
+unfoldable pub malformedPayload : MpuPacket → Bool
 unfolding isSome
 malformedPayload m = cond (isSome (m .header)) (not (m .scrambled) && not (isSome (m .units))) true
 
 -- the gap rule, and what the packet's and the payload's headers count
-unfoldable pub noted : Asset → Media → Asset
+unfoldable pub afterHeaders : Asset → MpuPacket → Asset
 unfolding gap lostBy isSome mpuAfter newMpu jumped rangeAfter malformedPayload
-noted a m =
+afterHeaders a m =
     record {
       number = some (m .number);
       mpu = mpuAfter (a .mpu) (mpuIn (m .header));
@@ -195,9 +195,9 @@ noted a m =
       malformed = a .malformed + one (malformedPayload m);
     }
 
-unfoldable pub assetAfter : Asset → Media → Asset
-unfolding noted readable unitsDo
-assetAfter a m = unitsDo m (noted a m) (readable m)
+unfoldable pub assetAfter : Asset → MpuPacket → Asset
+unfolding afterHeaders readable afterUnits
+assetAfter a m = afterUnits m (afterHeaders a m) (readable m)
 
 -- a record that is given out: packet id, whether it is a scrambled payload passed on, the object
 pub record Rec : Type 0 where
@@ -210,7 +210,7 @@ tagged i [] = []
 tagged i (d ∷ ds) = record { id = i; scrambled = false; mfu = d } ∷ tagged i ds
 
 -- a scrambled payload with a good header, passed on from byte 8 to its end where the session is set so
-unfoldable pub passes : Bool → Media → List Rec
+unfoldable pub passes : Bool → MpuPacket → List Rec
 unfolding isSome
 passes pass m =
     cond (pass && (m .scrambled && isSome (m .header)))
@@ -221,6 +221,6 @@ passes pass m =
     } ∷ [])
     []
 
-unfoldable pub mediaGives : Bool → Asset → Media → List Rec
-unfolding passes tagged unitsGive noted readable
-mediaGives pass a m = passes pass m ++ tagged (m .id) (unitsGive m (noted a m) (readable m))
+unfoldable pub mediaGives : Bool → Asset → MpuPacket → List Rec
+unfolding passes tagged deliveredBy afterHeaders readable
+mediaGives pass a m = passes pass m ++ tagged (m .id) (deliveredBy m (afterHeaders a m) (readable m))

@@ -43,7 +43,7 @@ abbrev pub Bytes : Type 0
 Bytes = List ℕ
 
 -- a unit of a payload, with its data
-pub record Piece : Type 0 where
+pub record PayloadUnit : Type 0 where
   pub fragment : FragmentationIndicator
   pub mfu : MaybeMfu
   pub itemId : MaybeU32
@@ -51,39 +51,39 @@ pub record Piece : Type 0 where
 
 -- an MPU-type packet: its id and number, RAP flag, whether it counts as scrambled, its payload's header, its units where the
 -- payload parses whole, and the payload from byte 8 on
-pub record Media : Type 0 where
+pub record MpuPacket : Type 0 where
   pub id : ℕ
   pub number : ℕ
   pub rap : Bool
   pub scrambled : Bool
   pub header : Option PayloadHeader
-  pub units : Option (List Piece)
+  pub units : Option (List PayloadUnit)
   pub raw : Bytes
 
 abbrev pub headerIn : MaybeHeader → Option PayloadHeader
 headerIn noHeader = none
 headerIn (someHeader h) = some h
 
-abbrev pub pieceOf : PayloadHeader → Bytes → DataUnit → Piece
-pieceOf h q u = record { fragment = h .fragmentation; mfu = u .mfu; itemId = u .«item_id»; bytes = partOf q (u .«data») }
+abbrev pub payloadUnit : PayloadHeader → Bytes → DataUnit → PayloadUnit
+payloadUnit h q u = record { fragment = h .fragmentation; mfu = u .mfu; itemId = u .«item_id»; bytes = partOf q (u .«data») }
 
-abbrev pub piecesOf : PayloadHeader → Bytes → Option (List DataUnit) → Option (List Piece)
-piecesOf h q none = none
-piecesOf h q (some l) = some (map (pieceOf h q) l)
+abbrev pub payloadUnits : PayloadHeader → Bytes → Option (List DataUnit) → Option (List PayloadUnit)
+payloadUnits h q none = none
+payloadUnits h q (some l) = some (map (payloadUnit h q) l)
 
 -- only a payload of MFUs has units; another is whole with none
-abbrev pub unitsFor : PayloadHeader → FragmentType → Bytes → Option (List Piece)
-unitsFor h Mfu q = piecesOf h q (unitsOf q (h .timed) (h .aggregated))
+abbrev pub unitsFor : PayloadHeader → FragmentType → Bytes → Option (List PayloadUnit)
+unitsFor h Mfu q = payloadUnits h q (unitsOf q (h .timed) (h .aggregated))
 unitsFor h MpuMetadata q = some []
 unitsFor h MovieFragmentMetadata q = some []
 unitsFor h (reservedType c) q = some []
 
 -- `parse` of the whole payload: none without a header
-abbrev pub unitsRead : Bytes → Option PayloadHeader → Option (List Piece)
+abbrev pub unitsRead : Bytes → Option PayloadHeader → Option (List PayloadUnit)
 unitsRead payload none = none
 unitsRead payload (some h) = unitsFor h (h .«fragment_type») (declaredOf payload)
 
-unfoldable pub mediaOf : Header → Bytes → Media
+unfoldable pub mediaOf : Header → Bytes → MpuPacket
 mediaOf h payload =
     record {
       id = h .«packet_id»;
@@ -96,23 +96,23 @@ mediaOf h payload =
     }
 
 -- the units that are taken: those of a clear payload that parses ("readable clear")
-unfoldable pub clear : Bool → Option (List Piece) → List Piece
+unfoldable pub clear : Bool → Option (List PayloadUnit) → List PayloadUnit
 clear true us = []
 clear false none = []
 clear false (some us) = us
 
-unfoldable pub readable : Media → List Piece
+unfoldable pub readable : MpuPacket → List PayloadUnit
 unfolding clear
 readable m = clear (m .scrambled) (m .units)
 
 -- a message packet
-pub record Ctl : Type 0 where
+pub record MessagePacket : Type 0 where
   pub id : ℕ
   pub number : ℕ
   pub payload : Bytes
 
-abbrev pub ctl : ℕ → ℕ → Bytes → Ctl
-ctl id n b = record { id = id; number = n; payload = b }
+abbrev pub messagePacket : ℕ → ℕ → Bytes → MessagePacket
+messagePacket id n b = record { id = id; number = n; payload = b }
 
 pub data Packet : Type 0 where
   -- IP data that cannot be read
@@ -121,8 +121,8 @@ pub data Packet : Type 0 where
   ntp : Option ℕ → Packet
   -- a UDP payload that is no MMTP packet
   nonMmtp : Packet
-  media : Media → Packet
-  message : Ctl → Packet
+  media : MpuPacket → Packet
+  message : MessagePacket → Packet
   -- a control signal's sections, each with its bytes
   control : List Bytes → Packet
   -- a packet of another kind, or an MMTP packet of another type
@@ -130,7 +130,7 @@ pub data Packet : Type 0 where
 
 abbrev pub byType : Header → Bytes → PayloadType → Packet
 byType h payload Mpu = media (mediaOf h payload)
-byType h payload Messages = message (ctl (h .«packet_id») (h .sequence) payload)
+byType h payload Messages = message (messagePacket (h .«packet_id») (h .sequence) payload)
 byType h payload GenericObject = other
 byType h payload FecRepair = other
 byType h payload (Reserved c) = other

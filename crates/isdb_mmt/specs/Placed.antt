@@ -9,8 +9,8 @@ use Rattle.isdb_tlv.specs.Si.{sectionsFrom}
 use Rattle.isdb_tlv.specs.declared.si.Section.{Section}
 use Rattle.isdb_mmt.specs.Part.{part as partFor, partOf}
 use Rattle.isdb_mmt.specs.Packet.{Bytes}
-use Rattle.isdb_mmt.specs.Message.{contentOf, piecesFrom, tablesFrom}
-use Rattle.isdb_mmt.specs.Joins.{Join, partsOf, tablesOfAll, messagesOf}
+use Rattle.isdb_mmt.specs.Message.{contentOf, aggregatedFrom, tablesFrom}
+use Rattle.isdb_mmt.specs.Joins.{PartialMessage, partsOf, tablesOfAll, messagesOf}
 use Rattle.isdb_mmt.specs.Lent.{part}
 use Rattle.isdb_mmt.specs.declared.part.Part.{Part}
 use Rattle.isdb_mmt.specs.declared.message.Content.{Content}
@@ -25,7 +25,7 @@ abbrev pub placed : ℕ → Bytes → Part → Placed
 placed from b p = record { at = from + p .start; bytes = partOf b p }
 
 -- the message that is whole
-abbrev pub joinOf : Bool → Bool → Bytes → Join
+abbrev pub joinOf : Bool → Bool → Bytes → PartialMessage
 joinOf long aggregated b = record { long = long; aggregated = aggregated; bytes = b }
 
 abbrev pub bytesOf : List Placed → List Bytes
@@ -45,17 +45,17 @@ unfoldable pub placedOfAll : Bytes → List Part → List Placed
 placedOfAll b [] = []
 placedOfAll b (p ∷ ps) = placedOf (p .start) (partOf b p) ++ placedOfAll b ps
 
-unfoldable pub placedCut : Join → List Placed
+unfoldable pub placedCut : PartialMessage → List Placed
 placedCut j =
     if j .aggregated then placedOfAll (j .bytes) (messagesOf j .found) else placedOf 0 (j .bytes)
 
 -- of an aggregated payload's messages from a place on, and what is malformed there
 abbrev pub placedFrom : Bytes → Bool → ℕ → List Placed
-placedFrom b long at = placedOfAll b (piecesFrom b long at .found)
+placedFrom b long at = placedOfAll b (aggregatedFrom b long at .found)
 
 abbrev pub malformedFrom : Bytes → Bool → ℕ → ℕ
 malformedFrom b long at =
-    piecesFrom b long at .malformed + tablesOfAll (partsOf b (piecesFrom b long at .found)) .malformed
+    aggregatedFrom b long at .malformed + tablesOfAll (partsOf b (aggregatedFrom b long at .found)) .malformed
 
 -- a part of two pieces, one behind the other, of which the first has `n` bytes: what lies in the second
 unfoldable pub behind : ℕ → Part → Part

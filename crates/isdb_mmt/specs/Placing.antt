@@ -6,10 +6,10 @@ use lib.ListN.{length}
 use Rattle.isdb_mmt.specs.Packet.{Bytes}
 use Rattle.isdb_mmt.specs.Maps.{isSome, orElse}
 use Rattle.isdb_mmt.specs.Objects.{Mfu, Asset}
-use Rattle.isdb_mmt.specs.Joins.{Join}
-use Rattle.isdb_mmt.specs.Kept.{Kept, Store, Counters as Counts}
+use Rattle.isdb_mmt.specs.Joins.{PartialMessage}
+use Rattle.isdb_mmt.specs.Kept.{Kept, KeptTables, Counters as Counts}
 use Rattle.isdb_mmt.specs.Model.{Control as ControlState}
-use Rattle.isdb_mmt.specs.Needs.{joinLength}
+use Rattle.isdb_mmt.specs.Needs.{partialLength}
 use Rattle.isdb_mmt.specs.Records.{noHeader, objectFor}
 use Rattle.isdb_mmt.specs.declared.decoder.counts.AssetStats.{AssetStats}
 use Rattle.isdb_mmt.specs.declared.decoder.counts.Counters.{Counters}
@@ -62,11 +62,11 @@ placeFor id a =
     }
 
 -- the flags of the message that is being joined
-abbrev pub longIn : Option Join → Bool
+abbrev pub longIn : Option PartialMessage → Bool
 longIn none = false
 longIn (some j) = j .long
 
-abbrev pub aggregatedIn : Option Join → Bool
+abbrev pub aggregatedIn : Option PartialMessage → Bool
 aggregatedIn none = false
 aggregatedIn (some j) = j .aggregated
 
@@ -84,7 +84,7 @@ controlFor id c =
       joining = isSome (c .line .part);
       «long_length» = longIn (c .line .part);
       aggregated = aggregatedIn (c .line .part);
-      length = joinLength (c .line .part);
+      length = partialLength (c .line .part);
       mpt = isSome (c .mpt);
       «mpt_length» = tableLength (c .mpt);
     }
@@ -92,7 +92,7 @@ controlFor id c =
 abbrev pub sectionFor : ℕ → Kept → KeptSection
 sectionFor k x = record { key = k; version = x .version; length = length (x .bytes) }
 
-unfoldable pub latestFor : Store → Latest
+unfoldable pub latestFor : KeptTables → Latest
 unfolding isSome
 latestFor s =
     record {

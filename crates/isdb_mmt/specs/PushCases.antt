@@ -12,15 +12,15 @@ use Rattle.isdb_mmt.specs.Tot.{totFields, totOf}
 use Rattle.isdb_mmt.specs.Packet.{Bytes}
 use Rattle.isdb_mmt.specs.Objects.{Rec}
 use Rattle.isdb_mmt.specs.Layout.{tableIds, usedPlace, latestPlace, timePlace, countersPlace, mediaPlaces, heldPlace, statsPlace, controlPlaces, controlSize, sectionPlaces, sectionSize, stateSize}
-use Rattle.isdb_mmt.specs.Lent.{part, over, placesFrom, namesFrom, among, distinct, foundFrom, seatOf, every, indexed}
+use Rattle.isdb_mmt.specs.Lent.{part, over, placesFrom, namesFrom, among, distinct, foundFrom, placeForName, every, indexed}
 use Rattle.isdb_mmt.specs.Limits.{inRange, placesInRange, areasInRange, packetsInRange, lengthsFor, longEnough, asked}
 use Rattle.isdb_mmt.specs.Session.{Session, limitsOf, usedOf, latestOf, timeOf, countersOf, heldObjectOf, statsOf, mediaPlaceOf, controlPlaceOf, sectionPlaceOf}
 use Rattle.isdb_mmt.specs.Check.{mediaSound, controlSound, usedSound, latestSound, countersSound, mediaIn, controlsIn, sectionsIn, headSound, placesSound, namesSound, soundIn, sound}
 use Rattle.isdb_mmt.specs.View.{mfuOf, assetOfPlace, controlStateOf, viewBy, view}
 use Rattle.isdb_mmt.specs.Opening.{lent, openedState, openedSession}
 use Rattle.isdb_mmt.specs.Placing.{placeFor, controlFor, latestFor}
-use Rattle.isdb_mmt.specs.MediaPush.{mediaSeat, assetNext, mediaLeaves}
-use Rattle.isdb_mmt.specs.Leaves.{sectionRows, keptOver, controlLeaves, messageIn, controlSeat, messageLeaves, packetLeaves}
+use Rattle.isdb_mmt.specs.MediaPush.{mediaPlaceFor, assetNext, mediaLeaves}
+use Rattle.isdb_mmt.specs.Leaves.{sectionRows, keptOver, controlLeaves, messageIn, controlPlaceFor, messageLeaves, packetLeaves}
 use Rattle.isdb_mmt.specs.Push.{Input, packetOf, hasPlaces, hasAreas, hasOutputs, asksOf, asks, leavesAll}
 use Rattle.isdb_mmt.specs.Records.{rowsFrom, dataFrom, readRow, readRows}
 use Rattle.isdb_mmt.specs.Cases.{told as toldOfFeeds, compressed, mmtp, payload, completeOf, headOf, lastOf, ab, cd, oneTo14, header}
@@ -84,7 +84,7 @@ abbrev leftBy : ℕ × Bytes → Session
 leftBy p = packetLeaves (fresh 9) (packetOf (only p))
 
 unfoldable pub told : Ask → Told
-unfolding toldOfFeeds ipv4Of packageAt deliverySize deliveryAt deliveriesWhole pltDeliveries pltTable pltOf totFields totOf over placesFrom namesFrom among distinct foundFrom seatOf every indexed inRange placesInRange areasInRange packetsInRange lengthsFor longEnough asked limitsOf usedOf latestOf timeOf countersOf heldObjectOf statsOf mediaPlaceOf controlPlaceOf sectionPlaceOf mediaSound controlSound usedSound latestSound countersSound mediaIn controlsIn sectionsIn headSound placesSound namesSound soundIn sound mfuOf assetOfPlace controlStateOf viewBy view openedState openedSession placeFor controlFor latestFor mediaSeat assetNext mediaLeaves sectionRows keptOver controlLeaves messageIn controlSeat messageLeaves packetLeaves hasPlaces hasAreas hasOutputs asksOf asks leavesAll rowsFrom dataFrom readRow readRows
+unfolding toldOfFeeds ipv4Of packageAt deliverySize deliveryAt deliveriesWhole pltDeliveries pltTable pltOf totFields totOf over placesFrom namesFrom among distinct foundFrom placeForName every indexed inRange placesInRange areasInRange packetsInRange lengthsFor longEnough asked limitsOf usedOf latestOf timeOf countersOf heldObjectOf statsOf mediaPlaceOf controlPlaceOf sectionPlaceOf mediaSound controlSound usedSound latestSound countersSound mediaIn controlsIn sectionsIn headSound placesSound namesSound soundIn sound mfuOf assetOfPlace controlStateOf viewBy view openedState openedSession placeFor controlFor latestFor mediaPlaceFor assetNext mediaLeaves sectionRows keptOver controlLeaves messageIn controlPlaceFor messageLeaves packetLeaves hasPlaces hasAreas hasOutputs asksOf asks leavesAll rowsFrom dataFrom readRow readRows
 told (rowsOf rs) = bytes (rowsFrom 0 rs)
 told (recordsOf n rows given) = records (readRows n rows given)
 told (pushedTo s x) = number (asks s x)

@@ -10,7 +10,7 @@ use Rattle.isdb_mmt.specs.Packet.{Bytes}
 use Rattle.isdb_mmt.specs.Part.{partOf}
 use Rattle.isdb_mmt.specs.Maps.{find}
 use Rattle.isdb_mmt.specs.Objects.{Mfu, Asset}
-use Rattle.isdb_mmt.specs.Joins.{Join}
+use Rattle.isdb_mmt.specs.Joins.{PartialMessage}
 use Rattle.isdb_mmt.specs.Model.{Control as ControlLine}
 use Rattle.isdb_mmt.specs.Lent.{among}
 use Rattle.isdb_mmt.specs.Octets.{Octets}
@@ -66,7 +66,7 @@ abbrev pub objectLength : Option Mfu → MaybeU32
 objectLength none = noU32
 objectLength (some h) = someU32 (length (h .bytes))
 
-abbrev pub joinedLength : Option Join → MaybeU32
+abbrev pub joinedLength : Option PartialMessage → MaybeU32
 joinedLength none = noU32
 joinedLength (some j) = someU32 (length (j .bytes))
 

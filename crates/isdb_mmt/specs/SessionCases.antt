@@ -5,7 +5,7 @@ use mathlib.Core.Bool.{Bool, true, false}
 use mathlib.Core.List.{List, [], _∷_}
 use Rattle.isdb_mmt.specs.Worked.{Case, _⇒_, Holds}
 use Rattle.isdb_tlv.specs.Fields.{Field}
-use Rattle.isdb_mmt.specs.Lent.{among, distinct, foundFrom, seatOf}
+use Rattle.isdb_mmt.specs.Lent.{among, distinct, foundFrom, placeForName}
 use Rattle.isdb_mmt.specs.Layout.{mostMediaIds, mostControlIds, mostSections, mostMfuArea, mostMessageArea, mostTableArea, mostPackets, usedPlace, latestPlace, timePlace, countersPlace, mediaPlaces, objectPlace, statsPlace, mediaSize, controlSize, sectionSize, stateSize}
 use Rattle.isdb_mmt.specs.Limits.{inRange, placesInRange, areasInRange, packetsInRange, lengthsFor, longEnough, neededOf, asked}
 use Rattle.isdb_mmt.specs.Session.{limitsFields, usedFields, latestFields, timeFields, countersFields, numberFields, objectFields, mediaFields, controlFields, sectionFields}
@@ -13,8 +13,8 @@ use Rattle.isdb_mmt.specs.declared.decoder.limits.Limits.{Limits}
 use Rattle.isdb_mmt.specs.declared.decoder.limits.Lengths.{Lengths}
 use Rattle.isdb_mmt.specs.declared.decoder.limits.Need.{Need}
 use Rattle.isdb_mmt.specs.declared.decoder.limits.Need.the-variants.{Bytes as bytes, Refused}
-use Rattle.isdb_mmt.specs.declared.decoder.place.Seat.{Seat}
-use Rattle.isdb_mmt.specs.declared.decoder.place.Seat.the-variants.{Old, New, Full}
+use Rattle.isdb_mmt.specs.declared.decoder.place.PlaceFor.{PlaceFor}
+use Rattle.isdb_mmt.specs.declared.decoder.place.PlaceFor.the-variants.{Own, Free, NoneFree}
 use Rattle.isdb_mmt.specs.declared.decoder.counts.Counters.{Counters}
 use Rattle.isdb_mmt.specs.declared.decoder.head.Used.{Used}
 use Rattle.isdb_mmt.specs.declared.decoder.head.Latest.{Latest}
@@ -49,19 +49,19 @@ few = limits 4 4 4 4096 4096 2048 4294967295
 pub data Ask : Type 0 where
   needOf : Limits → Ask
   number : Limits → Lengths → Ask
-  seat : List ℕ → ℕ → ℕ → Ask
+  place-for : List ℕ → ℕ → ℕ → Ask
   apart : List ℕ → Ask
 
 pub data Told : Type 0 where
   need : Need → Told
   is : ℕ → Told
-  sits : Seat → Told
+  sits : PlaceFor → Told
   all : Bool → Told
 
 abbrev told : Ask → Told
 told (needOf l) = need (neededOf l)
 told (number l n) = is (asked l n)
-told (seat names limit x) = sits (seatOf names limit x)
+told (place-for names limit x) = sits (placeForName names limit x)
 told (apart names) = all (distinct names)
 
 abbrev cases : List (Case Ask Told)
@@ -98,15 +98,15 @@ cases =
     ∷ (number (limits 1 1 1 1 1 1 0) (lengths 0 0 0 0) ⇒ is 3)
     ∷ (number (limits 1 1 1 1 1 1 0) (lengths stateSize 1 1 4) ⇒ is 4)
     -- a name has its place, or takes the next one, or there is none
-    ∷ (seat (0xF100 ∷ 0xF101 ∷ []) 2 0xF101 ⇒ sits (Old 1))
-    ∷ (seat (0xF100 ∷ 0xF101 ∷ []) 3 0xF102 ⇒ sits (New 2))
-    ∷ (seat (0xF100 ∷ 0xF101 ∷ []) 2 0xF102 ⇒ sits Full)
+    ∷ (place-for (0xF100 ∷ 0xF101 ∷ []) 2 0xF101 ⇒ sits (Own 1))
+    ∷ (place-for (0xF100 ∷ 0xF101 ∷ []) 3 0xF102 ⇒ sits (Free 2))
+    ∷ (place-for (0xF100 ∷ 0xF101 ∷ []) 2 0xF102 ⇒ sits NoneFree)
     ∷ (apart (0xF100 ∷ 0xF101 ∷ 0xF102 ∷ []) ⇒ all true)
     ∷ (apart (0xF100 ∷ 0xF101 ∷ 0xF100 ∷ []) ⇒ all false)
     ∷ []
 
 pub table : Holds told cases
-unfolding inRange placesInRange areasInRange packetsInRange lengthsFor longEnough neededOf asked among distinct foundFrom seatOf
+unfolding inRange placesInRange areasInRange packetsInRange lengthsFor longEnough neededOf asked among distinct foundFrom placeForName
 table = refl
 
 -- the bytes of some fields

@@ -61,8 +61,8 @@ pub record KeptRead (s : Session) : Type 0 where
   pub plt : Reads (s .tables) (pltRead s) (λ b. pltParses (pltOf b)) (view s .store .plt)
   pub tot : Reads (s .tables) (totRead s) (λ b. totParses (totOf b .result)) (view s .store .tot)
 
-abbrev pub KeptTables : Type 0
-KeptTables = (s : Session) → sound s ≡ true → KeptRead s
+abbrev pub TablesAreTold : Type 0
+TablesAreTold = (s : Session) → sound s ≡ true → KeptRead s
 
 -- ---- the asset that a packet id carries
 

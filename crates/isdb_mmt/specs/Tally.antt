@@ -4,12 +4,12 @@ use Prim.Native.Nat.{ℕ, max}
 use mathlib.Core.Option.{Option}
 use mathlib.Core.List.{List, [], _∷_}
 use Rattle.isdb_mmt.specs.Packet.{Bytes}
-use Rattle.isdb_mmt.specs.Kept.{Counters, Store, Table, tabled, tableAdds, mptAfter, stored}
+use Rattle.isdb_mmt.specs.Kept.{Counters, KeptTables, Table, tableCounted, tableIncrements, mptAfter, stored}
 use Rattle.isdb_mmt.specs.Needs.{tableArea}
 
 pub record Tally : Type 0 where
   pub mpt : Option Bytes
-  pub store : Store
+  pub store : KeptTables
   pub counters : Counters
   pub longest : ℕ
 
@@ -18,7 +18,7 @@ taken w t =
     record {
       mpt = mptAfter (w .mpt) t;
       store = stored (w .store) t;
-      counters = tabled (w .counters) (tableAdds (w .mpt) (w .store) t);
+      counters = tableCounted (w .counters) (tableIncrements (w .mpt) (w .store) t);
       longest = max (w .longest) (tableArea (w .store) t);
     }
 

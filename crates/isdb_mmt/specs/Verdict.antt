@@ -10,7 +10,7 @@ use Rattle.isdb_mmt.specs.Maps.{one}
 use Rattle.isdb_mmt.specs.Lent.{part, placesFrom, foundFrom}
 use Rattle.isdb_mmt.specs.Layout.{mostSections, mostTableArea, sectionSize}
 use Rattle.isdb_mmt.specs.Session.{sectionPlaceOf}
-use Rattle.isdb_mmt.specs.Kept.{keyOf, declaredSection, sectionOf, Section, Table, emptyTable, mptTable, pltTable, totTable, cutSection, aSection, otherTable, eitBodyOk, sdtBodyOk, bitBodyOk, nitBodyOk, amtBodyOk}
+use Rattle.isdb_mmt.specs.Kept.{keyOf, declaredSection, sectionOf, Section, Table, emptyTable, mptTable, pltTable, totTable, truncatedSection, aSection, otherTable, eitBodyOk, sdtBodyOk, bitBodyOk, nitBodyOk, amtBodyOk}
 use Rattle.isdb_mmt.specs.Eit.{eitBody}
 use Rattle.isdb_mmt.specs.Sdt.{sdtBody}
 use Rattle.isdb_mmt.specs.Bit.{bitBody}
@@ -93,7 +93,7 @@ versionTold ks x (At i) =
 
 unfoldable pub sectionTold : List KeptSection → Section → Told
 sectionTold ks x =
-    if x .headOk then versionTold ks x (foundFrom 0 (keysOf ks) (x .key))
+    if x .headerAndCrcGood then versionTold ks x (foundFrom 0 (keysOf ks) (x .key))
     else if x .crcBad then told 1 0 0 0 Nothing
     else told 0 1 0 0 Nothing
 
@@ -118,7 +118,7 @@ toldOf ks m p emptyTable = told 0 0 0 0 Nothing
 toldOf ks m p (mptTable ok breaks b) = mptTold m ok breaks b
 toldOf ks m p (pltTable ok b) = pltTold p ok b
 toldOf ks m p (totTable ok crc breaks b) = totTold ok crc breaks b
-toldOf ks m p cutSection = told 0 1 0 0 Nothing
+toldOf ks m p truncatedSection = told 0 1 0 0 Nothing
 toldOf ks m p (aSection x) = sectionTold ks x
 toldOf ks m p (otherTable id) = told 0 0 0 0 (Other id)
 

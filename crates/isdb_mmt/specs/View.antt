@@ -6,8 +6,8 @@ use mathlib.Core.Option.{Option, none, some}
 use mathlib.Core.List.{List, [], _∷_}
 use Rattle.isdb_mmt.specs.Packet.{Bytes}
 use Rattle.isdb_mmt.specs.Objects.{Mfu, Asset}
-use Rattle.isdb_mmt.specs.Joins.{Join, Line}
-use Rattle.isdb_mmt.specs.Kept.{Kept, Store, Counters as Counts}
+use Rattle.isdb_mmt.specs.Joins.{PartialMessage, Reassembly}
+use Rattle.isdb_mmt.specs.Kept.{Kept, KeptTables, Counters as Counts}
 use Rattle.isdb_mmt.specs.Model.{State, Control as ControlState, opened}
 use Rattle.isdb_mmt.specs.Lent.{part, indexed}
 use Rattle.isdb_mmt.specs.Session.{Session, limitsOf, latestOf, timeOf, countersOf}

@@ -6,8 +6,8 @@ use mathlib.Core.List.{List, [], _++_}
 use lib.ListN.{length, take, drop, replicate}
 use Rattle.isdb_tlv.specs.Guards.{if_then_else_, _<?_, _=?_}
 use Rattle.isdb_mmt.specs.Layout.{mostSections, mostControlIds, mostMessageArea, mostTableArea, mostCount, tableIds, sectionPlaces, sectionSize, stateSize}
-use Rattle.isdb_mmt.specs.Packet.{Bytes, Ctl}
-use Rattle.isdb_mmt.specs.Joins.{Join, cutOf}
+use Rattle.isdb_mmt.specs.Packet.{Bytes, MessagePacket}
+use Rattle.isdb_mmt.specs.Joins.{PartialMessage, cutOf}
 use Rattle.isdb_mmt.specs.Kept.{tableRead}
 use Rattle.isdb_mmt.specs.Lent.{part, over}
 use Rattle.isdb_mmt.specs.Session.{Session, limitsOf, usedOf, countersOf}
@@ -26,8 +26,8 @@ use Rattle.isdb_mmt.specs.declared.decoder.control.Control.{Control}
 use Rattle.isdb_mmt.specs.declared.decoder.messages.Fate.{Fate}
 use Rattle.isdb_mmt.specs.declared.decoder.messages.Fate.the-variants.{Short, Undivided, First, Orphan, Oversize, Grown, Whole}
 use Rattle.isdb_mmt.specs.declared.decoder.messages.Meeting.{Meeting}
-use Rattle.isdb_mmt.specs.declared.decoder.place.Seat.{Seat}
-use Rattle.isdb_mmt.specs.declared.decoder.place.Seat.the-variants.{Old, New, Full}
+use Rattle.isdb_mmt.specs.declared.decoder.place.PlaceFor.{PlaceFor}
+use Rattle.isdb_mmt.specs.declared.decoder.place.PlaceFor.the-variants.{Own, Free, NoneFree}
 use Rattle.isdb_mmt.specs.declared.decoder.walk.Going.{Going}
 
 -- ---- the message: what was joined before, where it is the last fragment, and the packet's data
@@ -51,7 +51,7 @@ longBy last c b = if last then c .«long_length» else flagsIn b .«long_length�
 abbrev pub aggregatedBy : Bool → Control → Bytes → Bool
 aggregatedBy last c b = if last then c .aggregated else flagsIn b .aggregated
 
-abbrev pub joinBy : Bool → Control → Bytes → Bytes → Join
+abbrev pub joinBy : Bool → Control → Bytes → Bytes → PartialMessage
 joinBy last c m b = joinOf (longBy last c b) (aggregatedBy last c b) (beforeBy last m ++ drop 2 b)
 
 -- ---- the walk
@@ -64,7 +64,7 @@ abbrev pub goingFrom : List ℕ → List ℕ → Counters → ℕ → Control �
 goingFrom state t cs i c =
     goingIn state t cs (recentAt t ((limitsOf state .sections + i) * limitsOf state .«table_area») (c .mpt) (c .«mpt_length»))
 
-abbrev pub WalkedWhole : List ℕ → List ℕ → List ℕ → ℕ → Control → Counters → Join → Going → List ℕ → List ℕ → List ℕ → Type 0
+abbrev pub WalkedWhole : List ℕ → List ℕ → List ℕ → ℕ → Control → Counters → PartialMessage → Going → List ℕ → List ℕ → List ℕ → Type 0
 WalkedWhole state others t i c cs j r ix log mine =
     Walked tableRead (part sectionPlaces indexSize state) (replicate mostSections 0) others (goingFrom state t cs i c) (placedCut j) (length (j .bytes) + 1)
     (cutOf j .malformed) r ix log mine
@@ -110,7 +110,7 @@ pub record CanLeaveState (state ix : List ℕ) (i k : ℕ) (g : Going) : Type 0 
 
 -- ---- a packet
 
-pub record CanPushWhole (s : Session) (x : Ctl) (y : Meeting) : Type 0 where
+pub record CanPushWhole (s : Session) (x : MessagePacket) (y : Meeting) : Type 0 where
   pub session : Sound (s .state) (s .others) (lengthsOf s)
   pub othersLong : length (s .others) ≡ tableIds
   pub short : length (x .payload) ≤ mostBytes
@@ -118,13 +118,13 @@ pub record CanPushWhole (s : Session) (x : Ctl) (y : Meeting) : Type 0 where
   pub whole : completes (y .fate) ≡ true
 
 -- at the place `i` of its id; `k` is 1 where it is a new one
-abbrev pub seatAt : ℕ → ℕ → Seat
-seatAt i zero = Old i
-seatAt i (suc k) = New i
+abbrev pub placeForAt : ℕ → ℕ → PlaceFor
+placeForAt i zero = Own i
+placeForAt i (suc k) = Free i
 
-pub record CanPushAt (s : Session) (x : Ctl) (y : Meeting) (i k : ℕ) (ix log mine seam : List ℕ) : Type 0 where
+pub record CanPushAt (s : Session) (x : MessagePacket) (y : Meeting) (i k : ℕ) (ix log mine seam : List ℕ) : Type 0 where
   pub packet : CanPushWhole s x y
-  pub seat : y .seat ≡ seatAt i k
+  pub place-for : y .«place_for» ≡ placeForAt i k
   pub few : k ≤ 1
   pub copies : CopiesLent ix log mine
   pub seamLong : length seam ≡ mostTableArea

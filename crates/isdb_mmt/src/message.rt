@@ -4,7 +4,7 @@
 ghost use mathlib.Core.Path.{_≡_};
 ghost use Prim.Native.Nat.{_≤_};
 ghost use lib.ListN.{length};
-ghost use Rattle.isdb_mmt.specs.Message.{fragmentOf, prefixWidth, pieceAt, bodyPart, sectionTable, paTables, contentOf, tableAt};
+ghost use Rattle.isdb_mmt.specs.Message.{fragmentOf, prefixWidth, aggregatedAt, bodyPart, sectionTable, paTables, contentOf, tableAt};
 use crate::part;
 use crate::part::Part;
 use isdb_tlv::bytes;
@@ -48,12 +48,12 @@ pub fn fragment_of(flags: u8) -> Fragment
 }
 
 // A message of an aggregated payload.
-pub enum PieceStep {
+pub enum MessageStep {
     // Fewer bytes than a length has: they are dropped.
     End,
     // A length that runs past the end.
     Malformed,
-    Piece(Part, usize),
+    Message(Part, usize),
 }
 
 fn prefix_width(long: bool) -> u8
@@ -63,20 +63,20 @@ fn prefix_width(long: bool) -> u8
 }
 
 // The messages of an aggregated payload's data, by a cursor that starts at 0.
-pub fn next_piece(b: &[u8], long: bool, at: usize) -> PieceStep
-    ensures { λ r. ⌜ r ≡ pieceAt (now (b .entry)) long at ⌝ }
+pub fn next_message(b: &[u8], long: bool, at: usize) -> MessageStep
+    ensures { λ r. ⌜ r ≡ aggregatedAt (now (b .entry)) long at ⌝ }
 {
     let w = prefix_width(long);
     let k = w as usize;
     if part::left(b, at) < k {
-        return PieceStep::End;
+        return MessageStep::End;
     }
     let start = at + k;
     let n = bytes::number(b, at, w) as usize;
     if b.len() - start < n {
-        return PieceStep::Malformed;
+        return MessageStep::Malformed;
     }
-    PieceStep::Piece(Part { start, length: n }, start + n)
+    MessageStep::Message(Part { start, length: n }, start + n)
 }
 
 // What a message holds.

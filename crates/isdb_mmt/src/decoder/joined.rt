@@ -6,10 +6,10 @@ ghost use Prim.Native.Nat.{_+_, _-_, _*_, _≤_};
 ghost use lib.ListN.{length, getD};
 ghost use Rattle.isdb_tlv.specs.Bytes.{be};
 ghost use Rattle.isdb_mmt.specs.Layout.{mostMessageArea};
-ghost use Rattle.isdb_mmt.specs.Message.{prefixWidth, pieceAt, bodyPart, sectionTable, paTables, contentOf, tableAt};
+ghost use Rattle.isdb_mmt.specs.Message.{prefixWidth, aggregatedAt, bodyPart, sectionTable, paTables, contentOf, tableAt};
 ghost use Rattle.isdb_mmt.specs.Placed.{behind as behindIn};
 use crate::message::Content;
-use crate::message::PieceStep;
+use crate::message::MessageStep;
 use crate::message::TableStep;
 use crate::part::Part;
 use isdb_tlv::bytes;
@@ -84,21 +84,21 @@ fn prefix_width(long: bool) -> usize
 }
 
 // The messages of an aggregated payload, by a cursor that starts at 0.
-pub(crate) fn next_piece(a: &[u8], b: &[u8], long: bool, at: usize) -> PieceStep
+pub(crate) fn next_message(a: &[u8], b: &[u8], long: bool, at: usize) -> MessageStep
     requires { ⌜ length (now a ++ now b) ≤ mostMessageArea ⌝ }
-    ensures { λ r. ⌜ r ≡ pieceAt (now (a .entry) ++ now (b .entry)) long at ⌝ }
+    ensures { λ r. ⌜ r ≡ aggregatedAt (now (a .entry) ++ now (b .entry)) long at ⌝ }
 {
     let k = prefix_width(long);
     let all = size(a, b);
     if above(all, at) < k {
-        return PieceStep::End;
+        return MessageStep::End;
     }
     let start = at + k;
     let n = prefix(a, b, long, at);
     if all - start < n {
-        return PieceStep::Malformed;
+        return MessageStep::Malformed;
     }
-    PieceStep::Piece(Part { start, length: n }, start + n)
+    MessageStep::Message(Part { start, length: n }, start + n)
 }
 
 fn body_part(a: &[u8], b: &[u8]) -> Part

@@ -5,9 +5,9 @@ ghost use Prim.Native.Nat.{_+_, _*_, _≤_, _<_};
 ghost use lib.ListN.{length};
 ghost use Rattle.isdb_mmt.specs.Layout.{mostControlIds, stateSize};
 ghost use Rattle.isdb_mmt.specs.Check.{PlacesThere};
-ghost use Rattle.isdb_mmt.specs.Leaves.{controlSeat};
-ghost use Rattle.isdb_mmt.specs.Fragments.{goesOn, grownLength, continued as continuedAs, fateOf, flagsIn, joinedWith, noneJoined, joinedStill, joinedBy, controlWith, laidBy, areaBy, completes, countedWith, fragmentCounted, CanCount};
-ghost use Rattle.isdb_mmt.specs.Lines.{blankPlace, placeIn, SeatThere, lengthIf, tidyLatest, withMore, withLine, withCounts, placeNext, stateNext, CanStoreLine, CanJoinAt, JoinedAt, ctl, meetingOf, CanMeet, CanJoin};
+ghost use Rattle.isdb_mmt.specs.Leaves.{controlPlaceFor};
+ghost use Rattle.isdb_mmt.specs.Fragments.{continuedBy, grownLength, continued as continuedAs, fateOf, flagsIn, joinedWith, noneJoined, joinedStill, joinedBy, controlWith, laidBy, areaBy, completes, countedWith, fragmentCounted, CanCount};
+ghost use Rattle.isdb_mmt.specs.Lines.{blankPlace, placeIn, SeatThere, lengthIf, tidyLatest, withMore, withLine, withCounts, placeNext, stateNext, CanStoreLine, CanJoinAt, JoinedAt, messagePacket, meetingOf, CanMeet, CanJoin};
 ghost use Rattle.isdb_mmt.specs.Packet.{message};
 ghost use Rattle.isdb_mmt.specs.Opening.{lent};
 ghost use Rattle.isdb_mmt.specs.Push.{mostBytes, QuietPushed};
@@ -21,7 +21,7 @@ use crate::decoder::head::Used;
 use crate::decoder::layout::CONTROL_PLACES;
 use crate::decoder::layout::CONTROL_SIZE;
 use crate::decoder::place;
-use crate::decoder::place::Seat;
+use crate::decoder::place::PlaceFor;
 use crate::decoder::reassembler;
 use crate::message;
 use crate::message::Division;
@@ -54,9 +54,9 @@ pub(crate) struct Joined {
     pub length: u32,
 }
 
-// What a message packet meets: the seat of its id, its place, and what becomes of its fragment.
+// What a message packet meets: the place of its id, its place, and what becomes of its fragment.
 pub(crate) struct Meeting {
-    pub seat: Seat,
+    pub place_for: PlaceFor,
     pub place: Control,
     pub fate: Fate,
 }
@@ -66,7 +66,7 @@ const MOST_MESSAGE: u64 = 1048576;
 
 // Whether a message is there to be continued: a gap takes it away.
 fn goes_on(c: Control, n: u32) -> bool
-    ensures { λ r. ⌜ r ≡ goesOn c n ⌝ }
+    ensures { λ r. ⌜ r ≡ continuedBy c n ⌝ }
 {
     if c.joining {
         return !reassembler::is_gap(c.seen, c.sequence, n);
@@ -280,13 +280,13 @@ fn blank_place() -> Control
 }
 
 // Where a control id has its place, or takes the next one.
-pub(crate) fn control_seat(s: &[u8], id: u32) -> Seat
+pub(crate) fn control_place_for(s: &[u8], id: u32) -> PlaceFor
     requires { ⌜ PlacesThere (now s) ⌝ }
-    ensures { λ r. ⌜ r ≡ controlSeat (now (s .entry)) id ⌝ }
+    ensures { λ r. ⌜ r ≡ controlPlaceFor (now (s .entry)) id ⌝ }
 {
     let l = head::load_limits(s);
     let u = head::load_used(s);
-    place::seat_for(
+    place::place_for(
         s,
         CONTROL_PLACES,
         CONTROL_SIZE,
@@ -297,25 +297,29 @@ pub(crate) fn control_seat(s: &[u8], id: u32) -> Seat
 }
 
 // An id without a place has a blank one.
-pub(crate) fn place_in(s: &[u8], t: Seat) -> Control
+pub(crate) fn place_in(s: &[u8], t: PlaceFor) -> Control
     requires { ⌜ SeatThere t ⌝ }
     ensures { λ r. ⌜ r ≡ placeIn (now (s .entry)) t ⌝ }
 {
     match t {
-        Seat::Old(i) => control::load_control(s, i),
-        Seat::New(i) => blank_place(),
-        Seat::Full => blank_place(),
+        PlaceFor::Own(i) => control::load_control(s, i),
+        PlaceFor::Free(i) => blank_place(),
+        PlaceFor::NoneFree => blank_place(),
     }
 }
 
 pub(crate) fn meet(state: &[u8], id: u16, n: u32, b: &[u8]) -> Meeting
     requires { ⌜ CanMeet (now state) (now b) ⌝ }
-    ensures { λ r. ⌜ r ≡ meetingOf (now (state .entry)) (ctl id n (now (b .entry))) ⌝ }
+    ensures { λ r. ⌜ r ≡ meetingOf (now (state .entry)) (messagePacket id n (now (b .entry))) ⌝ }
 {
-    let seat = control_seat(state, id as u32);
-    let place = place_in(state, seat);
+    let place_for = control_place_for(state, id as u32);
+    let place = place_in(state, place_for);
     let fate = fate_of(place, n, b);
-    Meeting { seat, place, fate }
+    Meeting {
+        place_for,
+        place,
+        fate,
+    }
 }
 
 // Whether a message is whole with a fragment.
@@ -439,16 +443,16 @@ pub(crate) fn push_fragment(
     b: &[u8],
     y: Meeting,
 ) -> u8
-    requires { ⌜ CanJoin (lent (now state) (now others) (now objects) (now messages) (now tables)) (ctl id n (now b)) y ⌝ }
-    ensures { λ r. ⌜ QuietPushed (lent (now (state .entry)) (now (others .entry)) (now (objects .entry)) (now (messages .entry)) (now (tables .entry))) (message (ctl id n (now (b .entry)))) r (lent (now (state .exit)) (now (others .entry)) (now (objects .entry)) (now (messages .exit)) (now (tables .entry))) ⌝ }
+    requires { ⌜ CanJoin (lent (now state) (now others) (now objects) (now messages) (now tables)) (messagePacket id n (now b)) y ⌝ }
+    ensures { λ r. ⌜ QuietPushed (lent (now (state .entry)) (now (others .entry)) (now (objects .entry)) (now (messages .entry)) (now (tables .entry))) (message (messagePacket id n (now (b .entry)))) r (lent (now (state .exit)) (now (others .entry)) (now (objects .entry)) (now (messages .exit)) (now (tables .entry))) ⌝ }
 {
-    let t = y.seat;
+    let t = y.place_for;
     let c = y.place;
     let f = y.fate;
     place::octets(state);
     match t {
-        Seat::Old(i) => join_at(state, messages, i, 0, id as u32, n, b, c, f),
-        Seat::New(i) => join_at(state, messages, i, 1, id as u32, n, b, c, f),
-        Seat::Full => 8,
+        PlaceFor::Own(i) => join_at(state, messages, i, 0, id as u32, n, b, c, f),
+        PlaceFor::Free(i) => join_at(state, messages, i, 1, id as u32, n, b, c, f),
+        PlaceFor::NoneFree => 8,
     }
 }

@@ -4,7 +4,7 @@ ghost use mathlib.Core.Path.{_≡_};
 ghost use Prim.Native.Nat.{_+_, _*_, _≤_, _<_};
 ghost use lib.ListN.{length};
 ghost use Rattle.isdb_tlv.specs.Bytes.{be};
-ghost use Rattle.isdb_mmt.specs.Lent.{part, over, flag as flagAt, namesFrom, among, distinct, cellOf, amongMarked, foundFrom, seatOf};
+ghost use Rattle.isdb_mmt.specs.Lent.{part, over, flag as flagAt, namesFrom, among, distinct, cellOf, amongMarked, foundFrom, placeForName};
 ghost use Rattle.isdb_mmt.specs.Octets.{Octets};
 use isdb_tlv::bytes;
 
@@ -20,10 +20,10 @@ pub(crate) enum Found {
 }
 
 // Where a name has its place, or takes the next free one, or that none is free.
-pub(crate) enum Seat {
-    Old(usize),
-    New(usize),
-    Full,
+pub(crate) enum PlaceFor {
+    Own(usize),
+    Free(usize),
+    NoneFree,
 }
 
 // The first of n places from at on that has the name x.
@@ -43,17 +43,24 @@ pub(crate) fn find(s: &[u8], at: usize, size: usize, n: usize, x: u32) -> Found
     Found::Nothing
 }
 
-pub(crate) fn seat_for(s: &[u8], at: usize, size: usize, n: usize, limit: usize, x: u32) -> Seat
+pub(crate) fn place_for(
+    s: &[u8],
+    at: usize,
+    size: usize,
+    n: usize,
+    limit: usize,
+    x: u32,
+) -> PlaceFor
     requires { ⌜ at + n * size ≤ length (now s) ⌝ }
-    ensures { λ r. ⌜ r ≡ seatOf (namesFrom n size at (now (s .entry))) limit x ⌝ }
+    ensures { λ r. ⌜ r ≡ placeForName (namesFrom n size at (now (s .entry))) limit x ⌝ }
 {
     match find(s, at, size, n, x) {
-        Found::At(i) => Seat::Old(i),
+        Found::At(i) => PlaceFor::Own(i),
         Found::Nothing => {
             if n < limit {
-                return Seat::New(n);
+                return PlaceFor::Free(n);
             }
-            Seat::Full
+            PlaceFor::NoneFree
         }
     }
 }

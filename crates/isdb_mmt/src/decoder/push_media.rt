@@ -16,8 +16,8 @@ ghost use Rattle.isdb_mmt.specs.Session.{mediaFields};
 ghost use Rattle.isdb_mmt.specs.Opening.{lent};
 ghost use Rattle.isdb_mmt.specs.Survey.{unitObject, withLength};
 ghost use Rattle.isdb_mmt.specs.Place.{startOf};
-ghost use Rattle.isdb_mmt.specs.MediaPush.{oneMore, withUsed, withPackets, mediaSeat, MediaPushed};
-ghost use Rattle.isdb_mmt.specs.MediaCommit.{CanSeat, blank, placeIn, indexOf, passesOn, fitsNumber, numberOf, Small, answerOf, OnePut, CanAppend, unitsData, CanEnd, CanPass, passedUnit, CanTake, CanCommit, Committed, CanStore, stateAfter, CanCommitAll, CommittedAll, CanPushMedia};
+ghost use Rattle.isdb_mmt.specs.MediaPush.{oneMore, withUsed, withPackets, mediaPlaceFor, MediaPushed};
+ghost use Rattle.isdb_mmt.specs.MediaCommit.{CanTakePlace, blank, placeIn, indexOf, passesOn, fitsNumber, numberOf, Small, answerOf, OnePut, CanAppend, unitsData, CanEnd, CanPass, passedUnit, CanTake, CanCommit, Committed, CanStore, stateAfter, CanCommitAll, CommittedAll, CanPushMedia};
 use crate::decoder::counts::AssetStats;
 use crate::decoder::head;
 use crate::decoder::head::Used;
@@ -28,7 +28,7 @@ use crate::decoder::limits::Limits;
 use crate::decoder::media;
 use crate::decoder::media::Media;
 use crate::decoder::place;
-use crate::decoder::place::Seat;
+use crate::decoder::place::PlaceFor;
 use crate::decoder::reassembler;
 use crate::decoder::reassembler::Look;
 use crate::decoder::reassembler::Survey;
@@ -47,13 +47,13 @@ use crate::part::Part;
 use isdb_tlv::bytes;
 use isdb_tlv::mmtp::Header;
 
-// The seat of a media id.
-fn media_seat(s: &[u8], l: Limits, id: u16) -> Seat
-    requires { ⌜ CanSeat (now s) l ⌝ }
-    ensures { λ r. ⌜ r ≡ mediaSeat (now (s .entry)) id ⌝ }
+// The place of a media id.
+fn media_place_for(s: &[u8], l: Limits, id: u16) -> PlaceFor
+    requires { ⌜ CanTakePlace (now s) l ⌝ }
+    ensures { λ r. ⌜ r ≡ mediaPlaceFor (now (s .entry)) id ⌝ }
 {
     let u = head::load_used(s);
-    place::seat_for(
+    place::place_for(
         s,
         MEDIA_PLACES,
         MEDIA_SIZE,
@@ -92,24 +92,24 @@ fn blank_media() -> Media
 }
 
 // The place that a packet starts from.
-fn place_in(s: &[u8], seat: Seat) -> Media
-    requires { ⌜ indexOf seat < mostMediaIds ⌝ }
-    ensures { λ r. ⌜ r ≡ placeIn (now (s .entry)) seat ⌝ }
+fn place_in(s: &[u8], place_for: PlaceFor) -> Media
+    requires { ⌜ indexOf «place_for» < mostMediaIds ⌝ }
+    ensures { λ r. ⌜ r ≡ placeIn (now (s .entry)) «place_for» ⌝ }
 {
-    match seat {
-        Seat::Old(i) => media::load_media(s, i),
-        Seat::New(i) => blank_media(),
-        Seat::Full => blank_media(),
+    match place_for {
+        PlaceFor::Own(i) => media::load_media(s, i),
+        PlaceFor::Free(i) => blank_media(),
+        PlaceFor::NoneFree => blank_media(),
     }
 }
 
-fn index_of(seat: Seat) -> usize
-    ensures { λ r. ⌜ r ≡ indexOf seat ⌝ }
+fn index_of(place_for: PlaceFor) -> usize
+    ensures { λ r. ⌜ r ≡ indexOf «place_for» ⌝ }
 {
-    match seat {
-        Seat::Old(i) => i,
-        Seat::New(i) => i,
-        Seat::Full => 0,
+    match place_for {
+        PlaceFor::Own(i) => i,
+        PlaceFor::Free(i) => i,
+        PlaceFor::NoneFree => 0,
     }
 }
 
@@ -160,7 +160,7 @@ fn fits_number(area: u64, longest: u64, rows: u64, given: u64, records: u64, byt
 
 // The number of the first question of 8 to 10 that is answered no, or 0.
 fn number_of(
-    seat: Seat,
+    place_for: PlaceFor,
     area: u64,
     longest: u64,
     rows: u64,
@@ -169,18 +169,18 @@ fn number_of(
     bytes: u64,
 ) -> u8
     requires { ⌜ records ≤ 65538 ⌝ }
-    ensures { λ r. ⌜ r ≡ numberOf seat area longest rows given records bytes ⌝ }
+    ensures { λ r. ⌜ r ≡ numberOf «place_for» area longest rows given records bytes ⌝ }
 {
-    match seat {
-        Seat::Full => 8,
-        Seat::Old(i) => fits_number(area, longest, rows, given, records, bytes),
-        Seat::New(i) => fits_number(area, longest, rows, given, records, bytes),
+    match place_for {
+        PlaceFor::NoneFree => 8,
+        PlaceFor::Own(i) => fits_number(area, longest, rows, given, records, bytes),
+        PlaceFor::Free(i) => fits_number(area, longest, rows, given, records, bytes),
     }
 }
 
 // From the limits and the look at a payload of n bytes.
 fn answer_of(
-    seat: Seat,
+    place_for: PlaceFor,
     l: Limits,
     scrambled: bool,
     r: Look,
@@ -189,14 +189,22 @@ fn answer_of(
     given: u64,
 ) -> Answer
     requires { ⌜ Small (r .units) × (n ≤ 65535) ⌝ }
-    ensures { λ a. ⌜ a ≡ answerOf seat l scrambled r n rows given ⌝ }
+    ensures { λ a. ⌜ a ≡ answerOf «place_for» l scrambled r n rows given ⌝ }
 {
     let t = r.units;
     let k = r.header;
     let passed = passes_on(l.pass_scrambled, scrambled, k);
     let records = reassembler::one(passed) + t.records;
     let bytes = passed_bytes(passed, n) + t.bytes;
-    let number = number_of(seat, l.mfu_area, t.longest, rows, given, records, bytes);
+    let number = number_of(
+        place_for,
+        l.mfu_area,
+        t.longest,
+        rows,
+        given,
+        records,
+        bytes,
+    );
     if number == 0 {
         return records::accepted(records, bytes);
     }
@@ -234,18 +242,18 @@ fn one_more(u: Used) -> Used
 }
 
 // The place after a packet, and one packet more.
-fn store_place(s: &mut [u8], seat: Seat, m: Media)
-    requires { ⌜ CanStore (now s) seat ⌝ }
-    ensures { λ r. ⌜ now (s .exit) ≡ stateAfter (now (s .entry)) m seat ⌝ }
+fn store_place(s: &mut [u8], place_for: PlaceFor, m: Media)
+    requires { ⌜ CanStore (now s) «place_for» ⌝ }
+    ensures { λ r. ⌜ now (s .exit) ≡ stateAfter (now (s .entry)) m «place_for» ⌝ }
 {
     let n = bytes::get_u64(s, COUNTERS) + 1;
-    match seat {
-        Seat::Old(i) => store_old(s, i, m, n),
-        Seat::New(i) => {
+    match place_for {
+        PlaceFor::Own(i) => store_old(s, i, m, n),
+        PlaceFor::Free(i) => {
             let u = one_more(head::load_used(s));
             store_new(s, i, m, u, n)
         }
-        Seat::Full => {}
+        PlaceFor::NoneFree => {}
     }
 }
 
@@ -400,7 +408,7 @@ fn commit_all(
     state: &mut [u8],
     objects: &mut [u8],
     l: Limits,
-    seat: Seat,
+    place_for: PlaceFor,
     p: Media,
     r: Look,
     h: Header,
@@ -408,10 +416,10 @@ fn commit_all(
     rows: &mut [u8],
     out: &mut [u8],
 )
-    requires { ⌜ CanCommitAll l seat p r h (now b) (now state) (now objects) (now rows) (now out) ⌝ }
-    ensures { λ u. ⌜ CommittedAll l seat p r h (now (b .entry)) (now (state .entry)) (now (objects .entry)) (now (rows .entry)) (now (out .entry)) (now (state .exit)) (now (objects .exit)) (now (rows .exit)) (now (out .exit)) ⌝ }
+    requires { ⌜ CanCommitAll l «place_for» p r h (now b) (now state) (now objects) (now rows) (now out) ⌝ }
+    ensures { λ u. ⌜ CommittedAll l «place_for» p r h (now (b .entry)) (now (state .entry)) (now (objects .entry)) (now (rows .entry)) (now (out .entry)) (now (state .exit)) (now (objects .exit)) (now (rows .exit)) (now (out .exit)) ⌝ }
 {
-    let at = index_of(seat) * l.mfu_area as usize;
+    let at = index_of(place_for) * l.mfu_area as usize;
     commit(objects, at, l.pass_scrambled, p, r, h, b, rows, out);
     let k = r.header;
     let t = r.units;
@@ -424,7 +432,7 @@ fn commit_all(
         r.bad,
         t,
     );
-    store_place(state, seat, m);
+    store_place(state, place_for, m);
 }
 
 // A media packet with the MMTP header h and the payload b. What is lent beside the state and the objects is not looked at.
@@ -443,11 +451,11 @@ pub(crate) fn push_media(
     ensures { λ r. ⌜ MediaPushed (lent (now (state .entry)) (now (others .entry)) (now (objects .entry)) (now (messages .entry)) (now (tables .entry))) (now (rows .entry)) (now (out .entry)) (mediaOf h (now (b .entry))) (r .number) (r .records) (r .bytes) (lent (now (state .exit)) (now (others .entry)) (now (objects .exit)) (now (messages .entry)) (now (tables .entry))) (now (rows .exit)) (now (out .exit)) ⌝ }
 {
     let l = head::load_limits(state);
-    let seat = media_seat(state, l, h.packet_id);
-    let p = place_in(state, seat);
+    let place_for = media_place_for(state, l, h.packet_id);
+    let p = place_in(state, place_for);
     let r = reassembler::look_at(p, h.sequence, h.scramble_info, h.rap, b);
     let a = answer_of(
-        seat,
+        place_for,
         l,
         h.scramble_info,
         r,
@@ -456,7 +464,7 @@ pub(crate) fn push_media(
         out.len() as u64,
     );
     if a.number == 0 {
-        commit_all(state, objects, l, seat, p, r, h, b, rows, out);
+        commit_all(state, objects, l, place_for, p, r, h, b, rows, out);
     }
     a
 }

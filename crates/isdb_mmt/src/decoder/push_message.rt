@@ -3,11 +3,11 @@ ghost use mathlib.Core.Path.{_≡_};
 ghost use Prim.Native.Nat.{_+_, _*_, _≤_};
 ghost use lib.ListN.{length};
 ghost use Rattle.isdb_mmt.specs.Lent.{part};
-ghost use Rattle.isdb_mmt.specs.WholeMessage.{isLast, beforeBy, longBy, aggregatedBy, joinBy, heldIn, WalkedWhole, CanWalkWhole, wholeAsk, stateLeft, CanLeaveState, seatAt, CanPushAt, CanPushWhole};
+ghost use Rattle.isdb_mmt.specs.WholeMessage.{isLast, beforeBy, longBy, aggregatedBy, joinBy, heldIn, WalkedWhole, CanWalkWhole, wholeAsk, stateLeft, CanLeaveState, placeForAt, CanPushAt, CanPushWhole};
 ghost use Rattle.isdb_mmt.specs.Packet.{message};
 ghost use Rattle.isdb_mmt.specs.Opening.{lent};
 ghost use Rattle.isdb_mmt.specs.Push.{CanTakePacket, QuietPushed};
-ghost use Rattle.isdb_mmt.specs.Lines.{ctl};
+ghost use Rattle.isdb_mmt.specs.Lines.{messagePacket};
 use crate::decoder::clear_counts;
 use crate::decoder::commit;
 use crate::decoder::control::Control;
@@ -22,7 +22,7 @@ use crate::decoder::messages;
 use crate::decoder::messages::Fate;
 use crate::decoder::messages::Meeting;
 use crate::decoder::place;
-use crate::decoder::place::Seat;
+use crate::decoder::place::PlaceFor;
 use crate::decoder::start;
 use crate::decoder::walk;
 use crate::decoder::walk::Going;
@@ -168,8 +168,8 @@ fn whole_at(
     i: usize,
     k: u32,
 ) -> u8
-    requires { ⌜ CanPushAt (lent (now state) (now others) (now objects) (now joined) (now tables)) (ctl id n (now b)) y i k (now ix) (now log) (now mine) (now seam) ⌝ }
-    ensures { λ r. ⌜ QuietPushed (lent (now (state .entry)) (now (others .entry)) (now (objects .entry)) (now (joined .entry)) (now (tables .entry))) (message (ctl id n (now (b .entry)))) r (lent (now (state .exit)) (now (others .exit)) (now (objects .entry)) (now (joined .entry)) (now (tables .exit))) ⌝ }
+    requires { ⌜ CanPushAt (lent (now state) (now others) (now objects) (now joined) (now tables)) (messagePacket id n (now b)) y i k (now ix) (now log) (now mine) (now seam) ⌝ }
+    ensures { λ r. ⌜ QuietPushed (lent (now (state .entry)) (now (others .entry)) (now (objects .entry)) (now (joined .entry)) (now (tables .entry))) (message (messagePacket id n (now (b .entry)))) r (lent (now (state .exit)) (now (others .exit)) (now (objects .entry)) (now (joined .entry)) (now (tables .exit))) ⌝ }
 {
     let c = y.place;
     let f = y.fate;
@@ -219,8 +219,8 @@ fn whole_in(
     i: usize,
     k: u32,
 ) -> u8
-    requires { ⌜ CanPushWhole (lent (now state) (now others) (now objects) (now joined) (now tables)) (ctl id n (now b)) y × ((y .seat ≡ seatAt i k) × (k ≤ 1)) ⌝ }
-    ensures { λ r. ⌜ QuietPushed (lent (now (state .entry)) (now (others .entry)) (now (objects .entry)) (now (joined .entry)) (now (tables .entry))) (message (ctl id n (now (b .entry)))) r (lent (now (state .exit)) (now (others .exit)) (now (objects .entry)) (now (joined .entry)) (now (tables .exit))) ⌝ }
+    requires { ⌜ CanPushWhole (lent (now state) (now others) (now objects) (now joined) (now tables)) (messagePacket id n (now b)) y × ((y .«place_for» ≡ placeForAt i k) × (k ≤ 1)) ⌝ }
+    ensures { λ r. ⌜ QuietPushed (lent (now (state .entry)) (now (others .entry)) (now (objects .entry)) (now (joined .entry)) (now (tables .entry))) (message (messagePacket id n (now (b .entry)))) r (lent (now (state .exit)) (now (others .exit)) (now (objects .entry)) (now (joined .entry)) (now (tables .exit))) ⌝ }
 {
     let mut ix = [0u8; 4608];
     let mut log = [0u64; 512];
@@ -258,14 +258,14 @@ fn push_whole(
     b: &[u8],
     y: Meeting,
 ) -> u8
-    requires { ⌜ CanPushWhole (lent (now state) (now others) (now objects) (now joined) (now tables)) (ctl id n (now b)) y ⌝ }
-    ensures { λ r. ⌜ QuietPushed (lent (now (state .entry)) (now (others .entry)) (now (objects .entry)) (now (joined .entry)) (now (tables .entry))) (message (ctl id n (now (b .entry)))) r (lent (now (state .exit)) (now (others .exit)) (now (objects .entry)) (now (joined .entry)) (now (tables .exit))) ⌝ }
+    requires { ⌜ CanPushWhole (lent (now state) (now others) (now objects) (now joined) (now tables)) (messagePacket id n (now b)) y ⌝ }
+    ensures { λ r. ⌜ QuietPushed (lent (now (state .entry)) (now (others .entry)) (now (objects .entry)) (now (joined .entry)) (now (tables .entry))) (message (messagePacket id n (now (b .entry)))) r (lent (now (state .exit)) (now (others .exit)) (now (objects .entry)) (now (joined .entry)) (now (tables .exit))) ⌝ }
 {
-    let t = y.seat;
+    let t = y.place_for;
     match t {
-        Seat::Old(i) => whole_in(state, others, objects, joined, tables, id, n, b, y, i, 0),
-        Seat::New(i) => whole_in(state, others, objects, joined, tables, id, n, b, y, i, 1),
-        Seat::Full => 8,
+        PlaceFor::Own(i) => whole_in(state, others, objects, joined, tables, id, n, b, y, i, 0),
+        PlaceFor::Free(i) => whole_in(state, others, objects, joined, tables, id, n, b, y, i, 1),
+        PlaceFor::NoneFree => 8,
     }
 }
 
@@ -281,7 +281,7 @@ pub(crate) fn push_message(
     b: &[u8],
 ) -> u8
     requires { ⌜ CanTakePacket (lent (now state) (now others) (now objects) (now joined) (now tables)) (now b) ⌝ }
-    ensures { λ r. ⌜ QuietPushed (lent (now (state .entry)) (now (others .entry)) (now (objects .entry)) (now (joined .entry)) (now (tables .entry))) (message (ctl id n (now (b .entry)))) r (lent (now (state .exit)) (now (others .exit)) (now (objects .entry)) (now (joined .exit)) (now (tables .exit))) ⌝ }
+    ensures { λ r. ⌜ QuietPushed (lent (now (state .entry)) (now (others .entry)) (now (objects .entry)) (now (joined .entry)) (now (tables .entry))) (message (messagePacket id n (now (b .entry)))) r (lent (now (state .exit)) (now (others .exit)) (now (objects .entry)) (now (joined .exit)) (now (tables .exit))) ⌝ }
 {
     let y = messages::meet(state, id, n, b);
     let f = y.fate;

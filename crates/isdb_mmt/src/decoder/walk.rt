@@ -18,7 +18,7 @@ use crate::decoder::verdict::Act;
 use crate::decoder::verdict::Recent;
 use crate::decoder::verdict::Told;
 use crate::message::Content;
-use crate::message::PieceStep;
+use crate::message::MessageStep;
 use crate::message::TableStep;
 use crate::part::Part;
 use isdb_tlv::bytes;
@@ -343,17 +343,17 @@ fn messages(
     let mut g = start;
     let mut at: usize = 0;
     loop {
-        match joined::next_piece(a, b, long, at) {
-            PieceStep::Piece(p, next) => {
+        match joined::next_message(a, b, long, at) {
+            MessageStep::Message(p, next) => {
                 let k = p.start;
                 let q = joined::behind(a.len(), p);
                 g = message(ix, log, others, seam, g, p.of(a), q.of(b), k);
                 at = next;
             }
-            PieceStep::Malformed => {
+            MessageStep::Malformed => {
                 return cut_short(g);
             }
-            PieceStep::End => {
+            MessageStep::End => {
                 return g;
             }
         }

@@ -1,14 +1,14 @@
-use Rattle.isdb_mmt.specs.Fragments.{goesOn}
+use Rattle.isdb_mmt.specs.Fragments.{continuedBy}
 use borrow.Author.Needs.{needs}
 use Rattle.isdb_mmt.proofs.decoder.messages.goes_on.Statement.{statement}
 use Rattle.isdb_mmt.proofs.decoder.messages.goes_on.Tie as tie
 
 returns : tie.Need-returns
-unfolding goesOn
+unfolding continuedBy
 returns c = rw (c .before .if1 .taken, ← c .is-gap .ensures)
 
 returns-2 : tie.Need-returns-2
-unfolding goesOn
+unfolding continuedBy
 returns-2 c = rw (c .if1 .left)
 
 pub goes-on-spec : {M : Type 1} → statement M

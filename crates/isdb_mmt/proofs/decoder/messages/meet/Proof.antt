@@ -1,10 +1,10 @@
-use Rattle.isdb_mmt.proofs.Lines.{seat-place, meeting-is}
+use Rattle.isdb_mmt.proofs.Lines.{place-for-place, meeting-is}
 use borrow.Author.Needs.{needs}
 use Rattle.isdb_mmt.proofs.decoder.messages.meet.Statement.{statement}
 use Rattle.isdb_mmt.proofs.decoder.messages.meet.Tie as tie
 
 place-in-requires : tie.Need-place-in-requires
-place-in-requires c κs = search (needs, seat-place)
+place-in-requires c κs = search (needs, place-for-place)
 
 returns : tie.Need-returns
 returns c = search (needs, meeting-is)

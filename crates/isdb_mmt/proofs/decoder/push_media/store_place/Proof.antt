@@ -7,13 +7,13 @@ add-n : tie.Need-add-n
 add-n c = search (needs, one-packet)
 
 store-old-requires : tie.Need-store-old-requires
-store-old-requires c κs = can-old _ _ (c .before .before .before .before .before .before .before .pre) _ (c .before .before .seat .given .1)
+store-old-requires c κs = can-old _ _ (c .before .before .before .before .before .before .before .pre) _ (c .before .before .place-for .given .1)
 
 one-more-requires : tie.Need-one-more-requires
 one-more-requires c κs = search (needs, can-more)
 
 store-new-requires : tie.Need-store-new-requires
-store-new-requires c κs = can-new _ _ (c .before .before .before .before .before .before .before .before .before .before .pre) _ (c .before .before .before .before .before .seat2 .given .1)
+store-new-requires c κs = can-new _ _ (c .before .before .before .before .before .before .before .before .before .before .pre) _ (c .before .before .before .before .before .place-for2 .given .1)
 
 returns : tie.Need-returns
 returns c = search (needs, store-is-old)

@@ -16,17 +16,17 @@ abbrev μ-loop : tie.MeasureT-loop
 loop-holds : tie.Need-loop-holds Inv-loop μ-loop
 loop-holds c = messages-start _ _ _ _ _ _ _ (c .before .before .before .before .before .before .pre)
 
-next-piece-requires : tie.Need-next-piece-requires Inv-loop μ-loop
-next-piece-requires c κs = let x = c .before .before .before .before .before .before .before .args in messages-short _ _ _ _ _ (x .a .now) (x .b .now) _ _ _ _ _ _ _ (c .loop .inv)
+next-message-requires : tie.Need-next-message-requires Inv-loop μ-loop
+next-message-requires c κs = let x = c .before .before .before .before .before .before .before .args in messages-short _ _ _ _ _ (x .a .now) (x .b .now) _ _ _ _ _ _ _ (c .loop .inv)
 
 message-requires : tie.Need-message-requires Inv-loop μ-loop
-message-requires c κs = let x = c .before .before .before .before .before .before .before .before .before .before .before .before .before .before .before .before .before .before .args in messages-can _ _ _ _ _ (x .a .now) (x .b .now) _ _ _ _ _ _ _ (c .before .before .before .before .before .before .before .before .before .before .before .loop .inv) _ (c .before .before .before .before .before .before .before .before .before .before .next-piece .ensures) _ _ (c .before .before .before .before .before .before .before .before .p .given .1) _ (c .before .before .before .before .before .before .behind .ensures) _ _ (c .before .of .ensures) (c .of2 .ensures)
+message-requires c κs = let x = c .before .before .before .before .before .before .before .before .before .before .before .before .before .before .before .before .before .before .args in messages-can _ _ _ _ _ (x .a .now) (x .b .now) _ _ _ _ _ _ _ (c .before .before .before .before .before .before .before .before .before .before .before .loop .inv) _ (c .before .before .before .before .before .before .before .before .before .before .next-message .ensures) _ _ (c .before .before .before .before .before .before .before .before .p .given .1) _ (c .before .before .before .before .before .before .behind .ensures) _ _ (c .before .of .ensures) (c .of2 .ensures)
 
 loop-less : tie.Need-loop-less Inv-loop μ-loop
-loop-less c = let x = c .before .before .before .before .before .before .before .before .before .before .before .before .before .before .before .before .before .before .before .before .before .before .before .before .before .before .before .args in messages-less _ _ _ _ _ (x .a .now) (x .b .now) _ _ _ _ _ _ _ (c .before .before .before .before .before .before .before .before .before .before .before .before .before .before .before .before .before .before .before .before .loop .inv) _ (c .before .before .before .before .before .before .before .before .before .before .before .before .before .before .before .before .before .before .before .next-piece .ensures) _ _ (c .before .before .before .before .before .before .before .before .before .before .before .before .before .before .before .before .before .p .given .1)
+loop-less c = let x = c .before .before .before .before .before .before .before .before .before .before .before .before .before .before .before .before .before .before .before .before .before .before .before .before .before .before .before .args in messages-less _ _ _ _ _ (x .a .now) (x .b .now) _ _ _ _ _ _ _ (c .before .before .before .before .before .before .before .before .before .before .before .before .before .before .before .before .before .before .before .before .loop .inv) _ (c .before .before .before .before .before .before .before .before .before .before .before .before .before .before .before .before .before .before .before .next-message .ensures) _ _ (c .before .before .before .before .before .before .before .before .before .before .before .before .before .before .before .before .before .p .given .1)
 
 loop-again : tie.Need-loop-again Inv-loop μ-loop
-loop-again c = let x = c .before .before .before .before .before .before .before .before .before .before .before .before .before .before .before .before .before .before .before .before .before .before .before .before .before .before .before .args in messages-on _ _ _ _ _ (x .a .now) (x .b .now) _ _ _ _ _ _ _ (c .before .before .before .before .before .before .before .before .before .before .before .before .before .before .before .before .before .before .before .before .loop .inv) _ (c .before .before .before .before .before .before .before .before .before .before .before .before .before .before .before .before .before .before .before .next-piece .ensures) _ _ (c .before .before .before .before .before .before .before .before .before .before .before .before .before .before .before .before .before .p .given .1) _ (c .before .before .before .before .before .before .before .before .before .before .before .before .before .before .before .behind .ensures) _ _ (c .before .before .before .before .before .before .before .before .before .before .of .ensures) (c .before .before .before .before .before .before .before .before .before .of2 .ensures) _ _ _ _ _ (c .before .before .before .before .before .before .before .before .message .ensures) (search needs) (search needs) (search needs) (search needs)
+loop-again c = let x = c .before .before .before .before .before .before .before .before .before .before .before .before .before .before .before .before .before .before .before .before .before .before .before .before .before .before .before .args in messages-on _ _ _ _ _ (x .a .now) (x .b .now) _ _ _ _ _ _ _ (c .before .before .before .before .before .before .before .before .before .before .before .before .before .before .before .before .before .before .before .before .loop .inv) _ (c .before .before .before .before .before .before .before .before .before .before .before .before .before .before .before .before .before .before .before .next-message .ensures) _ _ (c .before .before .before .before .before .before .before .before .before .before .before .before .before .before .before .before .before .p .given .1) _ (c .before .before .before .before .before .before .before .before .before .before .before .before .before .before .before .behind .ensures) _ _ (c .before .before .before .before .before .before .before .before .before .before .of .ensures) (c .before .before .before .before .before .before .before .before .before .of2 .ensures) _ _ _ _ _ (c .before .before .before .before .before .before .before .before .message .ensures) (search needs) (search needs) (search needs) (search needs)
 
 cut-short-requires : tie.Need-cut-short-requires Inv-loop μ-loop
 cut-short-requires c κs = let x = c .before .before .before .before .before .before .before .before .before .before .args in messages-cut-can _ _ _ _ _ (x .a .now) (x .b .now) _ _ _ _ _ _ _ (c .before .before .before .loop .inv)
@@ -44,7 +44,7 @@ same-length-4 : tie.Need-same-length-4 Inv-loop μ-loop
 same-length-4 c = omega (arith, c .before .before .before .before .loop .inv .seamLong, c .before .before .before .before .loop .inv .can .seamLong)
 
 returns : tie.Need-returns Inv-loop μ-loop
-returns c = let x = c .before .before .before .before .before .before .before .before .before .before .before .args in messages-cut _ _ _ _ _ (x .a .now) (x .b .now) _ _ _ _ _ _ _ (c .before .before .before .before .loop .inv) _ (c .before .before .before .next-piece .ensures) (c .before .enum-told .given .1) _ (c .cut-short .ensures)
+returns c = let x = c .before .before .before .before .before .before .before .before .before .before .before .args in messages-cut _ _ _ _ _ (x .a .now) (x .b .now) _ _ _ _ _ _ _ (c .before .before .before .before .loop .inv) _ (c .before .before .before .next-message .ensures) (c .before .enum-told .given .1) _ (c .cut-short .ensures)
 
 same-length-5 : tie.Need-same-length-5 Inv-loop μ-loop
 same-length-5 c = omega (arith, c .before .before .before .loop .inv .goes .copies .indexLong, c .before .before .before .loop .inv .can .copies .indexLong)
@@ -59,7 +59,7 @@ same-length-8 : tie.Need-same-length-8 Inv-loop μ-loop
 same-length-8 c = omega (arith, c .before .before .before .loop .inv .seamLong, c .before .before .before .loop .inv .can .seamLong)
 
 returns-2 : tie.Need-returns-2 Inv-loop μ-loop
-returns-2 c = let x = c .before .before .before .before .before .before .before .before .before .before .args in messages-end _ _ _ _ _ (x .a .now) (x .b .now) _ _ _ _ _ _ _ (c .before .before .before .loop .inv) _ (c .before .before .next-piece .ensures) (c .enum-told2 .given .1)
+returns-2 c = let x = c .before .before .before .before .before .before .before .before .before .before .args in messages-end _ _ _ _ _ (x .a .now) (x .b .now) _ _ _ _ _ _ _ (c .before .before .before .loop .inv) _ (c .before .before .next-message .ensures) (c .enum-told2 .given .1)
 
 pub messages-spec : {M : Type 1} → statement M
 messages-spec =
@@ -68,7 +68,7 @@ messages-spec =
     Inv-loop
     μ-loop
     loop-holds
-    next-piece-requires
+    next-message-requires
     (λ c. search needs)
     (λ c κs. search needs)
     (λ c κs. search needs)

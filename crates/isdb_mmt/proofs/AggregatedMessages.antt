@@ -15,10 +15,10 @@ use Rattle.isdb_tlv.specs.Walk.{turn, Ahead, walk-at}
 use Rattle.isdb_tlv.proofs.Numbers.{be-whole}
 use Rattle.isdb_tlv.proofs.Guards.{cond-elim}
 use Rattle.isdb_mmt.proofs.Places.{Lies}
-use Rattle.isdb_mmt.specs.Message.{prefixWidth, pieceAt, pieceItem, piecesFrom, tableAt, tableItem, tablesFrom}
+use Rattle.isdb_mmt.specs.Message.{prefixWidth, aggregatedAt, aggregatedItem, aggregatedFrom, tableAt, tableItem, tablesFrom}
 use Rattle.isdb_mmt.specs.declared.part.Part.{Part}
-use Rattle.isdb_mmt.specs.declared.message.PieceStep.{PieceStep}
-use Rattle.isdb_mmt.specs.declared.message.PieceStep.the-variants.{End, Malformed, Piece}
+use Rattle.isdb_mmt.specs.declared.message.MessageStep.{MessageStep}
+use Rattle.isdb_mmt.specs.declared.message.MessageStep.the-variants.{End, Malformed, Message}
 use Rattle.isdb_mmt.specs.declared.message.TableStep.{TableStep}
 use Rattle.isdb_mmt.specs.declared.message.TableStep.the-variants.{End as noMore, Malformed as badTable, Table as table}
 
@@ -35,10 +35,10 @@ pub length-is : (s : List ℕ) → ((i : ℕ) → Fits w8 (getD s i 0)) → (at 
     → r ≡ be w s at
 length-is s h at long {w} e n = n ∙ be-whole s h w at (omega (arith, width-le long))
 
-abbrev pub PieceInside : List ℕ → ℕ → PieceStep → Type 0
+abbrev pub PieceInside : List ℕ → ℕ → MessageStep → Type 0
 PieceInside s at End = Unit {0}
 PieceInside s at Malformed = Unit {0}
-PieceInside s at (Piece p next) = Lies s at p next
+PieceInside s at (Message p next) = Lies s at p next
 
 abbrev pub TableInside : List ℕ → ℕ → TableStep → Type 0
 TableInside s at noMore = Unit {0}
@@ -46,8 +46,8 @@ TableInside s at badTable = Unit {0}
 TableInside s at (table p next) = Lies s at p next
 
 module _ (s : List ℕ) (long : Bool) where
-  pub piece-inside : (at : ℕ) → PieceInside s at (pieceAt s long at)
-  unfolding pieceAt
+  pub piece-inside : (at : ℕ) → PieceInside s at (aggregatedAt s long at)
+  unfolding aggregatedAt
   piece-inside at =
       let w = prefixWidth long in
       let n = be w s at in
@@ -58,19 +58,19 @@ module _ (s : List ℕ) (long : Bool) where
       let g = width-ge long in
       record { ahead = omega arith; within = omega arith; starts = omega arith; ends = refl }))
 
-  pub piece-lies : {at next : ℕ} {p : Part} → pieceAt s long at ≡ Piece p next → Lies s at p next
+  pub piece-lies : {at next : ℕ} {p : Part} → aggregatedAt s long at ≡ Message p next → Lies s at p next
   piece-lies {at} e = rw e at (piece-inside at)
 
-  piece-ahead : (at : ℕ) (r : PieceStep) → PieceInside s at r → Ahead (length s) at (pieceItem r)
+  piece-ahead : (at : ℕ) (r : MessageStep) → PieceInside s at r → Ahead (length s) at (aggregatedItem r)
   piece-ahead at End l = tt
   piece-ahead at Malformed l = tt
-  piece-ahead at (Piece p next) l = (omega (arith, l .ahead, l .within), l .ahead)
+  piece-ahead at (Message p next) l = (omega (arith, l .ahead, l .within), l .ahead)
 
   -- the messages from a place on: what stands there, and the messages from where it leads
-  pub pieces-at : (at : ℕ) → piecesFrom s long at ≡ turn (piecesFrom s long) (pieceItem (pieceAt s long at))
-  unfolding piecesFrom
+  pub pieces-at : (at : ℕ) → aggregatedFrom s long at ≡ turn (aggregatedFrom s long) (aggregatedItem (aggregatedAt s long at))
+  unfolding aggregatedFrom
   pieces-at at =
-      walk-at (λ q. pieceItem (pieceAt s long q)) (record { found = []; malformed = 0 }) (length s) (λ q. piece-ahead q (pieceAt s long q) (piece-inside q)) at
+      walk-at (λ q. aggregatedItem (aggregatedAt s long q)) (record { found = []; malformed = 0 }) (length s) (λ q. piece-ahead q (aggregatedAt s long q) (piece-inside q)) at
 
 module _ (s : List ℕ) where
   pub table-inside : (at : ℕ) → TableInside s at (tableAt s at)

@@ -1,28 +1,28 @@
 use borrow.Author.Tests.{lt-ltb, le-ltb}
-use Rattle.isdb_mmt.specs.Message.{pieceAt}
-use Rattle.isdb_mmt.proofs.Pieces.{width-ge, length-is}
+use Rattle.isdb_mmt.specs.Message.{aggregatedAt}
+use Rattle.isdb_mmt.proofs.AggregatedMessages.{width-ge, length-is}
 use native.Mathlib.Omega.{arith}
 use borrow.Author.Needs.{needs}
-use Rattle.isdb_mmt.proofs.message.next_piece.Statement.{statement}
-use Rattle.isdb_mmt.proofs.message.next_piece.Tie as tie
+use Rattle.isdb_mmt.proofs.message.next_message.Statement.{statement}
+use Rattle.isdb_mmt.proofs.message.next_message.Tie as tie
 
 returns : tie.Need-returns
-unfolding pieceAt
+unfolding aggregatedAt
 returns c = rw (← c .before .before .prefix-width .ensures, ← c .before .left .ensures, lt-ltb _ _ (c .if1 .taken))
 
 sub-if2 : tie.Need-sub-if2
 sub-if2 c = omega (arith, width-ge (c .before .before .before .before .before .args .long), c .before .before .before .prefix-width .ensures, c .before .before .left .ensures)
 
 returns-2 : tie.Need-returns-2
-unfolding pieceAt
+unfolding aggregatedAt
 returns-2 c = rw (← c .before .before .before .before .prefix-width .ensures, ← c .before .before .before .left .ensures, le-ltb _ _ (c .before .before .if1 .left), ← length-is _ (c .before .before .before .before .before .shared-slice-known .given) _ (c .before .before .before .before .before .before .args .long) (c .before .before .before .before .prefix-width .ensures) (c .before .number .ensures), lt-ltb _ _ (c .if2 .taken))
 
 returns-3 : tie.Need-returns-3
-unfolding pieceAt
+unfolding aggregatedAt
 returns-3 c = rw (← c .before .before .before .before .prefix-width .ensures, ← c .before .before .before .left .ensures, le-ltb _ _ (c .before .before .if1 .left), ← length-is _ (c .before .before .before .before .before .shared-slice-known .given) _ (c .before .before .before .before .before .before .args .long) (c .before .before .before .before .prefix-width .ensures) (c .before .number .ensures), le-ltb _ _ (c .if2 .left))
 
-pub next-piece-spec : {M : Type 1} → statement M
-next-piece-spec =
+pub next-message-spec : {M : Type 1} → statement M
+next-message-spec =
     tie.close
     (tie.spec
     (λ c κs. search needs)

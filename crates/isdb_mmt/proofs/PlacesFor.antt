@@ -12,48 +12,48 @@ use borrow.Author.Tests.{ltb-true, ltb-false}
 use Rattle.isdb_tlv.specs.Bytes.{be}
 use Rattle.isdb_tlv.proofs.Guards.{either}
 use Rattle.isdb_mmt.specs.Objects.{Asset}
-use Rattle.isdb_mmt.specs.Lent.{placesFrom, namesFrom, foundFrom, seatAfter, seatOf, every, indexed}
+use Rattle.isdb_mmt.specs.Lent.{placesFrom, namesFrom, foundFrom, placeForFound, placeForName, every, indexed}
 use Rattle.isdb_mmt.specs.Layout.{mediaPlaces, mediaSize}
 use Rattle.isdb_mmt.specs.Session.{Session, limitsOf, usedOf, mediaPlaceOf}
 use Rattle.isdb_mmt.specs.Check.{mediaIn}
 use Rattle.isdb_mmt.specs.View.{assetEntry}
 use Rattle.isdb_mmt.specs.declared.decoder.place.Found.{Found}
 use Rattle.isdb_mmt.specs.declared.decoder.place.Found.the-variants.{At, Nothing}
-use Rattle.isdb_mmt.specs.declared.decoder.place.Seat.the-variants.{Old, New, Full}
+use Rattle.isdb_mmt.specs.declared.decoder.place.PlaceFor.the-variants.{Own, Free, NoneFree}
 use Rattle.isdb_mmt.specs.declared.decoder.media.Media.{Media}
 use Rattle.isdb_mmt.proofs.Lent.{names-of, length-places}
 use Rattle.isdb_mmt.proofs.Names.{clash}
 use Rattle.isdb_mmt.proofs.Sessions.{named}
 use Rattle.isdb_mmt.proofs.Views.{keys, keys-indexed, indexed-same}
 
--- ---- seats, back
+-- ---- places for a name, back
 
-pub seat-was-old : (names : List ℕ) (limit x i : ℕ) → seatOf names limit x ≡ Old i → foundFrom 0 names x ≡ At i
-unfolding seatOf
-seat-was-old names limit x i e = go (foundFrom 0 names x) e
+pub place-for-was-old : (names : List ℕ) (limit x i : ℕ) → placeForName names limit x ≡ Own i → foundFrom 0 names x ≡ At i
+unfolding placeForName
+place-for-was-old names limit x i e = go (foundFrom 0 names x) e
   where
-    go : (f : Found) → seatAfter (length names) limit f ≡ Old i → f ≡ At i
+    go : (f : Found) → placeForFound (length names) limit f ≡ Own i → f ≡ At i
     go (At j) d = cc
     go Nothing d =
         either (ltb (length names) limit) (λ t. let z : _≡_ {A = ℕ} 0 1 = cc (rw t at d) in absurd (omega arith))
         (λ t. let z : _≡_ {A = ℕ} 0 1 = cc (rw t at d) in absurd (omega arith))
 
-pub seat-was-new : (names : List ℕ) (limit x i : ℕ) → seatOf names limit x ≡ New i → (foundFrom 0 names x ≡ Nothing) × ((i ≡ length names) × (i < limit))
-unfolding seatOf
-seat-was-new names limit x i e = go (foundFrom 0 names x) e
+pub place-for-was-new : (names : List ℕ) (limit x i : ℕ) → placeForName names limit x ≡ Free i → (foundFrom 0 names x ≡ Nothing) × ((i ≡ length names) × (i < limit))
+unfolding placeForName
+place-for-was-new names limit x i e = go (foundFrom 0 names x) e
   where
-    go : (f : Found) → seatAfter (length names) limit f ≡ New i → (f ≡ Nothing) × ((i ≡ length names) × (i < limit))
+    go : (f : Found) → placeForFound (length names) limit f ≡ Free i → (f ≡ Nothing) × ((i ≡ length names) × (i < limit))
     go (At j) d = let z : _≡_ {A = ℕ} 0 1 = cc in absurd (omega arith)
     go Nothing d =
         either (ltb (length names) limit)
         (λ t. let q : i ≡ length names = cc (rw t at d) in (refl, (q, omega (arith, ltb-true (length names) limit t))))
         (λ t. let z : _≡_ {A = ℕ} 0 1 = cc (rw t at d) in absurd (omega arith))
 
-pub seat-was-full : (names : List ℕ) (limit x : ℕ) → seatOf names limit x ≡ Full → (foundFrom 0 names x ≡ Nothing) × (limit ≤ length names)
-unfolding seatOf
-seat-was-full names limit x e = go (foundFrom 0 names x) e
+pub place-for-was-full : (names : List ℕ) (limit x : ℕ) → placeForName names limit x ≡ NoneFree → (foundFrom 0 names x ≡ Nothing) × (limit ≤ length names)
+unfolding placeForName
+place-for-was-full names limit x e = go (foundFrom 0 names x) e
   where
-    go : (f : Found) → seatAfter (length names) limit f ≡ Full → (f ≡ Nothing) × (limit ≤ length names)
+    go : (f : Found) → placeForFound (length names) limit f ≡ NoneFree → (f ≡ Nothing) × (limit ≤ length names)
     go (At j) d = let z : _≡_ {A = ℕ} 0 1 = cc in absurd (omega arith)
     go Nothing d =
         either (ltb (length names) limit)
