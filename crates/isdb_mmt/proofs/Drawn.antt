@@ -33,7 +33,7 @@ use Rattle.isdb_mmt.specs.declared.decoder.verdict.Told.{Told}
 use Rattle.isdb_mmt.specs.Placed.{Placed, StandsAt, AllStand, bytesOf}
 use Rattle.isdb_mmt.specs.Tally.{Tally, taken, takenAll}
 use Rattle.isdb_mmt.specs.Verdict.{keysOf, noSection, told, changesTo, placeOf, bodyTold, versionTold, sectionTold, toldOf}
-use Rattle.isdb_mmt.specs.Dry.{sectionRead, mptAfter as recentMpt, pltAfter as recentPlt, Logged, logged, placesOf, Dry, recent, putAt, afterHeaders, notedOne, notedAll, bytesAt, drawnEntry, drawnKept, drawnRecent, Areas, drawnCounters, drawn, VersionOf, Versions}
+use Rattle.isdb_mmt.specs.Dry.{sectionRead, mptAfter as recentMpt, pltAfter as recentPlt, Logged, logged, placesOf, Dry, recent, putAt, afterTable, notedOne, notedAll, bytesAt, drawnEntry, drawnKept, drawnRecent, Areas, drawnCounters, drawn, VersionOf, Versions}
 use Rattle.isdb_mmt.proofs.Placing.{part-stands}
 use Rattle.isdb_mmt.proofs.Verdicts.{found-within}
 
@@ -247,7 +247,7 @@ module _ (m : Bytes) (a : Areas) (c : Counters) (d : Dry) (at : ℕ) where
       (d .breaks + breaks) (max (d .longest) n)
 
   abbrev after : Told → Tally
-  after t = drawn m a c (afterHeaders d t (at + 1))
+  after t = drawn m a c (afterTable d t (at + 1))
 
   module _ (key : ℕ) (cb : Bool) (v : ℕ) (br : ℕ) (bs : Bytes) (stood : StandsAt m at bs) where
     abbrev sect : Bool → Bool → Section
@@ -332,7 +332,7 @@ module _ (m : Bytes) (a : Areas) (c : Counters) (d : Dry) (at : ℕ) where
   kept-version : (areaAt : ℕ) (b : Bytes) → StandsAt m at b → VersionOf (drawnRecent m (a .bytes) areaAt (recent (getD b 1 0) (at + 1) (length b))) (recent (getD b 1 0) (at + 1) (length b))
   kept-version areaAt b h = (refl, ap (λ (x : Bytes). getD x 1 0) (bytes-new m (a .bytes) areaAt at b h))
 
-  pub versions-stay : Versions m a d → (t : Table) → TableAt m at t → Versions m a (afterHeaders d (toldOf ks (d .mpt) (d .plt) t) (at + 1))
+  pub versions-stay : Versions m a d → (t : Table) → TableAt m at t → Versions m a (afterTable d (toldOf ks (d .mpt) (d .plt) t) (at + 1))
   unfolding toldOf
   versions-stay w emptyTable h = record { mpt = w .mpt; plt = w .plt }
   versions-stay w (mptTable true breaks b) h = record { mpt = kept-version (a .mpt) b h; plt = w .plt }
@@ -344,7 +344,7 @@ module _ (m : Bytes) (a : Areas) (c : Counters) (d : Dry) (at : ℕ) where
   versions-stay w truncatedSection h = record { mpt = w .mpt; plt = w .plt }
   versions-stay w (aSection x) h = of-section (sectionTold ks x) (no-recent ks x)
     where
-      of-section : (t : Told) → ((r : Recent) (f : ℕ) → Same t r f) → Versions m a (afterHeaders d t (at + 1))
+      of-section : (t : Told) → ((r : Recent) (f : ℕ) → Same t r f) → Versions m a (afterTable d t (at + 1))
       of-section t s = record { mpt = rw (s (d .mpt) (at + 1) .0) (w .mpt); plt = rw (s (d .plt) (at + 1) .1) (w .plt) }
   versions-stay w (otherTable id) h = record { mpt = w .mpt; plt = w .plt }
 

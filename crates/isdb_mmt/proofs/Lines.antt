@@ -14,14 +14,14 @@ use Rattle.isdb_tlv.specs.Guards.{if_then_else_, _<?_}
 use Rattle.isdb_tlv.specs.Fields.{written}
 use Rattle.isdb_tlv.proofs.Fields.{length-written}
 use Rattle.isdb_tlv.proofs.Guards.{either}
-use Rattle.isdb_mmt.specs.Packet.{Bytes, MessagePacket, message}
+use Rattle.isdb_mmt.specs.Packet.{messagePacket, Bytes, MessagePacket, message}
 use Rattle.isdb_mmt.specs.Lent.{part, over, namesFrom, placeForName}
 use Rattle.isdb_mmt.specs.Layout.{usedPlace, latestPlace, countersPlace, controlPlaces, controlSize, mostControlIds, sectionPlaces, sectionSize}
 use Rattle.isdb_mmt.specs.Session.{Session, limitsOf, usedOf, usedFields, latestOf, latestFields, countersOf, countersFields, controlFields, controlAt}
 use Rattle.isdb_mmt.specs.Check.{PlacesThere, packetCounts, tableCounts, Sound, lengthsOf}
 use Rattle.isdb_mmt.specs.Leaves.{controlPlaceFor, usedFor, withControl, withSections, withLatest, withCounters, stateOfTables, bytesOver, keptOver, latestOver, messageIn, messageAt, messageLeaves, packetLeaves}
 use Rattle.isdb_mmt.specs.Fragments.{laidBy, areaBy, fragmentCounted, CanCount, fateOf, completes, joinedBy, controlWith, faultsOf}
-use Rattle.isdb_mmt.specs.Lines.{blankPlace, placeIn, SeatThere, tidyLatest, withMore, withLine, withCounts, placeNext, stateNext, CanStoreLine, CanJoinAt, JoinedAt, CanJoin, lengthIf, messagePacket, meetingOf, CanMeet}
+use Rattle.isdb_mmt.specs.Lines.{blankPlace, placeIn, SeatThere, tidyLatest, withMore, withLine, withCounts, placeNext, stateNext, CanStoreLine, CanJoinAt, JoinedAt, CanJoin, lengthIf, meetingOf, CanMeet}
 use Rattle.isdb_mmt.specs.Maps.{isSome, one}
 use Rattle.isdb_mmt.specs.Joins.{PartialMessage, cutOfAll, short, messageCompleted}
 use Rattle.isdb_mmt.specs.Model.{State, Control as ControlState, controlOf, reassemblyOf, pushed, packetCounted, messageCounted, reassemblyCounted, gives}

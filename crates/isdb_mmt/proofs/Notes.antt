@@ -30,7 +30,7 @@ use Rattle.isdb_mmt.specs.declared.decoder.verdict.Act.the-variants.{Not
 use Rattle.isdb_mmt.specs.declared.decoder.verdict.Told.{Told}
 use Rattle.isdb_mmt.specs.declared.decoder.walk.Going.{Going}
 use Rattle.isdb_mmt.specs.Verdict.{indexSize, indexOf}
-use Rattle.isdb_mmt.specs.Dry.{mostAdded, mostBefore, Logged, logged, withLog, placesOf, Dry, dryOf, recent, putAt, indexAfter, othersAfter, mptAfter, pltAfter, totAfter, keptLength, afterHeaders, Room, Copies, PutWithin, Small, CanNote, CanCount, countedBy, keptWith, filled, usedWith, WalkedTo, Noted}
+use Rattle.isdb_mmt.specs.Dry.{mostAdded, mostBefore, Logged, logged, withLog, placesOf, Dry, dryOf, recent, putAt, indexAfter, othersAfter, mptAfter, pltAfter, totAfter, keptLength, afterTable, Room, Copies, PutWithin, Small, CanNote, CanCount, countedBy, keptWith, filled, usedWith, WalkedTo, Noted}
 use Rattle.isdb_mmt.proofs.Verdicts.{length-index}
 
 -- ---- an index with its log
@@ -193,7 +193,7 @@ module _ (ix log others : List ℕ) (g : Going) (t : Told) (f : ℕ) (can : CanN
   module _ (gf : g .full ≡ false) (c : Going) (ec : c ≡ countedBy g t) where
     -- what is noted and not full
     noted-as : (z : Act) → t .act ≡ z → (r : Going) (ix′ log′ others′ : List ℕ) → r .full ≡ g .full → dryOf ix′ log′ others′ r ≡ notedBy d t z f
-        → r .used ≤ mostSections → WalkedTo (afterHeaders d t f) g r ix′ log′ others′
+        → r .used ≤ mostSections → WalkedTo (afterTable d t f) g r ix′ log′ others′
     noted-as z ez r ix′ log′ others′ e q u =
         record {
           stays = λ y. clash (g .full) y gf;
@@ -267,7 +267,7 @@ module _ (ix log others : List ℕ) (g : Going) (t : Told) (f : ℕ) (can : CanN
           let n : length es ≡ g .used = log-length (indexOf (g .used) ix) log ∙ length-index (g .used) ix in
           let p : length (putAt es i (logged x f)) ≡ length es + 1 =
           rw (le-ltb i (length es) (omega arith)) (length-append es (logged x f ∷ [])) in
-          let o : mostSections < length (afterHeaders d t f .index) = rw ez (omega arith) in
+          let o : mostSections < length (afterTable d t f .index) = rw ez (omega arith) in
           rw (er, ec)
           (record {
             to = record { stays = λ y. refl; over = λ y z. o; now = λ y. clash true refl y; used = u };

@@ -17,7 +17,7 @@ use Rattle.isdb_mmt.specs.declared.decoder.verdict.Told.{Told}
 use Rattle.isdb_mmt.specs.declared.decoder.walk.Going.{Going}
 use Rattle.isdb_mmt.specs.Placed.{Placed}
 use Rattle.isdb_mmt.specs.Verdict.{indexOf, toldOf}
-use Rattle.isdb_mmt.specs.Dry.{mostAdded, Logged, logged, withLog, placesOf, Dry, dryOf, indexAfter, afterHeaders, notedOne, notedAll, Room, Copies, cutShort, WalkedTo, Noted, Walked}
+use Rattle.isdb_mmt.specs.Dry.{mostAdded, Logged, logged, withLog, placesOf, Dry, dryOf, indexAfter, afterTable, notedOne, notedAll, Room, Copies, cutShort, WalkedTo, Noted, Walked}
 use Rattle.isdb_mmt.proofs.Names.{clash}
 use Rattle.isdb_mmt.proofs.Notes.{log-places}
 
@@ -99,7 +99,7 @@ module _ (read : Bytes → Table) where
       let e : t ≡ toldOf (placesOf (withLog (indexOf (g .used) ix) log)) (g .mpt) (g .plt) (read (x .bytes)) =
       et ∙ ap (λ (ks : List KeptSection). toldOf ks (g .mpt) (g .plt) (read (x .bytes))) (sym (log-places (indexOf (g .used) ix) log)) in
       record {
-        to = subst (λ (z : Told). WalkedTo (afterHeaders (dryOf ix log others g) z (x .at + 1)) g r ix′ log′ others′) e (n .to);
+        to = subst (λ (z : Told). WalkedTo (afterTable (dryOf ix log others g) z (x .at + 1)) g r ix′ log′ others′) e (n .to);
         room = n .room;
         bad = omega (arith, n .bad);
       }

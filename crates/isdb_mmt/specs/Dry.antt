@@ -123,8 +123,8 @@ keptLength (Plt v n) = n
 keptLength (Tot n) = n
 keptLength (Put i x) = x .length
 
-abbrev pub afterHeaders : Dry → Told → ℕ → Dry
-afterHeaders d t f =
+abbrev pub afterTable : Dry → Told → ℕ → Dry
+afterTable d t f =
     record {
       index = indexAfter (d .index) (t .act) f;
       others = othersAfter (d .others) (t .act);
@@ -144,7 +144,7 @@ abbrev pub sectionRead : Bytes → Table
 sectionRead b = aSection (sectionOf b)
 
 abbrev pub notedOne : (Bytes → Table) → Dry → Placed → Dry
-notedOne read d x = afterHeaders d (toldOf (placesOf (d .index)) (d .mpt) (d .plt) (read (x .bytes))) (x .at + 1)
+notedOne read d x = afterTable d (toldOf (placesOf (d .index)) (d .mpt) (d .plt) (read (x .bytes))) (x .at + 1)
 
 unfoldable pub notedAll : (Bytes → Table) → Dry → List Placed → Dry
 notedAll read d [] = d
@@ -340,7 +340,7 @@ pub record WalkedTo (e : Dry) (g r : Going) (ix log others : List ℕ) : Type 0 
   pub used : r .used ≤ mostSections
 
 pub record Noted (ix log others : List ℕ) (g : Going) (t : Told) (f : ℕ) (r : Going) (ix′ log′ others′ : List ℕ) : Type 0 where
-  pub to : WalkedTo (afterHeaders (dryOf ix log others g) t f) g r ix′ log′ others′
+  pub to : WalkedTo (afterTable (dryOf ix log others g) t f) g r ix′ log′ others′
   pub room : (most : ℕ) → Room g others most → Room r others′ (most + 1 * mostAdded)
   pub bad : r .«message_malformed» ≡ g .«message_malformed»
 
