@@ -24,7 +24,7 @@ use Rattle.isdb_mmt.specs.Check.{mediaIn, controlsIn, sectionsIn, length
 use Rattle.isdb_mmt.specs.View.{assetEntry, controlEntry, sectionEntry, viewBy, view}
 use Rattle.isdb_mmt.specs.Opening.{openedSession}
 use Rattle.isdb_mmt.specs.Octets.{Octets, Lent}
-use Rattle.isdb_mmt.specs.Placing.{placeFor, tableLength, controlFor, latestFor, countersFor}
+use Rattle.isdb_mmt.specs.Placing.{placeFor, tableLength, controlFor, latestFor}
 use Rattle.isdb_mmt.specs.MediaPush.{heldOver, withUsed, oneMore, withPackets, withPlace, mediaPlaceFor, leavesAt, assetNext, mediaLeaves}
 use Rattle.isdb_mmt.specs.Leaves.{joinedIn, keptPlace, usedFor, withControl, sectionRows, withSections, withLatest, withTime, withCounters, stateOfTables, bytesOver, keptOver, latestOver, countedIn, timeLeaves, controlLeaves, messageIn, controlPlaceFor, messageAt, messageLeaves, packetLeaves}
 use Rattle.isdb_mmt.specs.Push.{Input, packetOf, asks, Fits, Taken, leavesAll, handed, handedAll, AllTaken, AllBytes, packetsOf, AsModel, Demand2}
@@ -156,11 +156,11 @@ module _ (s : Session) (q : Sound (s .state) (s .others) (lengthsOf s)) (h : Len
 
   tables-lent : (m : State) (t : List ℕ) → Octets t → Octets (stateOfTables m t)
   tables-lent m t y =
-      octets-over _ _ _ (octets-written (countersFields (countersFor (m .counters))))
+      octets-over _ _ _ (octets-written (countersFields (m .counters)))
       (octets-over _ _ _ (rows-lent (m .store .kept)) (octets-over _ _ _ (octets-written (usedFields (usedFor m))) y))
 
   counted-lent : (m : State) (t : List ℕ) → Octets t → Octets (withCounters (m .counters) t)
-  counted-lent m t y = octets-over _ _ _ (octets-written (countersFields (countersFor (m .counters)))) y
+  counted-lent m t y = octets-over _ _ _ (octets-written (countersFields (m .counters))) y
 
   abbrev packets : List Field
   packets = field 8 (countersOf (s .state) .«tlv_packets» + 1) ∷ []

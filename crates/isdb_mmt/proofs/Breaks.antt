@@ -181,14 +181,14 @@ module _ (ks : List KeptSection) (used : ℕ) (eu : length ks ≡ used) where
     small-body : (c i : ℕ) → c ≤ 1 → i ≤ used → Fine (bodyTold x c i)
     small-body c i h w =
         cond-elim Fine (x .bodyOk)
-        (λ e. record { crcErrors = omega arith; malformed = omega arith; changes = omega arith; breaks = f; within = w })
-        (λ e. record { crcErrors = omega arith; malformed = omega arith; changes = omega arith; breaks = f; within = tt })
+        (λ e. record { «crc_errors» = omega arith; malformed = omega arith; changes = omega arith; breaks = f; within = w })
+        (λ e. record { «crc_errors» = omega arith; malformed = omega arith; changes = omega arith; breaks = f; within = tt })
 
     small-version : (g : Found) → foundFrom 0 (keysOf ks) (x .key) ≡ g → Fine (versionTold ks x g)
     small-version notFound e = small-body 0 (length ks) (omega arith) (omega arith)
     small-version (foundAt i) e =
         cond-elim Fine (getD ks i noSection .version =? x .version)
-        (λ z. record { crcErrors = omega arith; malformed = omega arith; changes = omega arith; breaks = omega arith; within = tt })
+        (λ z. record { «crc_errors» = omega arith; malformed = omega arith; changes = omega arith; breaks = omega arith; within = tt })
         (λ z. small-body 1 i (omega arith) (omega (arith, found-within 0 (keysOf ks) (x .key) i e, length-keys ks)))
 
     small-section : Fine (sectionTold ks x)
@@ -196,21 +196,21 @@ module _ (ks : List KeptSection) (used : ℕ) (eu : length ks ≡ used) where
     small-section =
         cond-elim Fine (x .headerAndCrcGood) (λ e. small-version (foundFrom 0 (keysOf ks) (x .key)) refl) (λ e.
         cond-elim Fine (x .crcBad)
-        (λ z. record { crcErrors = omega arith; malformed = omega arith; changes = omega arith; breaks = omega arith; within = tt })
-        (λ z. record { crcErrors = omega arith; malformed = omega arith; changes = omega arith; breaks = omega arith; within = tt }))
+        (λ z. record { «crc_errors» = omega arith; malformed = omega arith; changes = omega arith; breaks = omega arith; within = tt })
+        (λ z. record { «crc_errors» = omega arith; malformed = omega arith; changes = omega arith; breaks = omega arith; within = tt }))
 
   small-table : (m p : Recent) (t : Table) → BreaksIn mostAdded t → Small (toldOf ks m p t) used mostAdded
   unfolding toldOf
-  small-table m p emptyTable f = record { crcErrors = omega arith; malformed = omega arith; changes = omega arith; breaks = omega arith; within = tt }
-  small-table m p (mptTable true n b) f = record { crcErrors = omega arith; malformed = omega arith; changes = omega (arith, one-le (changesTo m (getD b 1 0))); breaks = f; within = tt }
-  small-table m p (mptTable false n b) f = record { crcErrors = omega arith; malformed = omega arith; changes = omega arith; breaks = f; within = tt }
-  small-table m p (pltTable true b) f = record { crcErrors = omega arith; malformed = omega arith; changes = omega (arith, one-le (changesTo p (getD b 1 0))); breaks = omega arith; within = tt }
-  small-table m p (pltTable false b) f = record { crcErrors = omega arith; malformed = omega arith; changes = omega arith; breaks = omega arith; within = tt }
-  small-table m p (totTable true crc n b) f = record { crcErrors = omega (arith, one-le crc); malformed = omega arith; changes = omega arith; breaks = f; within = tt }
-  small-table m p (totTable false crc n b) f = record { crcErrors = omega (arith, one-le crc); malformed = omega (arith, one-le (not crc)); changes = omega arith; breaks = f; within = tt }
-  small-table m p truncatedSection f = record { crcErrors = omega arith; malformed = omega arith; changes = omega arith; breaks = omega arith; within = tt }
+  small-table m p emptyTable f = record { «crc_errors» = omega arith; malformed = omega arith; changes = omega arith; breaks = omega arith; within = tt }
+  small-table m p (mptTable true n b) f = record { «crc_errors» = omega arith; malformed = omega arith; changes = omega (arith, one-le (changesTo m (getD b 1 0))); breaks = f; within = tt }
+  small-table m p (mptTable false n b) f = record { «crc_errors» = omega arith; malformed = omega arith; changes = omega arith; breaks = f; within = tt }
+  small-table m p (pltTable true b) f = record { «crc_errors» = omega arith; malformed = omega arith; changes = omega (arith, one-le (changesTo p (getD b 1 0))); breaks = omega arith; within = tt }
+  small-table m p (pltTable false b) f = record { «crc_errors» = omega arith; malformed = omega arith; changes = omega arith; breaks = omega arith; within = tt }
+  small-table m p (totTable true crc n b) f = record { «crc_errors» = omega (arith, one-le crc); malformed = omega arith; changes = omega arith; breaks = f; within = tt }
+  small-table m p (totTable false crc n b) f = record { «crc_errors» = omega (arith, one-le crc); malformed = omega (arith, one-le (not crc)); changes = omega arith; breaks = f; within = tt }
+  small-table m p truncatedSection f = record { «crc_errors» = omega arith; malformed = omega arith; changes = omega arith; breaks = omega arith; within = tt }
   small-table m p (aSection x) f = small-section x f
-  small-table m p (otherTable id) f = record { crcErrors = omega arith; malformed = omega arith; changes = omega arith; breaks = omega arith; within = tt }
+  small-table m p (otherTable id) f = record { «crc_errors» = omega arith; malformed = omega arith; changes = omega arith; breaks = omega arith; within = tt }
 
   more : (n k : ℕ) → n ≤ k → (t : Table) → BreaksIn n t → BreaksIn k t
   more n k h emptyTable f = tt

@@ -18,7 +18,7 @@ use Rattle.isdb_tlv.specs.declared.si.Section.{Section as Found}
 use Rattle.isdb_tlv.proofs.Guards.{either}
 use Rattle.isdb_mmt.specs.Layout.{mostSections, mostMessageArea, mostCount, tableIds, countersPlace, sectionPlaces, sectionSize, stateSize}
 use Rattle.isdb_mmt.specs.Packet.{Bytes, Packet, control}
-use Rattle.isdb_mmt.specs.Kept.{Kept, Counters as Counts, KeptTables, Table, storedAll, countedAll}
+use Rattle.isdb_mmt.specs.Kept.{Kept, KeptTables, Table, storedAll, countedAll}
 use Rattle.isdb_mmt.specs.GivenTables.{controlTables}
 use Rattle.isdb_mmt.specs.Model.{State, packetCounted, pushed, gives}
 use Rattle.isdb_mmt.specs.Needs.{Needs, needs, tablesNeed}
@@ -27,9 +27,9 @@ use Rattle.isdb_mmt.specs.Octets.{Octets}
 use Rattle.isdb_mmt.specs.Lent.{part, over, indexed}
 use Rattle.isdb_mmt.specs.Session.{Session, limitsOf, usedOf, countersOf, countersFields}
 use Rattle.isdb_mmt.specs.Check.{mediaIn, controlsIn, sectionsIn, packetCounts, tableCounts, lengthsOf, Sound}
-use Rattle.isdb_mmt.specs.View.{assetEntry, controlEntry, sectionEntry, countsOf, viewBy, view}
+use Rattle.isdb_mmt.specs.View.{assetEntry, controlEntry, sectionEntry, viewBy, view}
 use Rattle.isdb_mmt.specs.Opening.{lent}
-use Rattle.isdb_mmt.specs.Placing.{countersFor}
+use Rattle.isdb_mmt.specs.Placing.{}
 use Rattle.isdb_mmt.specs.MediaPush.{withUsed}
 use Rattle.isdb_mmt.specs.Leaves.{usedFor, sectionRows, withSections, withCounters, stateOfTables, keptOver, controlLeaves, packetLeaves}
 use Rattle.isdb_mmt.specs.Counted.{Countable}
@@ -68,8 +68,8 @@ module _ (state others objects messages tables : List ℕ) (b : Bytes) (can : Ca
   abbrev ok : Sound state others (lengthsOf s)
   ok = can .session
 
-  abbrev c₁ : Counts
-  c₁ = packetCounted (countsOf (countersOf state)) 0 0 0
+  abbrev c₁ : Counters
+  c₁ = packetCounted (countersOf state) 0 0 0
 
   pub control-countable : (c : Counters) → c ≡ countersOf state → Countable c 0 0 0
   control-countable c e =
@@ -77,9 +77,9 @@ module _ (state others objects messages tables : List ℕ) (b : Bytes) (can : Ca
       rw e
       (record {
         packets = count-was cs 0 (ok .packets);
-        ipErrors = count-was cs 1 (ok .packets);
-        nonMmtps = count-was cs 2 (ok .packets);
-        ntps = count-was cs 3 (ok .packets);
+        «ip_errors» = count-was cs 1 (ok .packets);
+        «non_mmtp» = count-was cs 2 (ok .packets);
+        ntp = count-was cs 3 (ok .packets);
         oneIp = omega arith;
         oneNon = omega arith;
         oneTime = omega arith;
@@ -92,7 +92,7 @@ module _ (state others objects messages tables : List ℕ) (b : Bytes) (can : Ca
   log₀ = replicate mostSections 0
 
   abbrev g₀ : Going
-  g₀ = goingIn state tables (countersFor c₁) noRecent
+  g₀ = goingIn state tables c₁ noRecent
 
   control-can : CanWalkSections ix₀ log₀ others g₀ b
   unfolding packetCounted
@@ -109,7 +109,7 @@ module _ (state others objects messages tables : List ℕ) (b : Bytes) (can : Ca
         room =
             record {
               tables = count-was cs 0 (ok .tables);
-              crcErrors = count-was cs 1 (ok .tables);
+              «crc_errors» = count-was cs 1 (ok .tables);
               malformed = count-was cs 2 (ok .tables);
               changes = count-was cs 3 (ok .tables);
               breaks = count-was cs 7 (ok .tables);
@@ -120,13 +120,13 @@ module _ (state others objects messages tables : List ℕ) (b : Bytes) (can : Ca
       }
 
   -- the copies are those
-  module _ (c : Counters) (ec : c ≡ countersFor c₁) (log : List ℕ) (ll : length log ≡ mostSections) (ix log′ mine : List ℕ) (ei : ix ≡ ix₀)
+  module _ (c : Counters) (ec : c ≡ c₁) (log : List ℕ) (ll : length log ≡ mostSections) (ix log′ mine : List ℕ) (ei : ix ≡ ix₀)
       (el : log′ ≡ replicate (length log) 0) (em : mine ≡ others) (z : Recent) (ez : z ≡ noRecent) (g : Going) (eg : g ≡ goingIn state tables c z) where
     el₀ : log′ ≡ log₀
     el₀ = el ∙ ap (λ n. replicate {A = ℕ} n 0) ll
 
     eg₀ : g ≡ g₀
-    eg₀ = eg ∙ ap (λ (x : Counters). goingIn state tables x z) ec ∙ ap (λ (x : Recent). goingIn state tables (countersFor c₁) x) ez
+    eg₀ = eg ∙ ap (λ (x : Counters). goingIn state tables x z) ec ∙ ap (λ (x : Recent). goingIn state tables c₁ x) ez
 
     pub copies-can : CanWalkSections ix log′ mine g b
     copies-can = rw (ei, el₀, em, eg₀) control-can
@@ -148,7 +148,7 @@ module _ (state others objects messages tables : List ℕ) (b : Bytes) (can : Ca
     bs = map (λ (x : Found). take (x .length) (drop (x .offset) b)) (sectionsOf b)
 
     abbrev a : Areas
-    a = areas s ok b log₀ (no-log mostSections) noRecent 0 c₁ (countersFor c₁)
+    a = areas s ok b log₀ (no-log mostSections) noRecent 0 c₁ c₁
 
     abbrev before : Tally
     before = drawn b a c₁ (dryOf ix₀ log₀ others g₀)
@@ -160,7 +160,7 @@ module _ (state others objects messages tables : List ℕ) (b : Bytes) (can : Ca
     same-tables = ap (map sectionRead) (bytes-sections b)
 
     same-store : before .store ≡ view s .store
-    same-store = store-view s ok b log₀ (no-log mostSections) noRecent 0 c₁ (countersFor c₁)
+    same-store = store-view s ok b log₀ (no-log mostSections) noRecent 0 c₁ c₁
 
     store-next : storedAll (before .store) ts ≡ next .store
     unfolding pushed
@@ -176,7 +176,7 @@ module _ (state others objects messages tables : List ℕ) (b : Bytes) (can : Ca
     need-next = ap (λ (x : KeptTables). tablesNeed x ts) same-store ∙ ap (tablesNeed (view s .store)) same-tables
 
     versions : Versions b a (dryOf ix₀ log₀ others g₀)
-    versions = versions-view s ok b log₀ (no-log mostSections) noRecent 0 c₁ (countersFor c₁) refl
+    versions = versions-view s ok b log₀ (no-log mostSections) noRecent 0 c₁ c₁ refl
 
     abbrev after : Tally
     after = drawn b a c₁ (dryOf ix log mine r)
@@ -339,7 +339,7 @@ module _ (state others objects messages tables : List ℕ) (b : Bytes) (can : Ca
           nine-zero q = omega arith
 
       held : AllHeld b (l .«table_area») 0 (dryOf ix₀ log₀ others g₀ .index)
-      held = held-view s ok b log₀ (no-log mostSections) noRecent 0 c₁ (countersFor c₁)
+      held = held-view s ok b log₀ (no-log mostSections) noRecent 0 c₁ c₁
 
       all-fit : AllFit (l .«table_area») b (withLog (indexOf (r .used) ix) log)
       all-fit =
@@ -370,7 +370,7 @@ module _ (state others objects messages tables : List ℕ) (b : Bytes) (can : Ca
               indexLong = li;
             }
 
-        module _ (o : Octets ix) (c : Counters) (ec : c ≡ countersFor c₁) (state′ others′ tables′ : List ℕ)
+        module _ (o : Octets ix) (c : Counters) (ec : c ≡ c₁) (state′ others′ tables′ : List ℕ)
             (left : SectionsLeft state tables ix log mine c r b state′ others′ tables′) where
           abbrev kept : List (ℕ × Kept)
           kept = next .store .kept
@@ -393,12 +393,12 @@ module _ (state others objects messages tables : List ℕ) (b : Bytes) (can : Ca
               fits o (omega (arith, some-sections)) room
               ∙ ap (λ (x : KeptTables). sectionRows (x .kept)) store-next
 
-          counters-left : countersWith c r ≡ countersFor (next .counters)
+          counters-left : countersWith c r ≡ next .counters
           unfolding drawn packetCounted
           counters-left =
               ap (λ (x : Counters). countersWith x r) ec
               ∙ counters-are ix log mine c₁ r (w .bad ∙ add-zero (countersOf state .«message_malformed»))
-              ∙ ap countersFor (is not-full .counters ∙ counters-next)
+              ∙ is not-full .counters ∙ counters-next
 
           used-left : withSectionsUsed u (r .used) ≡ usedFor next
           unfolding pushed
@@ -425,11 +425,11 @@ module _ (state others objects messages tables : List ℕ) (b : Bytes) (can : Ca
 
   -- ---- in the order of the code
 
-  module _ (k : Counters) (ek : k ≡ countersOf state) (c : Counters) (ec : c ≡ countersFor (packetCounted (countsOf k) 0 0 0)) (log : List ℕ)
+  module _ (k : Counters) (ek : k ≡ countersOf state) (c : Counters) (ec : c ≡ (packetCounted k 0 0 0)) (log : List ℕ)
       (ll : length log ≡ mostSections) (ix₁ log₁ mine₁ : List ℕ) (ei : ix₁ ≡ ix₀) (el : log₁ ≡ replicate (length log) 0) (em : mine₁ ≡ others) (z : Recent)
       (ez : z ≡ noRecent) (g : Going) (eg : g ≡ goingIn state tables c z) where
-    counted-is : c ≡ countersFor c₁
-    counted-is = ec ∙ ap (λ (x : Counters). countersFor (packetCounted (countsOf x) 0 0 0)) ek
+    counted-is : c ≡ c₁
+    counted-is = ec ∙ ap (λ (x : Counters). packetCounted x 0 0 0) ek
 
     pub push-can : CanWalkSections ix₁ log₁ mine₁ g b
     push-can = copies-can c counted-is log ll ix₁ log₁ mine₁ ei el em z ez g eg

@@ -8,8 +8,8 @@ use Rattle.isdb_mmt.specs.Model.{packetCounted}
 use Rattle.isdb_mmt.specs.Layout.{timePlace, countersPlace}
 use Rattle.isdb_mmt.specs.Lent.{over}
 use Rattle.isdb_mmt.specs.Session.{countersOf, countersFields, timeFields}
-use Rattle.isdb_mmt.specs.View.{countsOf}
-use Rattle.isdb_mmt.specs.Placing.{countersFor}
+use Rattle.isdb_mmt.specs.View.{}
+use Rattle.isdb_mmt.specs.Placing.{}
 use Rattle.isdb_mmt.specs.Leaves.{withCounters, withTime}
 use Rattle.isdb_mmt.specs.Route.{timeGiven}
 use Rattle.isdb_mmt.specs.Counted.{Countable, StateCountable}
@@ -23,19 +23,19 @@ module _ (l : List ℕ) (c : Counters) (e : c ≡ countersOf l) where
   countable ip non time h = subst (λ (x : Counters). Countable x ip non time) (sym e) (h .counts)
 
   -- stored over what the state has become
-  pub counted-over : (ip non time : ℕ) (d : Counters) → d ≡ countersFor (packetCounted (countsOf c) ip non time)
+  pub counted-over : (ip non time : ℕ) (d : Counters) → d ≡ (packetCounted c ip non time)
       → (m m′ : List ℕ) → m′ ≡ over countersPlace (written (countersFields d)) m
-      → m′ ≡ withCounters (packetCounted (countsOf (countersOf l)) ip non time) m
+      → m′ ≡ withCounters (packetCounted (countersOf l) ip non time) m
   counted-over ip non time d h m m′ k =
       k ∙ ap (λ (x : Counters). over countersPlace (written (countersFields x)) m)
-      (h ∙ ap (λ (x : Counters). countersFor (packetCounted (countsOf x) ip non time)) e)
+      (h ∙ ap (λ (x : Counters). packetCounted x ip non time) e)
 
-  pub counted-after : (ip non time : ℕ) (d : Counters) → d ≡ countersFor (packetCounted (countsOf c) ip non time)
+  pub counted-after : (ip non time : ℕ) (d : Counters) → d ≡ (packetCounted c ip non time)
       → (t : MaybeU64) (m m′ : List ℕ) → m ≡ withTime (timeGiven t) l → m′ ≡ over countersPlace (written (countersFields d)) m
-      → m′ ≡ withCounters (packetCounted (countsOf (countersOf l)) ip non time) (withTime (timeGiven t) l)
+      → m′ ≡ withCounters (packetCounted (countersOf l) ip non time) (withTime (timeGiven t) l)
   counted-after ip non time d h t m m′ j k =
       counted-over ip non time d h m m′ k
-      ∙ ap (λ (x : List ℕ). withCounters (packetCounted (countsOf (countersOf l)) ip non time) x) j
+      ∙ ap (λ (x : List ℕ). withCounters (packetCounted (countersOf l) ip non time) x) j
 
 pub time-seen : (l l′ : List ℕ) (t : MaybeU64) (v : ℕ) → t ≡ someU64 v
     → l′ ≡ over timePlace (written (timeFields (record { seen = true; timestamp = v }))) l → l′ ≡ withTime (timeGiven t) l

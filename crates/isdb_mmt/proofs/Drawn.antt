@@ -12,13 +12,14 @@ use borrow.Author.Tests.{eq-eqb, ne-eqb, lt-ltb, le-ltb}
 use Rattle.isdb_tlv.specs.Guards.{_<?_, _≤?_, _=?_}
 use Rattle.isdb_tlv.specs.Bytes.{be}
 use Rattle.isdb_tlv.proofs.Guards.{either, cond-elim}
+use Rattle.isdb_mmt.specs.declared.decoder.counts.Counters.{Counters}
 use Rattle.isdb_mmt.specs.Packet.{Bytes}
 use Rattle.isdb_mmt.specs.Maps.{find, put, one, isSome}
 use Rattle.isdb_mmt.specs.Part.{partOf}
 use Rattle.isdb_mmt.specs.Lent.{part, foundFrom, indexed}
 use Rattle.isdb_mmt.specs.View.{given}
 use Rattle.isdb_mmt.specs.Section.{length12}
-use Rattle.isdb_mmt.specs.Kept.{Section, sectionOf, declaredSection, declaredTable, Kept, Counters, KeptTables, Table, emptyTable, mptTable, pltTable, totTable, truncatedSection, aSection, otherTable, otherVersion, keepIf, keep, increments, tableCounted, sectionIncrements, changes, tableIncrements, mptAfter, stored, tableById, tableRead, longTable}
+use Rattle.isdb_mmt.specs.Kept.{Section, sectionOf, declaredSection, declaredTable, Kept, KeptTables, Table, emptyTable, mptTable, pltTable, totTable, truncatedSection, aSection, otherTable, otherVersion, keepIf, keep, increments, tableCounted, sectionIncrements, changes, tableIncrements, mptAfter, stored, tableById, tableRead, longTable}
 use Rattle.isdb_mmt.specs.Needs.{tableArea}
 use Rattle.isdb_mmt.specs.declared.decoder.place.Found.{Found}
 use Rattle.isdb_mmt.specs.declared.decoder.place.Found.the-variants.{At, Nothing as notFound}
@@ -215,18 +216,18 @@ module _ (m : Bytes) (a : Areas) (c : Counters) (d : Dry) (at : ℕ) where
         store = record { plt = plt; tot = tot; kept = kept; others = others };
         counters =
             record {
-              tlvPackets = c .tlvPackets;
-              ipErrors = c .ipErrors;
-              nonMmtps = c .nonMmtps;
-              ntps = c .ntps;
+              «tlv_packets» = c .«tlv_packets»;
+              «ip_errors» = c .«ip_errors»;
+              «non_mmtp» = c .«non_mmtp»;
+              ntp = c .ntp;
               tables = tables;
-              crcErrors = crc;
+              «crc_errors» = crc;
               malformed = malformed;
-              versionChanges = changed;
-              orphans = c .orphans;
-              oversizes = c .oversizes;
-              messageMalformed = c .messageMalformed;
-              splitErrors = breaks;
+              «version_changes» = changed;
+              «orphan_fragments» = c .«orphan_fragments»;
+              oversize = c .oversize;
+              «message_malformed» = c .«message_malformed»;
+              «split_errors» = breaks;
             };
         longest = longest;
       }
@@ -243,7 +244,7 @@ module _ (m : Bytes) (a : Areas) (c : Counters) (d : Dry) (at : ℕ) where
   -- what a table leaves, by what is kept and what it adds
   abbrev left : List (ℕ × Kept) → ℕ → ℕ → ℕ → ℕ → ℕ → Tally
   left kept crc malformed changed breaks n =
-      mk mptD pltD totD kept (d .others) (d .tables + 1) (d .crcErrors + crc) (d .malformed + malformed) (d .changes + changed)
+      mk mptD pltD totD kept (d .others) (d .tables + 1) (d .«crc_errors» + crc) (d .malformed + malformed) (d .changes + changed)
       (d .breaks + breaks) (max (d .longest) n)
 
   abbrev after : Told → Tally
@@ -255,8 +256,8 @@ module _ (m : Bytes) (a : Areas) (c : Counters) (d : Dry) (at : ℕ) where
 
     abbrev model : Bool → Bool → Option Kept → Tally
     model h ok o =
-        left (cond h (keepIf (otherVersion o v) ok (sect h ok) (kepts es)) (kepts es)) (sectionIncrements (sect h ok) o .crcErrors)
-        (sectionIncrements (sect h ok) o .malformed) (sectionIncrements (sect h ok) o .versionChanges) (sectionIncrements (sect h ok) o .breaks)
+        left (cond h (keepIf (otherVersion o v) ok (sect h ok) (kepts es)) (kepts es)) (sectionIncrements (sect h ok) o .«crc_errors»)
+        (sectionIncrements (sect h ok) o .malformed) (sectionIncrements (sect h ok) o .«version_changes») (sectionIncrements (sect h ok) o .breaks)
         (cond (h && (otherVersion o v && ok)) (length bs) 0)
 
     abbrev index : Bool → Bool → Found → Told
@@ -308,20 +309,20 @@ module _ (m : Bytes) (a : Areas) (c : Counters) (d : Dry) (at : ℕ) where
       let n = bytes-new m (a .bytes) (a .mpt) at b h in
       let e = changed mptD (d .mpt) (w .mpt) b in
       λ i.
-      mk (some (n i)) pltD totD (kepts es) (d .others) (d .tables + 1) (d .crcErrors + 0) (d .malformed + 0) (d .changes + one (e i))
+      mk (some (n i)) pltD totD (kepts es) (d .others) (d .tables + 1) (d .«crc_errors» + 0) (d .malformed + 0) (d .changes + one (e i))
       (d .breaks + breaks) (max (d .longest) (length b))
   one-table w (mptTable false breaks b) h = refl
   one-table w (pltTable true b) h =
       let n = bytes-new m (a .bytes) (a .plt) at b h in
       let e = changed pltD (d .plt) (w .plt) b in
       λ i.
-      mk mptD (some (n i)) totD (kepts es) (d .others) (d .tables + 1) (d .crcErrors + 0) (d .malformed + 0) (d .changes + one (e i))
+      mk mptD (some (n i)) totD (kepts es) (d .others) (d .tables + 1) (d .«crc_errors» + 0) (d .malformed + 0) (d .changes + one (e i))
       (d .breaks + 0) (max (d .longest) (length b))
   one-table w (pltTable false b) h = refl
   one-table w (totTable true crc breaks b) h =
       let n = bytes-new m (a .bytes) (a .tot) at b h in
       λ i.
-      mk mptD pltD (some (n i)) (kepts es) (d .others) (d .tables + 1) (d .crcErrors + one crc) (d .malformed + 0) (d .changes + 0)
+      mk mptD pltD (some (n i)) (kepts es) (d .others) (d .tables + 1) (d .«crc_errors» + one crc) (d .malformed + 0) (d .changes + 0)
       (d .breaks + breaks) (max (d .longest) (length b))
   one-table w (totTable false crc breaks b) h = refl
   one-table w truncatedSection h = refl

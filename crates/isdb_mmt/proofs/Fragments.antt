@@ -75,8 +75,8 @@ taken-away false false a = refl
 pub record Does (l : Reassembly) (x : MessagePacket) (c : Control) (m : Bytes) (f : Fate) : Type 0 where
   pub joined : joinedAs (reassemblyAfter l x .part) ≡ joinedBy f c (x .payload)
   pub area : reassemblyNeeds l x ≡ areaBy f c (x .payload)
-  pub orphans : orphan l x ≡ faultsOf f .orphan
-  pub oversizes : oversize l x ≡ faultsOf f .oversize
+  pub «orphan_fragments» : orphan l x ≡ faultsOf f .orphan
+  pub oversize : oversize l x ≡ faultsOf f .oversize
   pub shorts : short x ≡ faultsOf f .malformed
   pub whole : messageCompleted l x ≡ wholeBy f c m (x .payload)
   pub bytes : (at : ℕ) (t : Bytes) → (c .joining ≡ true → m ≡ part at (c .length) t) → at + areaBy f c (x .payload) ≤ length t
@@ -116,8 +116,8 @@ module _ (c : Control) (m mpt : Bytes) (long : c .joining ≡ true → length m 
       record {
         joined = rw e (go (c .joining) long);
         area = rw e;
-        orphans = rw e;
-        oversizes = rw e;
+        «orphan_fragments» = rw e;
+        oversize = rw e;
         shorts = e;
         whole = rw e;
         bytes = λ at t h w. rw e (lies at t (c .joining) h);
@@ -160,8 +160,8 @@ module _ (c : Control) (m mpt : Bytes) (long : c .joining ≡ true → length m 
         record {
           joined = ap joinedAs (after-is undivided f);
           area = needs-is undivided f;
-          orphans = orphan-is undivided f;
-          oversizes = oversize-is undivided f;
+          «orphan_fragments» = orphan-is undivided f;
+          oversize = oversize-is undivided f;
           shorts = e;
           whole = gives-is undivided f;
           bytes = λ at t h w. ap (λ (o : Option PartialMessage). bytesOver at (joinedIn o) t) (after-is undivided f);
@@ -173,8 +173,8 @@ module _ (c : Control) (m mpt : Bytes) (long : c .joining ≡ true → length m 
         record {
           joined = ap joinedAs (after-is first f) ∙ ap (joinedWith (flagsIn b .«long_length») (flagsIn b .aggregated)) (length-drop 2 b);
           area = needs-is first f ∙ length-drop 2 b;
-          orphans = orphan-is first f;
-          oversizes = oversize-is first f;
+          «orphan_fragments» = orphan-is first f;
+          oversize = oversize-is first f;
           shorts = e;
           whole = gives-is first f;
           bytes = λ at t h w. ap (λ (o : Option PartialMessage). bytesOver at (joinedIn o) t) (after-is first f);
@@ -191,8 +191,8 @@ module _ (c : Control) (m mpt : Bytes) (long : c .joining ≡ true → length m 
         record {
           joined = ap joinedAs (after-is middle f ∙ gone off);
           area = needs-is middle f ∙ rw off;
-          orphans = orphan-is middle f ∙ rw off;
-          oversizes = oversize-is middle f ∙ rw off;
+          «orphan_fragments» = orphan-is middle f ∙ rw off;
+          oversize = oversize-is middle f ∙ rw off;
           shorts = e;
           whole = gives-is middle f;
           bytes = λ at t h w. ap (λ (o : Option PartialMessage). bytesOver at (joinedIn o) t) (after-is middle f ∙ gone off);
@@ -201,8 +201,8 @@ module _ (c : Control) (m mpt : Bytes) (long : c .joining ≡ true → length m 
         record {
           joined = ap joinedAs (after-is last f);
           area = needs-is last f ∙ rw off;
-          orphans = orphan-is last f ∙ rw off;
-          oversizes = oversize-is last f ∙ rw off;
+          «orphan_fragments» = orphan-is last f ∙ rw off;
+          oversize = oversize-is last f ∙ rw off;
           shorts = e;
           whole = gives-is last f ∙ gone off;
           bytes = λ at t h w. ap (λ (o : Option PartialMessage). bytesOver at (joinedIn o) t) (after-is last f);
@@ -230,8 +230,8 @@ module _ (c : Control) (m mpt : Bytes) (long : c .joining ≡ true → length m 
             record {
               joined = ap joinedAs (after-is middle f ∙ no-more);
               area = needs-is middle f ∙ ap partialLength no-more;
-              orphans = orphan-is middle f ∙ rw yes;
-              oversizes = oversize-is middle f ∙ rw no-more (rw yes);
+              «orphan_fragments» = orphan-is middle f ∙ rw yes;
+              oversize = oversize-is middle f ∙ rw no-more (rw yes);
               shorts = e;
               whole = gives-is middle f;
               bytes = λ at t h w. ap (λ (o : Option PartialMessage). bytesOver at (joinedIn o) t) (after-is middle f ∙ no-more);
@@ -240,8 +240,8 @@ module _ (c : Control) (m mpt : Bytes) (long : c .joining ≡ true → length m 
             record {
               joined = ap joinedAs (after-is last f);
               area = needs-is last f ∙ ap partialLength no-more;
-              orphans = orphan-is last f ∙ rw yes;
-              oversizes = oversize-is last f ∙ rw no-more (rw yes);
+              «orphan_fragments» = orphan-is last f ∙ rw yes;
+              oversize = oversize-is last f ∙ rw no-more (rw yes);
               shorts = e;
               whole = gives-is last f ∙ no-more;
               bytes = λ at t h w. ap (λ (o : Option PartialMessage). bytesOver at (joinedIn o) t) (after-is last f);
@@ -265,8 +265,8 @@ module _ (c : Control) (m mpt : Bytes) (long : c .joining ≡ true → length m 
             record {
               joined = ap joinedAs (after-is middle f ∙ one-more) ∙ ap (joinedWith (c .«long_length») (c .aggregated)) length-more;
               area = needs-is middle f ∙ ap partialLength one-more ∙ length-more;
-              orphans = orphan-is middle f ∙ rw yes;
-              oversizes = oversize-is middle f ∙ rw one-more (rw yes);
+              «orphan_fragments» = orphan-is middle f ∙ rw yes;
+              oversize = oversize-is middle f ∙ rw one-more (rw yes);
               shorts = e;
               whole = gives-is middle f;
               bytes =
@@ -281,8 +281,8 @@ module _ (c : Control) (m mpt : Bytes) (long : c .joining ≡ true → length m 
             record {
               joined = ap joinedAs (after-is last f);
               area = needs-is last f ∙ ap partialLength one-more ∙ length-more;
-              orphans = orphan-is last f ∙ rw yes;
-              oversizes = oversize-is last f ∙ rw one-more (rw yes);
+              «orphan_fragments» = orphan-is last f ∙ rw yes;
+              oversize = oversize-is last f ∙ rw one-more (rw yes);
               shorts = e;
               whole = gives-is last f ∙ one-more;
               bytes = λ at t h w. ap (λ (o : Option PartialMessage). bytesOver at (joinedIn o) t) (after-is last f);

@@ -11,10 +11,11 @@ use native.Mathlib.Omega.{arith}
 use lib.ListN.{length}
 use Rattle.isdb_tlv.specs.Fields.{written, Fit}
 use Rattle.isdb_tlv.proofs.Fields.{length-written}
+use Rattle.isdb_mmt.specs.declared.decoder.counts.Counters.{Counters}
 use Rattle.isdb_mmt.specs.Packet.{Bytes, MessagePacket, Packet, ipError, ntp, nonMmtp, media, message, control, other}
 use Rattle.isdb_mmt.specs.Maps.{put, isSome}
 use Rattle.isdb_mmt.specs.Objects.{Mfu, Asset}
-use Rattle.isdb_mmt.specs.Kept.{Kept, Counters as Counts}
+use Rattle.isdb_mmt.specs.Kept.{Kept}
 use Rattle.isdb_mmt.specs.Model.{State, Control as ControlState, controlOf, pushed}
 use Rattle.isdb_mmt.specs.Needs.{heldLength}
 use Rattle.isdb_mmt.specs.Layout.{latestPlace, timePlace, countersPlace, mediaPlaces}
@@ -23,7 +24,7 @@ use Rattle.isdb_mmt.specs.Session.{Session, limitsOf, usedOf, latestOf, 
 use Rattle.isdb_mmt.specs.Check.{mediaIn, controlsIn, sectionsIn, lengthsOf, sound, Sound}
 use Rattle.isdb_mmt.specs.View.{view}
 use Rattle.isdb_mmt.specs.Opening.{lent}
-use Rattle.isdb_mmt.specs.Placing.{tableLength, placeFor, heldFor, controlFor, latestFor, countersFor}
+use Rattle.isdb_mmt.specs.Placing.{tableLength, placeFor, heldFor, controlFor, latestFor}
 use Rattle.isdb_mmt.specs.MediaPush.{heldOver, mediaPlaceFor, leavesAt, assetNext, mediaLeaves}
 use Rattle.isdb_mmt.specs.Leaves.{keptPlace, withTime, withCounters, controlLeaves, messageIn, controlPlaceFor, messageAt, messageLeaves, packetLeaves, joinedIn}
 use Rattle.isdb_mmt.specs.Push.{Fits}
@@ -123,10 +124,10 @@ module _ (s : Session) (ok : Sound (s .state) (s .others) (lengthsOf s)) where
         used = used-apart b bs m (inl (omega arith)) w ∙ h .used;
       }
 
-  counted : (c : Counts) (m : List ℕ) → Behind m → Behind (withCounters c m)
+  counted : (c : Counters) (m : List ℕ) → Behind m → Behind (withCounters c m)
   counted c m h =
-      let e : length (written (countersFields (countersFor c))) ≡ 96 = length-written (countersFields (countersFor c)) in
-      behind m h countersPlace (written (countersFields (countersFor c))) (omega arith) (omega arith)
+      let e : length (written (countersFields c)) ≡ 96 = length-written (countersFields c) in
+      behind m h countersPlace (written (countersFields c)) (omega arith) (omega arith)
 
   timed : (t : Option ℕ) → Behind (withTime t (s .state))
   timed none = untouched

@@ -15,10 +15,10 @@ use Rattle.isdb_tlv.proofs.Guards.{either}
 use Rattle.isdb_mmt.specs.Layout.{sectionSize}
 use Rattle.isdb_mmt.specs.Packet.{Bytes}
 use Rattle.isdb_mmt.specs.Octets.{Octets}
-use Rattle.isdb_mmt.specs.Kept.{Kept, Counters as Counts}
+use Rattle.isdb_mmt.specs.Kept.{Kept}
 use Rattle.isdb_mmt.specs.Lent.{part, placesFrom, indexed}
 use Rattle.isdb_mmt.specs.Session.{sectionPlaceOf, sectionFields}
-use Rattle.isdb_mmt.specs.Placing.{tableLength, countersFor}
+use Rattle.isdb_mmt.specs.Placing.{tableLength}
 use Rattle.isdb_mmt.specs.Leaves.{keptPlace, sectionRows}
 use Rattle.isdb_mmt.specs.Verdict.{indexOf}
 use Rattle.isdb_mmt.specs.Dry.{Logged, withLog, placesOf, bytesAt, drawnEntry, drawnRecent, Dry, dryOf, drawnCounters}
@@ -144,22 +144,22 @@ module _ (m t : Bytes) (area : ℕ) where
 
 -- ---- the counters
 
-pub counters-are : (ix log others : List ℕ) (c : Counts) (r : Going) → r .«message_malformed» ≡ c .messageMalformed
-    → countersWith (countersFor c) r ≡ countersFor (drawnCounters c (dryOf ix log others r))
+pub counters-are : (ix log others : List ℕ) (c : Counters) (r : Going) → r .«message_malformed» ≡ c .«message_malformed»
+    → countersWith c r ≡ (drawnCounters c (dryOf ix log others r))
 counters-are ix log others c r e =
     ap
     (λ n.
     record {
-      «tlv_packets» = c .tlvPackets;
-      «ip_errors» = c .ipErrors;
-      «non_mmtp» = c .nonMmtps;
-      ntp = c .ntps;
+      «tlv_packets» = c .«tlv_packets»;
+      «ip_errors» = c .«ip_errors»;
+      «non_mmtp» = c .«non_mmtp»;
+      ntp = c .ntp;
       tables = r .tables;
       «crc_errors» = r .«crc_errors»;
       malformed = r .malformed;
       «version_changes» = r .«version_changes»;
-      «orphan_fragments» = c .orphans;
-      oversize = c .oversizes;
+      «orphan_fragments» = c .«orphan_fragments»;
+      oversize = c .oversize;
       «message_malformed» = n;
       «split_errors» = r .«split_errors»;
     })

@@ -21,7 +21,7 @@ use Rattle.isdb_mmt.specs.Model.{State, Control as ControlState, control
 use Rattle.isdb_mmt.specs.View.{given, controlStateOf, controlEntry, tableAt, viewBy, view, assetEntry, sectionEntry}
 use Rattle.isdb_mmt.specs.Kept.{mptAfterAll}
 use Rattle.isdb_mmt.specs.GivenTables.{tablesGiven}
-use Rattle.isdb_mmt.specs.Placing.{tableLength, controlFor, latestFor, countersFor}
+use Rattle.isdb_mmt.specs.Placing.{tableLength, controlFor, latestFor}
 use Rattle.isdb_mmt.specs.Needs.{needs, tablesNeed}
 use Rattle.isdb_mmt.specs.Push.{asksOf, QuietPushed}
 use Rattle.isdb_mmt.specs.Opening.{lent}
@@ -239,7 +239,7 @@ module _ (s : Session) (ok : Sound (s .state) (s .others) (lengthsOf s)) (x : Me
       → messageAt s n (x .id) place-for ≡ messageIn s n (x .id) i
       → packetLeaves s (message x)
       ≡ lent
-      (withCounts (countersFor (n .counters)) (latestFor (n .store))
+      (withCounts (n .counters) (latestFor (n .store))
       (withSections (n .store .kept)
       (withLine i
       (controlWith (x .id) (x .number) (joinedBy f c b) (isSome (controlOf (x .id) n .mpt)) (tableLength (controlOf (x .id) n .mpt)))
@@ -262,7 +262,7 @@ module _ (s : Session) (ok : Sound (s .state) (s .others) (lengthsOf s)) (x : Me
       ap (messageAt s n (x .id)) e
       ∙ q
       ∙ (λ j.
-      lent (withCounts (countersFor (n .counters)) (latestFor (n .store)) (withSections (n .store .kept) (withLine i (p j) (u j) (s .state)))) (n .store .others)
+      lent (withCounts (n .counters) (latestFor (n .store)) (withSections (n .store .kept) (withLine i (p j) (u j) (s .state)))) (n .store .others)
       (s .objects) (r j)
       (bytesOver ((lim .sections + i) * lim .«table_area») (controlOf (x .id) n .mpt)
       (latestOver lim (n .store) (keptOver (lim .«table_area») 0 (n .store .kept) (s .tables)))))

@@ -28,7 +28,7 @@ use Rattle.isdb_mmt.specs.Model.{State, Control as ControlState, control
 use Rattle.isdb_mmt.specs.View.{tableAt, viewBy, view, given}
 use Rattle.isdb_mmt.specs.Kept.{Table, tableRead, storedAll, mptAfterAll, KeptTables, countedAll}
 use Rattle.isdb_mmt.specs.GivenTables.{tablesGiven}
-use Rattle.isdb_mmt.specs.Placing.{tableLength, controlFor, latestFor, countersFor}
+use Rattle.isdb_mmt.specs.Placing.{tableLength, controlFor, latestFor}
 use Rattle.isdb_mmt.specs.Needs.{needs, tablesNeed}
 use Rattle.isdb_mmt.specs.Octets.{Octets}
 use Rattle.isdb_mmt.specs.Opening.{lent}
@@ -183,7 +183,7 @@ module _ (s : Session) (ok : Sound (s .state) (s .others) (lengthsOf s)) (x : Me
   mpt-is =
       ap (λ (y : ControlState). y .mpt) (own s ok x i k c at f ef) ∙ ap (mptAfterAll (controlOf (x .id) v .mpt)) none-given ∙ mpt-before s ok x i k c at f ef
 
-  counters-are : countersFor (n .counters) ≡ fragmentCounted f (countersOf (s .state))
+  counters-are : (n .counters) ≡ fragmentCounted f (countersOf (s .state))
   unfolding pushed countedAll reassemblyCounted messageCounted packetCounted cutOfAll view viewBy
   counters-are =
       let a : Counters = countersOf (s .state) in
@@ -191,9 +191,9 @@ module _ (s : Session) (ok : Sound (s .state) (s .others) (lengthsOf s)) (x : Me
       let bad : a .«message_malformed» + (one (short x) + cutOfAll (messageCompleted line x) .malformed) ≡ a .«message_malformed» + one (faultsOf f .malformed) =
       ap (λ (o : Option PartialMessage). a .«message_malformed» + (one (short x) + cutOfAll o .malformed)) (done .whole ∙ none-whole f c m b part-only)
       ∙ ap (λ y. a .«message_malformed» + (one y + 0)) (done .shorts) ∙ ap (λ y. a .«message_malformed» + y) (add-zero (one (faultsOf f .malformed))) in
-      let orphans = ap (λ y. a .«orphan_fragments» + one y) (done .orphans) in
-      let oversizes = ap (λ y. a .oversize + one y) (done .oversizes) in
-      let e : countersFor (reassemblyCounted (packetCounted (v .counters) 0 0 0) line x) ≡ fragmentCounted f a =
+      let «orphan_fragments» = ap (λ y. a .«orphan_fragments» + one y) (done .«orphan_fragments») in
+      let oversize = ap (λ y. a .oversize + one y) (done .oversize) in
+      let e : (reassemblyCounted (packetCounted (v .counters) 0 0 0) line x) ≡ fragmentCounted f a =
       λ j.
       record {
         «tlv_packets» = a .«tlv_packets» + 1;
@@ -204,12 +204,12 @@ module _ (s : Session) (ok : Sound (s .state) (s .others) (lengthsOf s)) (x : Me
         «crc_errors» = a .«crc_errors»;
         malformed = a .malformed;
         «version_changes» = a .«version_changes»;
-        «orphan_fragments» = orphans j;
-        oversize = oversizes j;
+        «orphan_fragments» = «orphan_fragments» j;
+        oversize = oversize j;
         «message_malformed» = bad j;
         «split_errors» = a .«split_errors»;
       } in
-      ap (λ (ts : List Table). countersFor (countedAll (controlOf (x .id) v .mpt) (v .store) (reassemblyCounted (packetCounted (v .counters) 0 0 0) line x) ts)) none-given
+      ap (λ (ts : List Table). (countedAll (controlOf (x .id) v .mpt) (v .store) (reassemblyCounted (packetCounted (v .counters) 0 0 0) line x) ts)) none-given
       ∙ e
 
   place-is : controlFor (x .id) (controlOf (x .id) n) ≡ placeNext (x .id) (x .number) c f b
@@ -377,8 +377,8 @@ module _ (s : Session) (x : MessagePacket) (y : Meeting) (h : CanJoin s x y) whe
               counts =
                   record {
                     packets = count-was (packetCounts (countersOf (s .state))) 0 (ok .packets);
-                    orphans = count-was (tableCounts (countersOf (s .state))) 4 (ok .tables);
-                    oversizes = count-was (tableCounts (countersOf (s .state))) 5 (ok .tables);
+                    «orphan_fragments» = count-was (tableCounts (countersOf (s .state))) 4 (ok .tables);
+                    oversize = count-was (tableCounts (countersOf (s .state))) 5 (ok .tables);
                     malformed = count-was (tableCounts (countersOf (s .state))) 6 (ok .tables);
                   };
             };

@@ -12,7 +12,7 @@ use borrow.Author.Tests.{leb-true}
 use Rattle.isdb_tlv.proofs.Guards.{either}
 use Rattle.isdb_mmt.specs.Layout.{mostSections, mostControlIds, mostTableArea, mostCount, tableIds, sectionPlaces, sectionSize}
 use Rattle.isdb_mmt.specs.Packet.{Bytes}
-use Rattle.isdb_mmt.specs.Kept.{Kept, Counters as Counts, KeptTables}
+use Rattle.isdb_mmt.specs.Kept.{Kept, KeptTables}
 use Rattle.isdb_mmt.specs.Lent.{part, placesFrom, indexed, every}
 use Rattle.isdb_mmt.specs.Session.{Session, limitsOf, usedOf, latestOf, countersOf, sectionPlaceOf}
 use Rattle.isdb_mmt.specs.Check.{sectionsIn, sectionSound, lengthsOf, countFits, Sound}
@@ -117,7 +117,7 @@ module _ (s : Session) (ok : Sound (s .state) (s .others) (lengthsOf s)) where
         room = met .tables;
       }
 
-  module _ (m : Bytes) (log : List ℕ) (z : NoLog log) (mpt : Recent) (mptAt : ℕ) (c : Counts) (cs : Counters) where
+  module _ (m : Bytes) (log : List ℕ) (z : NoLog log) (mpt : Recent) (mptAt : ℕ) (c : Counters) (cs : Counters) where
     abbrev pub areas : Areas
     areas =
         record {

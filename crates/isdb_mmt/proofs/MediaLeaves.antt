@@ -17,14 +17,13 @@ use Rattle.isdb_tlv.proofs.Guards.{either}
 use Rattle.isdb_mmt.specs.Packet.{MpuPacket, media as mediaPacket, Bytes, PayloadUnit, readable}
 use Rattle.isdb_mmt.specs.Maps.{find, put, orElse, isSome}
 use Rattle.isdb_mmt.specs.Objects.{newMpu, mpuAfter, rangeAfter, mpuIn, Mfu, Asset, fresh, assetAfter, UnitEffect, mostObject, grown, continued, effectOf, unitEffect, afterUnit, objectOf, afterUnits, gap, afterHeaders}
-use Rattle.isdb_mmt.specs.Kept.{Counters as Counts}
 use Rattle.isdb_mmt.specs.Model.{State, assetOf, pushed, packetCounted}
 use Rattle.isdb_mmt.specs.Needs.{heldLength, unitArea, unitsNeed, needs}
 use Rattle.isdb_mmt.specs.Lent.{part, over, placesFrom, namesFrom, foundFrom, placeForFound, placeForName, every, indexed}
 use Rattle.isdb_mmt.specs.Limits.{asked}
 use Rattle.isdb_mmt.specs.Session.{Session, limitsOf, usedOf, usedFields, latestOf, timeOf, countersOf, mediaFields, mediaPlaceOf}
 use Rattle.isdb_mmt.specs.Check.{mediaIn, controlsIn, sectionsIn, mediaSound, packetCounts, lengthsOf, Sound}
-use Rattle.isdb_mmt.specs.View.{given, headerGiven, itemGiven, mfuOf, assetOfPlace, assetEntry, controlEntry, sectionEntry, tableAt, countsOf, viewBy, view}
+use Rattle.isdb_mmt.specs.View.{given, headerGiven, itemGiven, mfuOf, assetOfPlace, assetEntry, controlEntry, sectionEntry, tableAt, viewBy, view}
 use Rattle.isdb_mmt.specs.Opening.{lent}
 use Rattle.isdb_mmt.specs.Records.{objectFor, headerOr, hasHeader, itemOr, hasItem}
 use Rattle.isdb_mmt.specs.MediaPush.{placeFor, heldFor, firstIn, heldOver, withPlace, oneMore, withUsed, withPackets, mediaPlaceFor, leavesAt, assetNext, mediaLeaves, asksFor, mediaAsks}
@@ -500,7 +499,7 @@ module _ (s : Session) (st′ ob′ : List ℕ) (es : List (ℕ × Asset)) where
               others = s .others;
             };
         time = given (k .time i .seen) (k .time i .timestamp);
-        counters = countsOf (ec i);
+        counters = (ec i);
       })
       ∙ (λ i.
       record {
@@ -511,18 +510,18 @@ module _ (s : Session) (st′ ob′ : List ℕ) (es : List (ℕ × Asset)) where
         time = view s .time;
         counters =
             record {
-              tlvPackets = c .«tlv_packets» + 1;
-              ipErrors = z1 i;
-              nonMmtps = z2 i;
-              ntps = z3 i;
+              «tlv_packets» = c .«tlv_packets» + 1;
+              «ip_errors» = z1 i;
+              «non_mmtp» = z2 i;
+              ntp = z3 i;
               tables = c .tables;
-              crcErrors = c .«crc_errors»;
+              «crc_errors» = c .«crc_errors»;
               malformed = c .malformed;
-              versionChanges = c .«version_changes»;
-              orphans = c .«orphan_fragments»;
-              oversizes = c .oversize;
-              messageMalformed = c .«message_malformed»;
-              splitErrors = c .«split_errors»;
+              «version_changes» = c .«version_changes»;
+              «orphan_fragments» = c .«orphan_fragments»;
+              oversize = c .oversize;
+              «message_malformed» = c .«message_malformed»;
+              «split_errors» = c .«split_errors»;
             };
       })
 

@@ -24,10 +24,10 @@ use Rattle.isdb_mmt.specs.Lent.{part, over, placesFrom, namesFrom, found
 use Rattle.isdb_mmt.specs.Limits.{asked}
 use Rattle.isdb_mmt.specs.Session.{Session, limitsOf, usedOf, latestOf, timeOf, countersOf, countersFields, mediaPlaceOf, controlPlaceOf, sectionPlaceOf, controlFields, usedFields}
 use Rattle.isdb_mmt.specs.Check.{mediaIn, controlsIn, sectionsIn, controlSound, lengthsOf, Sound}
-use Rattle.isdb_mmt.specs.View.{given, controlStateOf, assetEntry, controlEntry, sectionEntry, tableAt, countsOf, viewBy, view}
+use Rattle.isdb_mmt.specs.View.{given, controlStateOf, assetEntry, controlEntry, sectionEntry, tableAt, viewBy, view}
 use Rattle.isdb_mmt.specs.Opening.{lent}
 use Rattle.isdb_mmt.specs.MediaPush.{withUsed}
-use Rattle.isdb_mmt.specs.Placing.{tableLength, longIn, aggregatedIn, controlFor, latestFor, countersFor}
+use Rattle.isdb_mmt.specs.Placing.{tableLength, longIn, aggregatedIn, controlFor, latestFor}
 use Rattle.isdb_mmt.specs.Leaves.{joinedIn, keptPlace, usedFor, withControl, withLatest, withCounters, stateOfTables, bytesOver, keptOver, latestOver, countedIn, controlLeaves, messageIn, controlPlaceFor, messageAt}
 use Rattle.isdb_mmt.specs.declared.decoder.place.Found.{Found}
 use Rattle.isdb_mmt.specs.declared.decoder.place.Found.the-variants.{At, Nothing}
@@ -69,7 +69,7 @@ pub record Says (s s′ : Session) (n : State) : Type 0 where
   pub kept : indexed (sectionEntry (limitsOf (s .state)) s′) 0 (sectionsIn (s′ .state)) ≡ n .store .kept
   pub others : s′ .others ≡ n .store .others
   pub time : given (timeOf (s′ .state) .seen) (timeOf (s′ .state) .timestamp) ≡ n .time
-  pub counters : countersOf (s′ .state) ≡ countersFor (n .counters)
+  pub counters : countersOf (s′ .state) ≡ n .counters
 
 pub says : (s s′ : Session) (n : State) → Says s s′ n → view s′ ≡ n
 unfolding view viewBy
@@ -82,7 +82,7 @@ says s s′ n h =
       controls = h .controls i;
       store = record { plt = h .plt i; tot = h .tot i; kept = h .kept i; others = h .others i };
       time = h .time i;
-      counters = countsOf (h .counters i);
+      counters = (h .counters i);
     })
 
 -- ---- lengths of the lists in use

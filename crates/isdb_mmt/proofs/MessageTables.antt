@@ -12,14 +12,14 @@ use Rattle.isdb_mmt.specs.Layout.{mostSections, mostControlIds, mostMess
 use Rattle.isdb_mmt.specs.Packet.{Bytes}
 use Rattle.isdb_mmt.specs.Maps.{isSome}
 use Rattle.isdb_mmt.specs.Joins.{PartialMessage, cutOf}
-use Rattle.isdb_mmt.specs.Kept.{Kept, Counters as Counts, KeptTables, Table, tableRead, mptAfterAll, storedAll, countedAll}
+use Rattle.isdb_mmt.specs.Kept.{Kept, KeptTables, Table, tableRead, mptAfterAll, storedAll, countedAll}
 use Rattle.isdb_mmt.specs.Needs.{tablesNeed}
 use Rattle.isdb_mmt.specs.Octets.{Octets}
 use Rattle.isdb_mmt.specs.Lent.{part}
 use Rattle.isdb_mmt.specs.Session.{Session, limitsOf, usedOf, latestOf}
 use Rattle.isdb_mmt.specs.Check.{lengthsOf, Sound}
 use Rattle.isdb_mmt.specs.View.{given, view}
-use Rattle.isdb_mmt.specs.Placing.{tableLength, latestFor, countersFor}
+use Rattle.isdb_mmt.specs.Placing.{tableLength, latestFor}
 use Rattle.isdb_mmt.specs.Leaves.{sectionRows, bytesOver, keptOver, latestOver}
 use Rattle.isdb_mmt.specs.Verdict.{indexSize, indexOf}
 use Rattle.isdb_mmt.specs.Placed.{Placed, bytesOf, placedCut, AllStand}
@@ -44,7 +44,7 @@ use Rattle.isdb_mmt.proofs.Modelled.{AsModel, walk-is, full-above, used
 
 -- a session, the MPT of control place `i`, a joined message, and the counters before its tables
 module _ (s : Session) (ok : Sound (s .state) (s .others) (lengthsOf s)) (i : ℕ) (hi : i < limitsOf (s .state) .«control_ids») (there : Bool) (len : ℕ)
-    (hm : there ≡ true → len ≤ limitsOf (s .state) .«table_area») (j : PartialMessage) (c₀ : Counts) where
+    (hm : there ≡ true → len ≤ limitsOf (s .state) .«table_area») (j : PartialMessage) (c₀ : Counters) where
   abbrev l : Limits
   l = limitsOf (s .state)
 
@@ -64,9 +64,9 @@ module _ (s : Session) (ok : Sound (s .state) (s .others) (lengthsOf s)) (i : �
   log₀ = replicate mostSections 0
 
   abbrev g₀ : Going
-  g₀ = goingIn (s .state) (s .tables) (countersFor c₀) mpt₀
+  g₀ = goingIn (s .state) (s .tables) c₀ mpt₀
 
-  abbrev c₁ : Counts
+  abbrev c₁ : Counters
   c₁ = malformedMore c₀ (cutOf j .malformed)
 
   pub message-can : CountsFit c₀ → length (s .others) ≡ tableIds → (seam : List ℕ) → length seam ≡ mostTableArea → length m ≤ mostMessageArea
@@ -84,11 +84,11 @@ module _ (s : Session) (ok : Sound (s .state) (s .others) (lengthsOf s)) (i : �
         room =
             record {
               tables = f .tables;
-              crcErrors = f .crcErrors;
+              «crc_errors» = f .«crc_errors»;
               malformed = f .malformed;
-              changes = f .versionChanges;
-              breaks = f .splitErrors;
-              bad = f .messageMalformed;
+              changes = f .«version_changes»;
+              breaks = f .«split_errors»;
+              bad = f .«message_malformed»;
               each = λ k. count-was (s .others) k (ok .counts);
             };
         short = omega arith;
@@ -105,7 +105,7 @@ module _ (s : Session) (ok : Sound (s .state) (s .others) (lengthsOf s)) (i : �
   given-tables = map tableRead (cutOf j .tables)
 
   abbrev a : Areas
-  a = areas s ok m log₀ (no-log mostSections) mpt₀ mptAt c₁ (countersFor c₀)
+  a = areas s ok m log₀ (no-log mostSections) mpt₀ mptAt c₁ c₀
 
   abbrev before : Tally
   before = drawn m a c₁ (dryOf ix₀ log₀ (s .others) g₀)
@@ -117,10 +117,10 @@ module _ (s : Session) (ok : Sound (s .state) (s .others) (lengthsOf s)) (i : �
   same-tables = ap (map tableRead) (bytes-cut j)
 
   same-store : before .store ≡ store-before
-  same-store = store-view s ok m log₀ (no-log mostSections) mpt₀ mptAt c₁ (countersFor c₀)
+  same-store = store-view s ok m log₀ (no-log mostSections) mpt₀ mptAt c₁ c₀
 
   versions : Versions m a (dryOf ix₀ log₀ (s .others) g₀)
-  versions = versions-view s ok m log₀ (no-log mostSections) mpt₀ mptAt c₁ (countersFor c₀) (version-start m (s .tables) mptAt there len)
+  versions = versions-view s ok m log₀ (no-log mostSections) mpt₀ mptAt c₁ c₀ (version-start m (s .tables) mptAt there len)
 
   abbrev store-after : KeptTables
   store-after = storedAll store-before given-tables
@@ -145,7 +145,7 @@ module _ (s : Session) (ok : Sound (s .state) (s .others) (lengthsOf s)) (i : �
       ap (λ (x : KeptTables). countedAll mpt-before x c₁ ts) same-store ∙ ap (λ (x : List Table). countedAll mpt-before store-before c₁ x) same-tables
 
   held : AllHeld m (l .«table_area») 0 (dryOf ix₀ log₀ (s .others) g₀ .index)
-  held = held-view s ok m log₀ (no-log mostSections) mpt₀ mptAt c₁ (countersFor c₀)
+  held = held-view s ok m log₀ (no-log mostSections) mpt₀ mptAt c₁ c₀
 
   in-area : (there : Bool) (n at : ℕ) → (there ≡ true → n ≤ l .«table_area») → RecentHeld m (l .«table_area») 0 (recentAt (s .tables) at there n)
   in-area there n at h = record { there = λ e z. absurd (z refl); small = λ e. omega (arith, h e) }
@@ -199,9 +199,9 @@ module _ (s : Session) (ok : Sound (s .state) (s .others) (lengthsOf s)) (i : �
       unfolding drawn
       message-others = ap (λ (x : KeptTables). x .others) (is .store ∙ store-is)
 
-      pub message-counters : countersWith (countersFor c₀) r ≡ countersFor (countedAll mpt-before store-before c₁ given-tables)
+      pub message-counters : countersWith c₀ r ≡ (countedAll mpt-before store-before c₁ given-tables)
       unfolding drawn
-      message-counters = counters-are ix log mine c₁ r (w .bad) ∙ ap countersFor (is .counters ∙ counted-is)
+      message-counters = counters-are ix log mine c₁ r (w .bad) ∙ is .counters ∙ counted-is
 
       module _ (few : r .used ≤ l .sections) (fits : r .longest ≤ l .«table_area») where
         abbrev es : List Logged

@@ -7,10 +7,11 @@ use mathlib.Core.List.{List, [], _∷_, map}
 use native.Mathlib.Omega.{arith}
 use native.Mathlib.Nat.{zero-add}
 use lib.ListN.{length, take}
+use Rattle.isdb_mmt.specs.declared.decoder.counts.Counters.{Counters}
 use Rattle.isdb_mmt.specs.Layout.{mostSections, sectionSize}
 use Rattle.isdb_mmt.specs.Packet.{Bytes}
 use Rattle.isdb_mmt.specs.Lent.{indexed}
-use Rattle.isdb_mmt.specs.Kept.{Kept, Counters, KeptTables, Table, mptAfterAll, storedAll, countedAll}
+use Rattle.isdb_mmt.specs.Kept.{Kept, KeptTables, Table, mptAfterAll, storedAll, countedAll}
 use Rattle.isdb_mmt.specs.Needs.{tablesNeed}
 use Rattle.isdb_mmt.specs.declared.decoder.walk.Going.{Going}
 use Rattle.isdb_mmt.specs.Placed.{Placed, bytesOf, AllStand}

@@ -127,7 +127,7 @@ notedBy d t z f =
       index = indexAfter (d .index) z f;
       others = othersAfter (d .others) z;
       tables = d .tables + 1;
-      crcErrors = d .crcErrors + t .«crc_errors»;
+      «crc_errors» = d .«crc_errors» + t .«crc_errors»;
       malformed = d .malformed + t .malformed;
       changes = d .changes + t .«version_changes»;
       breaks = d .breaks + t .breaks;
@@ -145,7 +145,7 @@ module _ (ix log others : List ℕ) (g : Going) (t : Told) (f : ℕ) (can : CanN
   can-count =
       record {
         tables = can .room .tables;
-        crcErrors = omega (arith, can .room .crcErrors, can .told .crcErrors);
+        «crc_errors» = omega (arith, can .room .«crc_errors», can .told .«crc_errors»);
         malformed = omega (arith, can .room .malformed, can .told .malformed);
         changes = omega (arith, can .room .changes, can .told .changes);
         breaks = omega (arith, can .room .breaks, can .told .breaks);
@@ -161,7 +161,7 @@ module _ (ix log others : List ℕ) (g : Going) (t : Told) (f : ℕ) (can : CanN
   room-of r os e0 e1 e2 e3 e4 e5 each most m =
       record {
         tables = omega (arith, m .tables);
-        crcErrors = omega (arith, m .crcErrors, can .told .crcErrors);
+        «crc_errors» = omega (arith, m .«crc_errors», can .told .«crc_errors»);
         malformed = omega (arith, m .malformed, can .told .malformed);
         changes = omega (arith, m .changes, can .told .changes);
         breaks = omega (arith, m .breaks, can .told .breaks);
@@ -180,7 +180,7 @@ module _ (ix log others : List ℕ) (g : Going) (t : Told) (f : ℕ) (can : CanN
             λ most m.
             record {
               tables = omega (arith, m .tables);
-              crcErrors = omega (arith, m .crcErrors);
+              «crc_errors» = omega (arith, m .«crc_errors»);
               malformed = omega (arith, m .malformed);
               changes = omega (arith, m .changes);
               breaks = omega (arith, m .breaks);
@@ -296,7 +296,7 @@ module _ (ix log others : List ℕ) (g : Going) (t : Told) (f : ℕ) (can : CanN
                   index = l;
                   others = others;
                   tables = g .tables + 1;
-                  crcErrors = g .«crc_errors» + t .«crc_errors»;
+                  «crc_errors» = g .«crc_errors» + t .«crc_errors»;
                   malformed = g .malformed + t .malformed;
                   changes = g .«version_changes» + t .«version_changes»;
                   breaks = g .«split_errors» + t .breaks;

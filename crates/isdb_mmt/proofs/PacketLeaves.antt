@@ -27,7 +27,7 @@ use Rattle.isdb_mmt.specs.Check.{mediaIn, controlsIn, sectionsIn, length
 use Rattle.isdb_mmt.specs.View.{given, assetEntry, controlEntry, sectionEntry, tableAt, viewBy, view}
 use Rattle.isdb_mmt.specs.Opening.{lent}
 use Rattle.isdb_mmt.specs.MediaPush.{placeFor, assetNext}
-use Rattle.isdb_mmt.specs.Placing.{tableLength, controlFor, countersFor}
+use Rattle.isdb_mmt.specs.Placing.{tableLength, controlFor}
 use Rattle.isdb_mmt.specs.Leaves.{usedFor, withTime, withCounters, countedIn, timeLeaves, controlLeaves, messageIn, controlPlaceFor, messageAt, messageLeaves, packetLeaves}
 use Rattle.isdb_mmt.specs.Push.{Input, packetOf, hasPlaces, hasAreas, hasOutputs, asksOf, asks, Fits, Taken}
 use Rattle.isdb_mmt.specs.declared.decoder.place.Found.{Found}
@@ -97,7 +97,7 @@ pub record MessageFits (l : Limits) (id : ℕ) (n : State) : Type 0 where
   pub place : ControlFits l id (controlOf id n)
 
 abbrev pub CountersFit : State → Type 0
-CountersFit n = Fit (countersFields (countersFor (n .counters)))
+CountersFit n = Fit (countersFields (n .counters))
 
 abbrev pub Stores : Session → Packet → Type 0
 Stores s ipError = CountersFit (pushed (view s) ipError)
@@ -125,10 +125,10 @@ module _ (s : Session) (ok : Sound (s .state) (s .others) (lengthsOf s)) where
       (em : mediaIn b ≡ mediaIn st) (ec : controlsIn b ≡ controlsIn st) (es : sectionsIn b ≡ sectionsIn st)
       (eq : usedOf b ≡ usedOf st) (f : CountersFit n) where
     abbrev cs : List ℕ
-    cs = written (countersFields (countersFor (n .counters)))
+    cs = written (countersFields (n .counters))
 
     length-cs : length cs ≡ 96
-    length-cs = length-written (countersFields (countersFor (n .counters)))
+    length-cs = length-written (countersFields (n .counters))
 
     abbrev b′ : List ℕ
     b′ = withCounters (n .counters) b
@@ -171,7 +171,7 @@ module _ (s : Session) (ok : Sound (s .state) (s .others) (lengthsOf s)) where
           others = ap (λ (x : KeptTables). x .others) (sym et);
           time =
               ap (λ (x : Time). given (x .seen) (x .timestamp)) (apart timeOf timePlace 9 time-own countersPlace cs b (inl (omega arith)) within) ∙ ei;
-          counters = counters-back (countersFor (n .counters)) b f long-b;
+          counters = counters-back (n .counters) b f long-b;
         }
 
   -- ---- the count of a packet without more

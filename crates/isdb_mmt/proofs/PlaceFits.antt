@@ -12,19 +12,20 @@ use Rattle.isdb_tlv.specs.Bytes.{be}
 use Rattle.isdb_tlv.specs.Crc.{crcOf}
 use Rattle.isdb_tlv.specs.Fields.{Field, Fit}
 use Rattle.isdb_tlv.proofs.Guards.{cond-elim}
+use Rattle.isdb_mmt.specs.declared.decoder.counts.Counters.{Counters}
 use Rattle.isdb_mmt.specs.Packet.{Bytes, PayloadUnit, MpuPacket, readable}
 use Rattle.isdb_mmt.specs.Maps.{find, orElse}
 use Rattle.isdb_mmt.specs.Objects.{Mfu, Asset, fresh, gap, afterUnit, unitEffect, afterUnits, afterHeaders, mpuIn, mpuNumber, mpuAfter, lastIn, rangeAfter, newMpu, assetAfter}
 use Rattle.isdb_mmt.specs.Section.{length12, longSectionOf}
 use Rattle.isdb_mmt.specs.Joins.{PartialMessage, idle}
-use Rattle.isdb_mmt.specs.Kept.{Section, sectionOf, keyOf, versionIn, Kept, otherVersion, keepIf, keep, Counters, KeptTables, Table, emptyTable, mptTable, pltTable, totTable, truncatedSection, aSection, otherTable, longTable, tableById, tableRead, latest, mptAfter, mptAfterAll, stored, storedAll}
+use Rattle.isdb_mmt.specs.Kept.{Section, sectionOf, keyOf, versionIn, Kept, otherVersion, keepIf, keep, KeptTables, Table, emptyTable, mptTable, pltTable, totTable, truncatedSection, aSection, otherTable, longTable, tableById, tableRead, latest, mptAfter, mptAfterAll, stored, storedAll}
 use Rattle.isdb_mmt.specs.GivenTables.{controlTables}
 use Rattle.isdb_mmt.specs.Model.{Control, idleControl}
 use Rattle.isdb_mmt.specs.Needs.{heldLength, partialLength, unitsNeed, tableArea, tablesNeed}
 use Rattle.isdb_mmt.specs.Layout.{mostMfuArea, mostMessageArea, mostTableArea}
 use Rattle.isdb_mmt.specs.Session.{numberFields, objectFields, statsFields, mediaFields, controlFields, sectionFields, latestFields, timeFields, countersFields}
 use Rattle.isdb_mmt.specs.Octets.{Octets}
-use Rattle.isdb_mmt.specs.Placing.{noObject, heldFor, firstIn, placeFor, tableLength, controlFor, sectionFor, latestFor, timeFor, countersFor}
+use Rattle.isdb_mmt.specs.Placing.{noObject, heldFor, firstIn, placeFor, tableLength, controlFor, sectionFor, latestFor, timeFor}
 use Rattle.isdb_mmt.specs.declared.mpu.PayloadHeader.{PayloadHeader}
 use Rattle.isdb_mmt.specs.declared.table.section.LongSection.{LongSection}
 use Rattle.isdb_mmt.proofs.Every.{Every, every-put}
@@ -375,28 +376,28 @@ control-place message table id c w v i h =
 
 -- ---- counters and the time
 
-pub counters-place : (n : ℕ) (c : Counters) → n < 18446744073709551616 → CountersFit n n n c → Fit (countersFields (countersFor c))
+pub counters-place : (n : ℕ) (c : Counters) → n < 18446744073709551616 → CountersFit n n n c → Fit (countersFields c)
 counters-place n c l h = (
-  omega (arith, h .tlvPackets),
+  omega (arith, h .«tlv_packets»),
   (
-    omega (arith, h .ipErrors),
+    omega (arith, h .«ip_errors»),
     (
-      omega (arith, h .nonMmtps),
+      omega (arith, h .«non_mmtp»),
       (
-        omega (arith, h .ntps),
+        omega (arith, h .ntp),
         (
           omega (arith, h .tables),
           (
-            omega (arith, h .crcErrors),
+            omega (arith, h .«crc_errors»),
             (
               omega (arith, h .malformed),
               (
-                omega (arith, h .versionChanges),
+                omega (arith, h .«version_changes»),
                 (
-                  omega (arith, h .orphans),
+                  omega (arith, h .«orphan_fragments»),
                   (
-                    omega (arith, h .oversizes),
-                    (omega (arith, h .messageMalformed), (omega (arith, h .splitErrors), tt)),
+                    omega (arith, h .oversize),
+                    (omega (arith, h .«message_malformed»), (omega (arith, h .«split_errors»), tt)),
                   ),
                 ),
               ),

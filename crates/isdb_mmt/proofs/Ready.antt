@@ -9,13 +9,14 @@ use lib.ListN.{length, getD, take, drop, replicate, length-drop, length-append}
 use lib.Dec.{leb}
 use borrow.Author.Tests.{leb-true}
 use Rattle.isdb_tlv.proofs.Guards.{cond-elim}
+use Rattle.isdb_mmt.specs.declared.decoder.counts.Counters.{Counters}
 use Rattle.isdb_mmt.specs.Part.{partOf}
 use Rattle.isdb_mmt.specs.Packet.{Bytes, MpuPacket, MessagePacket, Packet, ipError, ntp, nonMmtp, media, message, control, other, readable}
 use Rattle.isdb_mmt.specs.Maps.{one}
 use Rattle.isdb_mmt.specs.Message.{tablesFrom, aggregatedFrom, contentOf}
 use Rattle.isdb_mmt.specs.Objects.{fresh, gap}
 use Rattle.isdb_mmt.specs.Joins.{PartialMessage, Reassembly, idle, mostMessage, short, flagsOf, partBefore, joinedOn, partAfter, wholeOf, reassemblyAfter, messageCompleted, orphan, oversize, TablesFound, partsOf, tablesIn, tablesOf, tablesOfAll, messagesOf, cutOf, cutOfAll}
-use Rattle.isdb_mmt.specs.Kept.{Counters, zeros, tableRead}
+use Rattle.isdb_mmt.specs.Kept.{zeros, tableRead}
 use Rattle.isdb_mmt.specs.GivenTables.{tablesGiven, controlTables}
 use Rattle.isdb_mmt.specs.Model.{Control, idleControl, State, opened, assetOf, controlOf, reassemblyOf, packetCounted, messageCounted, reassemblyCounted, pushed}
 use Rattle.isdb_mmt.specs.Needs.{needs, partialLength, fragmentArea, reassemblyNeeds}
@@ -154,8 +155,8 @@ pub record ControlFits (l : Limits) (c : Control) : Type 0 where
 
 -- `n` is 2^21 for each packet
 pub record Ready (l : Limits) (n : ℕ) (s : State) : Type 0 where
-  pub counts : n ≡ s .counters .tlvPackets * mostAdded
-  pub packets : s .counters .tlvPackets ≤ l .packets
+  pub counts : n ≡ s .counters .«tlv_packets» * mostAdded
+  pub packets : s .counters .«tlv_packets» ≤ l .packets
   pub assets : Every (λ i a. AssetFits (l .«mfu_area») n a) (s .assets)
   pub controls : Every (λ i c. ControlFits l c) (s .controls)
   pub store : StoreFits (l .«table_area») n (s .store)
@@ -168,7 +169,7 @@ pub record Ready (l : Limits) (n : ℕ) (s : State) : Type 0 where
 
 -- what the questions say of a state and a packet
 pub record Takes (l : Limits) (s : State) (p : Packet) : Type 0 where
-  pub packets : s .counters .tlvPackets < l .packets
+  pub packets : s .counters .«tlv_packets» < l .packets
   pub media : length (s .assets) + needs s p .mediaIds ≤ l .«media_ids»
   pub lines : length (s .controls) + needs s p .controlIds ≤ l .«control_ids»
   pub sections : length (s .store .kept) + needs s p .sections ≤ l .sections
@@ -195,18 +196,18 @@ ready-opened l pass =
       store = record { plt = tt; tot = tt; kept = tt; others = λ i. omega (arith, zero-at 256 i); names = refl };
       counters =
           record {
-            tlvPackets = omega arith;
-            ipErrors = omega arith;
-            nonMmtps = omega arith;
-            ntps = omega arith;
+            «tlv_packets» = omega arith;
+            «ip_errors» = omega arith;
+            «non_mmtp» = omega arith;
+            ntp = omega arith;
             tables = omega arith;
-            crcErrors = omega arith;
+            «crc_errors» = omega arith;
             malformed = omega arith;
-            versionChanges = omega arith;
-            orphans = omega arith;
-            oversizes = omega arith;
-            messageMalformed = omega arith;
-            splitErrors = omega arith;
+            «version_changes» = omega arith;
+            «orphan_fragments» = omega arith;
+            oversize = omega arith;
+            «message_malformed» = omega arith;
+            «split_errors» = omega arith;
           };
       mediaNames = refl;
       controlNames = refl;
@@ -219,18 +220,18 @@ pub packet-fits : (p t b x y z : ℕ) (c : Counters) → x ≤ 1 → y ≤ 1 →
 unfolding packetCounted
 packet-fits p t b x y z c k l m h =
     record {
-      tlvPackets = omega (arith, h .tlvPackets);
-      ipErrors = omega (arith, h .ipErrors);
-      nonMmtps = omega (arith, h .nonMmtps);
-      ntps = omega (arith, h .ntps);
+      «tlv_packets» = omega (arith, h .«tlv_packets»);
+      «ip_errors» = omega (arith, h .«ip_errors»);
+      «non_mmtp» = omega (arith, h .«non_mmtp»);
+      ntp = omega (arith, h .ntp);
       tables = h .tables;
-      crcErrors = h .crcErrors;
+      «crc_errors» = h .«crc_errors»;
       malformed = h .malformed;
-      versionChanges = h .versionChanges;
-      orphans = omega (arith, h .orphans);
-      oversizes = omega (arith, h .oversizes);
-      messageMalformed = omega (arith, h .messageMalformed);
-      splitErrors = h .splitErrors;
+      «version_changes» = h .«version_changes»;
+      «orphan_fragments» = omega (arith, h .«orphan_fragments»);
+      oversize = omega (arith, h .oversize);
+      «message_malformed» = omega (arith, h .«message_malformed»);
+      «split_errors» = h .«split_errors»;
     }
 
 pub line-counts : (p t b : ℕ) (c : Counters) (l : Reassembly) (x : MessagePacket) → cutOfAll (messageCompleted l x) .malformed ≤ mostMessage + 1 → CountersFit p t b c
@@ -238,24 +239,24 @@ pub line-counts : (p t b : ℕ) (c : Counters) (l : Reassembly) (x : MessagePack
 unfolding reassemblyCounted messageCounted
 line-counts p t b c l x k h =
     record {
-      tlvPackets = omega (arith, h .tlvPackets);
-      ipErrors = omega (arith, h .ipErrors);
-      nonMmtps = omega (arith, h .nonMmtps);
-      ntps = omega (arith, h .ntps);
+      «tlv_packets» = omega (arith, h .«tlv_packets»);
+      «ip_errors» = omega (arith, h .«ip_errors»);
+      «non_mmtp» = omega (arith, h .«non_mmtp»);
+      ntp = omega (arith, h .ntp);
       tables = h .tables;
-      crcErrors = h .crcErrors;
+      «crc_errors» = h .«crc_errors»;
       malformed = h .malformed;
-      versionChanges = h .versionChanges;
-      orphans = omega (arith, h .orphans, one-le (orphan l x));
-      oversizes = omega (arith, h .oversizes, one-le (oversize l x));
-      messageMalformed = omega (arith, h .messageMalformed, one-le (short x));
-      splitErrors = h .splitErrors;
+      «version_changes» = h .«version_changes»;
+      «orphan_fragments» = omega (arith, h .«orphan_fragments», one-le (orphan l x));
+      oversize = omega (arith, h .oversize, one-le (oversize l x));
+      «message_malformed» = omega (arith, h .«message_malformed», one-le (short x));
+      «split_errors» = h .«split_errors»;
     }
 
 module _ (l : Limits) (n : ℕ) (s : State) (h : Ready l n s) where
   -- where only packets are counted
   counted-only : (x y z : ℕ) (s′ : State) → x ≤ 1 → y ≤ 1 → z ≤ 1 → s′ .assets ≡ s .assets → s′ .controls ≡ s .controls → s′ .store ≡ s .store
-      → s′ .counters ≡ packetCounted (s .counters) x y z → s .counters .tlvPackets < l .packets → Ready l (n + mostAdded) s′
+      → s′ .counters ≡ packetCounted (s .counters) x y z → s .counters .«tlv_packets» < l .packets → Ready l (n + mostAdded) s′
   unfolding packetCounted
   counted-only x y z s′ a b c ea ec es en t =
       record {

@@ -17,7 +17,7 @@ use Rattle.isdb_mmt.specs.Session.{Session, limitsOf, usedFields, latest
 use Rattle.isdb_mmt.specs.Check.{Sound, lengthsOf}
 use Rattle.isdb_mmt.specs.View.{view}
 use Rattle.isdb_mmt.specs.Octets.{Octets, Lent}
-use Rattle.isdb_mmt.specs.Placing.{placeFor, controlFor, sectionFor, latestFor, timeFor, countersFor}
+use Rattle.isdb_mmt.specs.Placing.{placeFor, controlFor, sectionFor, latestFor, timeFor}
 use Rattle.isdb_mmt.specs.Records.{rowsFrom, dataFrom, readRows}
 use Rattle.isdb_mmt.specs.declared.decoder.limits.Limits.{Limits}
 use Rattle.isdb_mmt.specs.declared.decoder.head.Used.{Used}
@@ -153,7 +153,7 @@ module _ (s : Session) (q : Sound (s .state) (s .others) (lengthsOf s)) (h : Len
       latest-place (l .«table_area») (mostCount + mostAdded) _ (omega (arith, in-order .ranges .table)) (storable-next s kind b q h short o a .store)
 
   -- counts, and the time
-  pub counters-fit : Fit (countersFields (countersFor (pushed (view s) (classify kind b) .counters)))
+  pub counters-fit : Fit (countersFields (pushed (view s) (classify kind b) .counters))
   counters-fit =
       counters-place (mostCount + mostAdded) _ (omega arith) (counters-next l mostCount (view s) (storable-view s q h) (classify kind b) is-ok is-plain)
 

@@ -19,7 +19,7 @@ use Rattle.isdb_mmt.specs.Lent.{part, over, flagByte, placesFrom}
 use Rattle.isdb_mmt.specs.Session.{limitsOf, usedOf, usedFields, latestOf, latestFields, timeOf, countersOf, countersFields, sectionPlaceOf}
 use Rattle.isdb_mmt.specs.Check.{mediaIn, controlsIn, sectionsIn}
 use Rattle.isdb_mmt.specs.MediaPush.{withUsed}
-use Rattle.isdb_mmt.specs.Placing.{tableLength, latestFor, countersFor}
+use Rattle.isdb_mmt.specs.Placing.{tableLength, latestFor}
 use Rattle.isdb_mmt.specs.Leaves.{keptPlace, usedFor, sectionRows, withSections, withLatest, withCounters, stateOfTables}
 use Rattle.isdb_mmt.specs.declared.decoder.limits.Limits.{Limits}
 use Rattle.isdb_mmt.specs.declared.decoder.head.Used.{Used}
@@ -41,7 +41,7 @@ used-other l long u f o c =
 
 -- what is to be stored fits
 pub record TablesFit (l : Limits) (n : State) : Type 0 where
-  pub counters : Fit (countersFields (countersFor (n .counters)))
+  pub counters : Fit (countersFields (n .counters))
   pub media : length (n .assets) ≤ l .«media_ids»
   pub controls : length (n .controls) ≤ l .«control_ids»
   pub sections : length (n .store .kept) ≤ l .sections
@@ -75,10 +75,10 @@ module _ (l : Limits) (n : State) (few : l .«media_ids» ≤ mostMediaIds) (few
   length-2 = length-over sectionPlaces (sectionRows kept) b1 (omega (arith, length-1, rows-within)) ∙ length-1
 
   abbrev counts : List ℕ
-  counts = written (countersFields (countersFor (n .counters)))
+  counts = written (countersFields (n .counters))
 
   length-counts : length counts ≡ 96
-  length-counts = length-written (countersFields (countersFor (n .counters)))
+  length-counts = length-written (countersFields (n .counters))
 
   pub length-tables : length (stateOfTables n b) ≡ length b
   length-tables = length-over countersPlace counts b2 (omega (arith, length-2, length-counts)) ∙ length-2
@@ -107,8 +107,8 @@ module _ (l : Limits) (n : State) (few : l .«media_ids» ≤ mostMediaIds) (few
       ∙ apart timeOf timePlace 9 time-own sectionPlaces (sectionRows kept) b1 (inl (omega arith)) (omega (arith, length-1, rows-within))
       ∙ apart timeOf timePlace 9 time-own usedPlace us b (inr (omega (arith, length-us))) (omega (arith, length-us))
 
-  pub counters-tables : countersOf (stateOfTables n b) ≡ countersFor (n .counters)
-  counters-tables = counters-back (countersFor (n .counters)) b2 (f .counters) (omega (arith, length-2))
+  pub counters-tables : countersOf (stateOfTables n b) ≡ n .counters
+  counters-tables = counters-back (n .counters) b2 (f .counters) (omega (arith, length-2))
 
   used-2 : usedOf b2 ≡ usedFor n
   used-2 =

@@ -215,11 +215,11 @@ is-ready s n a e h =
           omega (arith, part-length ((l .sections + l .«control_ids») * l .«table_area») (latestOf (s .state) .«plt_length») (s .tables) (e .plt t));
       tot = λ t. let k = whole-length _ (l .«table_area») (latestOf (s .state) .tot) _ (h .store .tot) t in
           omega (arith, part-length ((l .sections + l .«control_ids» + 1) * l .«table_area») (latestOf (s .state) .«tot_length») (s .tables) (e .tot t));
-      packets = four (x .«tlv_packets») (x .«ip_errors») (x .«non_mmtp») (x .ntp) (omega (arith, c .tlvPackets)) (omega (arith, c .ipErrors)) (omega (arith, c .nonMmtps)) (omega (arith, c .ntps));
+      packets = four (x .«tlv_packets») (x .«ip_errors») (x .«non_mmtp») (x .ntp) (omega (arith, c .«tlv_packets»)) (omega (arith, c .«ip_errors»)) (omega (arith, c .«non_mmtp»)) (omega (arith, c .ntp));
       tables =
           eight (x .tables) (x .«crc_errors») (x .malformed) (x .«version_changes») (x .«orphan_fragments») (x .oversize) (x .«message_malformed») (x .«split_errors»)
-          (omega (arith, c .tables)) (omega (arith, c .crcErrors)) (omega (arith, c .malformed)) (omega (arith, c .versionChanges))
-          (omega (arith, c .orphans)) (omega (arith, c .oversizes)) (omega (arith, c .messageMalformed)) (omega (arith, c .splitErrors));
+          (omega (arith, c .tables)) (omega (arith, c .«crc_errors»)) (omega (arith, c .malformed)) (omega (arith, c .«version_changes»))
+          (omega (arith, c .«orphan_fragments»)) (omega (arith, c .oversize)) (omega (arith, c .«message_malformed»)) (omega (arith, c .«split_errors»));
       counts = counts-fit n big (s .others) (h .store .others);
       objects = every-is (assetEntry l s) (mediaSound l) _ (mediaThere l s) (λ i m f t. media-sound l s n big i m f t) (mediaIn (s .state)) 0 (h .assets) (e .media);
       messages = every-is (controlEntry l s) (controlSound l) _ (controlThere l s) (λ i m f t. control-sound l s n big i m f t) (controlsIn (s .state)) 0 (h .controls) (e .controls);

@@ -399,18 +399,18 @@ storable-view s q h =
       time = time-given (timeOf (s .state) .seen) (timeOf (s .state) .timestamp) (be-small (s .state) (h .state) 8 (timePlace + 1));
       counters =
           record {
-            tlvPackets = c 0;
-            ipErrors = c 1;
-            nonMmtps = c 2;
-            ntps = c 3;
+            «tlv_packets» = c 0;
+            «ip_errors» = c 1;
+            «non_mmtp» = c 2;
+            ntp = c 3;
             tables = t 0;
-            crcErrors = t 1;
+            «crc_errors» = t 1;
             malformed = t 2;
-            versionChanges = t 3;
-            orphans = t 4;
-            oversizes = t 5;
-            messageMalformed = t 6;
-            splitErrors = t 7;
+            «version_changes» = t 3;
+            «orphan_fragments» = t 4;
+            oversize = t 5;
+            «message_malformed» = t 6;
+            «split_errors» = t 7;
           };
     }
 

@@ -12,6 +12,7 @@ use lib.Dec.{eqb, leb, ltb}
 use borrow.Author.Tests.{eqb-true, eqb-false, ltb-true, ltb-false}
 use Rattle.isdb_tlv.specs.Bytes.{be}
 use Rattle.isdb_tlv.proofs.Guards.{cond-elim, either}
+use Rattle.isdb_mmt.specs.declared.decoder.counts.Counters.{Counters}
 use Rattle.isdb_mmt.specs.Packet.{Bytes}
 use Rattle.isdb_mmt.specs.Maps.{find, isSome}
 use Rattle.isdb_mmt.specs.Mpt.{mptOf}
@@ -19,7 +20,7 @@ use Rattle.isdb_mmt.specs.Plt.{pltOf}
 use Rattle.isdb_mmt.specs.Tot.{totOf}
 use Rattle.isdb_mmt.specs.Lent.{distinct}
 use Rattle.isdb_mmt.specs.Octets.{Octets}
-use Rattle.isdb_mmt.specs.Kept.{Section, keyOf, sectionOf, parsesAs, Kept, otherVersion, keepIf, keep, Counters, Increments, increments, tableCounted, sectionIncrements, KeptTables, Table, emptyTable, mptTable, pltTable, totTable, truncatedSection, aSection, otherTable, mptParses, pltParses, totParses, longTable, tableById, tableRead, changes, tableIncrements, latest, mptAfter, mptAfterAll, stored, storedAll, countedAll}
+use Rattle.isdb_mmt.specs.Kept.{Section, keyOf, sectionOf, parsesAs, Kept, otherVersion, keepIf, keep, Increments, increments, tableCounted, sectionIncrements, KeptTables, Table, emptyTable, mptTable, pltTable, totTable, truncatedSection, aSection, otherTable, mptParses, pltParses, totParses, longTable, tableById, tableRead, changes, tableIncrements, latest, mptAfter, mptAfterAll, stored, storedAll, countedAll}
 use Rattle.isdb_mmt.specs.Needs.{tableArea, tablesNeed}
 use Rattle.isdb_mmt.specs.GivenTables.{controlTables}
 use Rattle.isdb_mmt.proofs.Views.{keys}
@@ -209,44 +210,44 @@ mpts-fit area (t ∷ ts) m s h q l =
 
 -- counts of packets and messages, of tables, of descriptor loops
 pub record CountersFit (p t b : ℕ) (c : Counters) : Type 0 where
-  pub tlvPackets : c .tlvPackets ≤ p
-  pub ipErrors : c .ipErrors ≤ p
-  pub nonMmtps : c .nonMmtps ≤ p
-  pub ntps : c .ntps ≤ p
+  pub «tlv_packets» : c .«tlv_packets» ≤ p
+  pub «ip_errors» : c .«ip_errors» ≤ p
+  pub «non_mmtp» : c .«non_mmtp» ≤ p
+  pub ntp : c .ntp ≤ p
   pub tables : c .tables ≤ t
-  pub crcErrors : c .crcErrors ≤ t
+  pub «crc_errors» : c .«crc_errors» ≤ t
   pub malformed : c .malformed ≤ t
-  pub versionChanges : c .versionChanges ≤ t
-  pub orphans : c .orphans ≤ p
-  pub oversizes : c .oversizes ≤ p
-  pub messageMalformed : c .messageMalformed ≤ p
-  pub splitErrors : c .splitErrors ≤ b
+  pub «version_changes» : c .«version_changes» ≤ t
+  pub «orphan_fragments» : c .«orphan_fragments» ≤ p
+  pub oversize : c .oversize ≤ p
+  pub «message_malformed» : c .«message_malformed» ≤ p
+  pub «split_errors» : c .«split_errors» ≤ b
 
 pub counters-more : (p t b p′ t′ b′ : ℕ) (c : Counters) → p ≤ p′ → t ≤ t′ → b ≤ b′ → CountersFit p t b c → CountersFit p′ t′ b′ c
 counters-more p t b p′ t′ b′ c x y z h =
     record {
-      tlvPackets = omega (arith, h .tlvPackets);
-      ipErrors = omega (arith, h .ipErrors);
-      nonMmtps = omega (arith, h .nonMmtps);
-      ntps = omega (arith, h .ntps);
+      «tlv_packets» = omega (arith, h .«tlv_packets»);
+      «ip_errors» = omega (arith, h .«ip_errors»);
+      «non_mmtp» = omega (arith, h .«non_mmtp»);
+      ntp = omega (arith, h .ntp);
       tables = omega (arith, h .tables);
-      crcErrors = omega (arith, h .crcErrors);
+      «crc_errors» = omega (arith, h .«crc_errors»);
       malformed = omega (arith, h .malformed);
-      versionChanges = omega (arith, h .versionChanges);
-      orphans = omega (arith, h .orphans);
-      oversizes = omega (arith, h .oversizes);
-      messageMalformed = omega (arith, h .messageMalformed);
-      splitErrors = omega (arith, h .splitErrors);
+      «version_changes» = omega (arith, h .«version_changes»);
+      «orphan_fragments» = omega (arith, h .«orphan_fragments»);
+      oversize = omega (arith, h .oversize);
+      «message_malformed» = omega (arith, h .«message_malformed»);
+      «split_errors» = omega (arith, h .«split_errors»);
     }
 
 record Few (n : ℕ) (x : Increments) : Type 0 where
-  crcErrors : x .crcErrors ≤ 1
+  «crc_errors» : x .«crc_errors» ≤ 1
   malformed : x .malformed ≤ 1
-  versionChanges : x .versionChanges ≤ 1
+  «version_changes» : x .«version_changes» ≤ 1
   breaks : x .breaks ≤ n
 
 few : (n c m v b : ℕ) → c ≤ 1 → m ≤ 1 → v ≤ 1 → b ≤ n → Few n (increments c m v b)
-few n c m v b x y z w = record { crcErrors = x; malformed = y; versionChanges = z; breaks = w }
+few n c m v b x y z w = record { «crc_errors» = x; malformed = y; «version_changes» = z; breaks = w }
 
 few-section : (x : Section) (k : Option Kept) → Few (x .breaks) (sectionIncrements x k)
 unfolding sectionIncrements
@@ -270,18 +271,18 @@ tabled-fits : (p t b n : ℕ) (c : Counters) (x : Increments) → CountersFit p 
 unfolding tableCounted
 tabled-fits p t b n c x h f =
     record {
-      tlvPackets = h .tlvPackets;
-      ipErrors = h .ipErrors;
-      nonMmtps = h .nonMmtps;
-      ntps = h .ntps;
+      «tlv_packets» = h .«tlv_packets»;
+      «ip_errors» = h .«ip_errors»;
+      «non_mmtp» = h .«non_mmtp»;
+      ntp = h .ntp;
       tables = omega (arith, h .tables);
-      crcErrors = omega (arith, h .crcErrors, f .crcErrors);
+      «crc_errors» = omega (arith, h .«crc_errors», f .«crc_errors»);
       malformed = omega (arith, h .malformed, f .malformed);
-      versionChanges = omega (arith, h .versionChanges, f .versionChanges);
-      orphans = h .orphans;
-      oversizes = h .oversizes;
-      messageMalformed = h .messageMalformed;
-      splitErrors = omega (arith, h .splitErrors, f .breaks);
+      «version_changes» = omega (arith, h .«version_changes», f .«version_changes»);
+      «orphan_fragments» = h .«orphan_fragments»;
+      oversize = h .oversize;
+      «message_malformed» = h .«message_malformed»;
+      «split_errors» = omega (arith, h .«split_errors», f .breaks);
     }
 
 pub counted-fit : (ts : List Table) (p t b : ℕ) (m : Option Bytes) (s : KeptTables) (c : Counters) → CountersFit p t b c
@@ -293,7 +294,7 @@ counted-fit (x ∷ ts) p t b m s c h =
     (counted-fit ts p (t + 1) (b + breaksOf x) (mptAfter m x) (stored s x) (tableCounted c (tableIncrements m s x)) (tabled-fits p t b (breaksOf x) c _ h (few-adds m s x)))
 
 -- tables leave the count of packets
-pub counted-packets : (ts : List Table) (m : Option Bytes) (s : KeptTables) (c : Counters) → countedAll m s c ts .tlvPackets ≡ c .tlvPackets
+pub counted-packets : (ts : List Table) (m : Option Bytes) (s : KeptTables) (c : Counters) → countedAll m s c ts .«tlv_packets» ≡ c .«tlv_packets»
 unfolding countedAll tableCounted
 counted-packets [] m s c = refl
 counted-packets (x ∷ ts) m s c = counted-packets ts (mptAfter m x) (stored s x) (tableCounted c (tableIncrements m s x))

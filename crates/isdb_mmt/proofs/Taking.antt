@@ -19,7 +19,7 @@ use Rattle.isdb_mmt.specs.Model.{State, packetCounted, pushed, gives}
 use Rattle.isdb_mmt.specs.Needs.{needs}
 use Rattle.isdb_mmt.specs.Session.{Session, limitsOf, usedOf, countersOf}
 use Rattle.isdb_mmt.specs.Check.{lengthsOf, Sound, packetCounts}
-use Rattle.isdb_mmt.specs.View.{countsOf, viewBy, view}
+use Rattle.isdb_mmt.specs.View.{viewBy, view}
 use Rattle.isdb_mmt.specs.Opening.{lent}
 use Rattle.isdb_mmt.specs.Counted.{Countable, StateCountable}
 use Rattle.isdb_mmt.specs.Leaves.{withCounters, withTime, packetLeaves}
@@ -46,9 +46,9 @@ module _ (s : Session) (ok : Sound (s .state) (s .others) (lengthsOf s)) where
         counts =
             record {
               packets = count-was cs 0 (ok .packets);
-              ipErrors = count-was cs 1 (ok .packets);
-              nonMmtps = count-was cs 2 (ok .packets);
-              ntps = count-was cs 3 (ok .packets);
+              «ip_errors» = count-was cs 1 (ok .packets);
+              «non_mmtp» = count-was cs 2 (ok .packets);
+              ntp = count-was cs 3 (ok .packets);
               oneIp = a;
               oneNon = b;
               oneTime = c;
@@ -76,7 +76,7 @@ module _ (s : Session) (ok : Sound (s .state) (s .others) (lengthsOf s)) where
   after l = lent l (s .others) (s .objects) (s .messages) (s .tables)
 
   abbrev counts : ℕ → ℕ → ℕ → List ℕ → List ℕ
-  counts ip non time l = withCounters (packetCounted (countsOf (countersOf (s .state))) ip non time) l
+  counts ip non time l = withCounters (packetCounted (countersOf (s .state)) ip non time) l
 
   accepted : (p : Packet) → Fits s 0 0 p → (s′ : Session) → s′ ≡ packetLeaves s p → QuietPushed s p 0 s′
   accepted p f s′ e = record { number = sym (asks-zero s 0 0 p f); same = λ n. absurd (n refl); session = λ z. e }
@@ -157,7 +157,7 @@ module _ (s : Session) (rows out : Bytes) (h : Header) (b : Bytes) (can : CanTak
       (quiet-arm s rows out p refl n s′ q a f)
 
   type-other : typed ≡ other → (l : List ℕ)
-      → l ≡ withCounters (packetCounted (countsOf (countersOf (s .state))) 0 0 0) (s .state) → (a : Answer) → a ≡ acceptedAs 0 0
+      → l ≡ withCounters (packetCounted (countersOf (s .state)) 0 0 0) (s .state) → (a : Answer) → a ≡ acceptedAs 0 0
       → PacketPushed s rows out typed (a .number) (a .records) (a .bytes) (lent l (s .others) (s .objects) (s .messages) (s .tables)) rows out
   unfolding gives
   type-other k l f a g =
@@ -166,7 +166,7 @@ module _ (s : Session) (rows out : Bytes) (h : Header) (b : Bytes) (can : CanTak
       (quiet-arm s rows out other refl 0 s′ (quiet-other s (can .session) l f) a g)
 
   module _ (l : List ℕ)
-      (f : l ≡ withCounters (packetCounted (countsOf (countersOf (s .state))) 0 0 0) (s .state)) (a : Answer) (g : a ≡ acceptedAs 0 0) where
+      (f : l ≡ withCounters (packetCounted (countersOf (s .state)) 0 0 0) (s .state)) (a : Answer) (g : a ≡ acceptedAs 0 0) where
     abbrev Left : Type 0
     Left = PacketPushed s rows out typed (a .number) (a .records) (a .bytes) (lent l (s .others) (s .objects) (s .messages) (s .tables)) rows out
 
@@ -183,7 +183,7 @@ module _ (s : Session) (rows out : Bytes) (h : Header) (b : Bytes) (can : CanTak
 
 module _ (s : Session) (rows out : Bytes) (b : Bytes) (can : CanTakePacket s b) (x : Parsed) (e : x ≡ mmtpOf b) where
   pub not-mmtp : x ≡ notMmtp → (l : List ℕ)
-      → l ≡ withCounters (packetCounted (countsOf (countersOf (s .state))) 0 1 0) (s .state) → (a : Answer) → a ≡ acceptedAs 0 0
+      → l ≡ withCounters (packetCounted (countersOf (s .state)) 0 1 0) (s .state) → (a : Answer) → a ≡ acceptedAs 0 0
       → PacketPushed s rows out (mmtpIn b (mmtpOf b)) (a .number) (a .records) (a .bytes) (lent l (s .others) (s .objects) (s .messages) (s .tables)) rows out
   unfolding gives
   not-mmtp k l f a g =
@@ -215,20 +215,20 @@ module _ (s : Session) (rows out : Bytes) (kind : ℕ) (b : Bytes) (can : CanTak
     counted-arm p z q h =
         same-packet s rows out p (classify kind b) (through p q) (a .number) (a .records) (a .bytes) s1 rows out (quiet-arm s rows out p z 0 s1 h a g)
 
-    pub route-ip : r ≡ Route.IpError → l ≡ withCounters (packetCounted (countsOf (countersOf (s .state))) 1 0 0) (s .state) → Taken1
+    pub route-ip : r ≡ Route.IpError → l ≡ withCounters (packetCounted (countersOf (s .state)) 1 0 0) (s .state) → Taken1
     unfolding gives
     route-ip k f = counted-arm ipError refl (ap (routed b) k) (quiet-ip s (can .session) l f)
 
-    pub route-null : r ≡ Route.Null → l ≡ withCounters (packetCounted (countsOf (countersOf (s .state))) 0 0 0) (s .state) → Taken1
+    pub route-null : r ≡ Route.Null → l ≡ withCounters (packetCounted (countersOf (s .state)) 0 0 0) (s .state) → Taken1
     unfolding gives
     route-null k f = counted-arm other refl (ap (routed b) k) (quiet-other s (can .session) l f)
 
-    pub route-other : r ≡ Route.Other → l ≡ withCounters (packetCounted (countsOf (countersOf (s .state))) 0 0 0) (s .state) → Taken1
+    pub route-other : r ≡ Route.Other → l ≡ withCounters (packetCounted (countersOf (s .state)) 0 0 0) (s .state) → Taken1
     unfolding gives
     route-other k f = counted-arm other refl (ap (routed b) k) (quiet-other s (can .session) l f)
 
     pub route-time : (at : ℕ) → r ≡ Route.Time at → (d : Bytes) → d ≡ drop at b → (t : MaybeU64) → t ≡ timeIn d
-        → l ≡ withCounters (packetCounted (countsOf (countersOf (s .state))) 0 0 1) (withTime (timeGiven t) (s .state)) → Taken1
+        → l ≡ withCounters (packetCounted (countersOf (s .state)) 0 0 1) (withTime (timeGiven t) (s .state)) → Taken1
     unfolding gives
     route-time at k d j t i f =
         counted-arm (ntp (timeGiven t)) refl

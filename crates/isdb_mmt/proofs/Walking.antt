@@ -25,7 +25,7 @@ pub room-more : (g : Going) (others : List ℕ) (n k : ℕ) → n ≤ k → Room
 room-more g others n k h r =
     record {
       tables = omega (arith, r .tables);
-      crcErrors = omega (arith, r .crcErrors);
+      «crc_errors» = omega (arith, r .«crc_errors»);
       malformed = omega (arith, r .malformed);
       changes = omega (arith, r .changes);
       breaks = omega (arith, r .breaks);
@@ -80,7 +80,7 @@ module _ (read : Bytes → Table) where
               λ most r.
               record {
                 tables = omega (arith, r .tables);
-                crcErrors = omega (arith, r .crcErrors);
+                «crc_errors» = omega (arith, r .«crc_errors»);
                 malformed = omega (arith, r .malformed);
                 changes = omega (arith, r .changes);
                 breaks = omega (arith, r .breaks);

@@ -17,7 +17,7 @@ use Rattle.isdb_mmt.specs.Layout.{mostSections, mostControlIds, mostMess
 use Rattle.isdb_mmt.specs.Packet.{Bytes, MessagePacket, message}
 use Rattle.isdb_mmt.specs.Maps.{one, isSome}
 use Rattle.isdb_mmt.specs.Joins.{PartialMessage, Reassembly, mostMessage, short, cutOf, cutOfAll, messageCompleted}
-use Rattle.isdb_mmt.specs.Kept.{Kept, Counters as Counts, KeptTables, Table, tableRead, mptAfterAll, storedAll, countedAll}
+use Rattle.isdb_mmt.specs.Kept.{Kept, KeptTables, Table, tableRead, mptAfterAll, storedAll, countedAll}
 use Rattle.isdb_mmt.specs.GivenTables.{tablesGiven}
 use Rattle.isdb_mmt.specs.Model.{State, Control as ControlState, packetCounted, messageCounted, reassemblyCounted, controlOf, reassemblyOf, pushed}
 use Rattle.isdb_mmt.specs.Needs.{needs, tablesNeed}
@@ -25,9 +25,9 @@ use Rattle.isdb_mmt.specs.Octets.{Octets}
 use Rattle.isdb_mmt.specs.Lent.{part, over, namesFrom}
 use Rattle.isdb_mmt.specs.Session.{Session, limitsOf, usedOf, countersOf, controlPlaceOf, controlAt}
 use Rattle.isdb_mmt.specs.Check.{packetCounts, tableCounts, controlSound, controlsIn, lengthsOf, Sound}
-use Rattle.isdb_mmt.specs.View.{given, tableAt, countsOf, viewBy, view}
+use Rattle.isdb_mmt.specs.View.{given, tableAt, viewBy, view}
 use Rattle.isdb_mmt.specs.Opening.{lent}
-use Rattle.isdb_mmt.specs.Placing.{tableLength, latestFor, countersFor}
+use Rattle.isdb_mmt.specs.Placing.{tableLength, latestFor}
 use Rattle.isdb_mmt.specs.Leaves.{sectionRows, withSections, bytesOver, keptOver, latestOver, controlPlaceFor, messageAt, messageIn, packetLeaves}
 use Rattle.isdb_mmt.specs.Push.{asksOf, QuietPushed}
 use Rattle.isdb_mmt.specs.Fragments.{fateOf, byDivision, flagsIn, continued, continuedBy, grownLength, joinedBy, noneJoined, controlWith, laidBy, areaBy, wholeBy, completes, faultsOf, fragmentCounted, CanCount}
@@ -254,20 +254,20 @@ module _ (s : Session) (x : MessagePacket) (y : Meeting) (i k : ℕ) (ix log min
   met = passed l (lengthsOf s) (ok .limits)
 
   -- the counters before the tables
-  abbrev c₀ : Counts
-  c₀ = countsOf (fragmentCounted f a₀)
+  abbrev c₀ : Counters
+  c₀ = (fragmentCounted f a₀)
 
   counts-fit : CountsFit c₀
   counts-fit =
       let cs = tableCounts a₀ in
-      subst (λ (z : Counters). CountsFit (countsOf z)) (sym (no-fault f whole a₀))
+      subst (λ (z : Counters). CountsFit z) (sym (no-fault f whole a₀))
       (record {
         tables = count-was cs 0 (ok .tables);
-        crcErrors = count-was cs 1 (ok .tables);
+        «crc_errors» = count-was cs 1 (ok .tables);
         malformed = count-was cs 2 (ok .tables);
-        versionChanges = count-was cs 3 (ok .tables);
-        messageMalformed = omega (arith, count-was cs 6 (ok .tables));
-        splitErrors = count-was cs 7 (ok .tables);
+        «version_changes» = count-was cs 3 (ok .tables);
+        «message_malformed» = omega (arith, count-was cs 6 (ok .tables));
+        «split_errors» = count-was cs 7 (ok .tables);
       })
 
   pub whole-countable : (a : Counters) → a ≡ a₀ → CanCount a
@@ -275,8 +275,8 @@ module _ (s : Session) (x : MessagePacket) (y : Meeting) (i k : ℕ) (ix log min
       rw e
       (record {
         packets = count-was (packetCounts a₀) 0 (ok .packets);
-        orphans = count-was (tableCounts a₀) 4 (ok .tables);
-        oversizes = count-was (tableCounts a₀) 5 (ok .tables);
+        «orphan_fragments» = count-was (tableCounts a₀) 4 (ok .tables);
+        oversize = count-was (tableCounts a₀) 5 (ok .tables);
         malformed = count-was (tableCounts a₀) 6 (ok .tables);
       })
 
@@ -350,32 +350,32 @@ module _ (s : Session) (x : MessagePacket) (y : Meeting) (i k : ℕ) (ix log min
       ∙ ap (mptAfterAll (controlOf (x .id) v .mpt)) given-is
       ∙ ap (λ (o : Option Bytes). mptAfterAll o ts) (mpt-before s ok x i k c at f fate-met)
 
-  abbrev c₁ : Counts
+  abbrev c₁ : Counters
   c₁ = malformedMore c₀ (cutOf j .malformed)
 
   line-counts : reassemblyCounted (packetCounted (v .counters) 0 0 0) line x ≡ c₁
   unfolding reassemblyCounted messageCounted packetCounted view viewBy cutOfAll
   line-counts =
-      let orphans = ap (λ z. a₀ .«orphan_fragments» + one z) (done .orphans) in
-      let oversizes = ap (λ z. a₀ .oversize + one z) (done .oversizes) in
+      let «orphan_fragments» = ap (λ z. a₀ .«orphan_fragments» + one z) (done .«orphan_fragments») in
+      let oversize = ap (λ z. a₀ .oversize + one z) (done .oversize) in
       let bad : a₀ .«message_malformed» + (one (short x) + cutOfAll (messageCompleted line x) .malformed) ≡ a₀ .«message_malformed» + one (faultsOf f .malformed) + cutOf j .malformed =
       ap (λ (o : Option PartialMessage). a₀ .«message_malformed» + (one (short x) + cutOfAll o .malformed)) gives-is
       ∙ ap (λ z. a₀ .«message_malformed» + (one z + cutOf j .malformed)) (done .shorts)
       ∙ assoc (a₀ .«message_malformed») (one (faultsOf f .malformed)) (cutOf j .malformed) in
       λ q.
       record {
-        tlvPackets = a₀ .«tlv_packets» + 1;
-        ipErrors = add-zero (a₀ .«ip_errors») q;
-        nonMmtps = add-zero (a₀ .«non_mmtp») q;
-        ntps = add-zero (a₀ .ntp) q;
+        «tlv_packets» = a₀ .«tlv_packets» + 1;
+        «ip_errors» = add-zero (a₀ .«ip_errors») q;
+        «non_mmtp» = add-zero (a₀ .«non_mmtp») q;
+        ntp = add-zero (a₀ .ntp) q;
         tables = a₀ .tables;
-        crcErrors = a₀ .«crc_errors»;
+        «crc_errors» = a₀ .«crc_errors»;
         malformed = a₀ .malformed;
-        versionChanges = a₀ .«version_changes»;
-        orphans = orphans q;
-        oversizes = oversizes q;
-        messageMalformed = bad q;
-        splitErrors = a₀ .«split_errors»;
+        «version_changes» = a₀ .«version_changes»;
+        «orphan_fragments» = «orphan_fragments» q;
+        oversize = oversize q;
+        «message_malformed» = bad q;
+        «split_errors» = a₀ .«split_errors»;
       }
     where
       assoc : (p q r : ℕ) → p + (q + r) ≡ p + q + r
@@ -384,7 +384,7 @@ module _ (s : Session) (x : MessagePacket) (y : Meeting) (i k : ℕ) (ix log min
   counters-is : n .counters ≡ countedAll mptB (v .store) c₁ ts
   unfolding pushed
   counters-is =
-      ap (λ (z : Counts). countedAll (controlOf (x .id) v .mpt) (v .store) z (tablesGiven line x)) line-counts
+      ap (λ (z : Counters). countedAll (controlOf (x .id) v .mpt) (v .store) z (tablesGiven line x)) line-counts
       ∙ ap (λ (o : Option Bytes). countedAll o (v .store) c₁ (tablesGiven line x)) (mpt-before s ok x i k c at f fate-met)
       ∙ ap (λ (zs : List Table). countedAll mptB (v .store) c₁ zs) given-is
 
@@ -500,10 +500,10 @@ module _ (s : Session) (x : MessagePacket) (y : Meeting) (i k : ℕ) (ix log min
                 (λ t. omega (arith, o t)) li
                 ∙ ap (λ (y : KeptTables). sectionRows (y .kept)) (sym store-is)
 
-            counters-left : countersWith (fragmentCounted f a₀) r ≡ countersFor (n .counters)
+            counters-left : countersWith (fragmentCounted f a₀) r ≡ n .counters
             counters-left =
                 message-counters s ok i (at .free) (c .mpt) (c .«mpt_length») small j c₀ (length (j .bytes) + 1) r ix₂ log₂ mine₂ w (free .full)
-                ∙ ap countersFor (sym counters-is)
+                ∙ sym counters-is
 
             latest-left : latestWith r ≡ latestFor (n .store)
             latest-left =

@@ -114,7 +114,7 @@ joiningIn (some j) = some (j .bytes)
 -- what a state has joined for the control id, `c`
 abbrev joinedIn : State → Control → Told
 joinedIn s c =
-    joined (s .counters .orphans) (s .counters .messageMalformed) (c .line .number) (joiningIn (c .line .part)) (c .mpt)
+    joined (s .counters .«orphan_fragments») (s .counters .«message_malformed») (c .line .number) (joiningIn (c .line .part)) (c .mpt)
 
 unfoldable pub told : Ask → Told
 unfolding bytesOf be feed feedByte crcOf packetType compressedOf fecType payloadType bitsOf entry extensionAt afterFixed mmtpOf isTlvSi sectionAt sectionsFrom sectionsOf lengthWidth stepAt splitFrom splitOf streamIdentifier descriptorOf descriptorsOf fragmentType indicator payloadHeader unitIn unitAt unitStep unitsFrom unitsOf follows lostFrom longSectionOf entryAt entriesFrom entriesTold nitBody nitOf sdtBody sdtOf declaredLength mptAssets mptTable mptOf divisionOf paTables sectionTable contentOf tableAt tablesFrom mediaOf classify find put orElse isSome fresh gap lostBy grown continued effectOf afterUnit objectOf unitEffect afterUnits deliveredBy clear readable newMpu jumped mpuAfter rangeAfter malformedPayload afterHeaders assetAfter tagged passes mediaGives idle partBefore joinedOn partAfter wholeOf reassemblyAfter messageCompleted orphan oversize tablesOf tablesOfAll messagesOf cutOf cutOfAll bodyRead sectionOf otherVersion keepIf keep keepAll zeros tableCounted sectionIncrements tableById tableRead tableIncrements mptAfter mptAfterAll stored storedAll countedAll opened idleControl assetOf controlOf packetCounted messageCounted reassemblyCounted tablesGiven timeAfter pushed gives book nothing enteredAll entered receptionLog logEntries unitsReceived follower dropCounted inOrder missing continuedBy deliveredOf needs unitsNeed reassemblyNeeds tableArea tablesNeed pushAll giveAll heldBytes
@@ -129,9 +129,9 @@ told (passed f) = given (map (λ r. r .mfu .bytes) (giveAll (opened true) (packe
 told (handed pass f) = records (giveAll (opened pass) (packetsOf f))
 told (mpuOf f) =
     mpu (assetOf id (pushAll (opened false) (packetsOf f)) .mpu) (assetOf id (pushAll (opened false) (packetsOf f)) .range)
-told (ipErrors f) = errors (pushAll (opened false) (packetsOf f) .counters .ipErrors)
+told (ipErrors f) = errors (pushAll (opened false) (packetsOf f) .counters .«ip_errors»)
 told (sections f) =
-    tables (pushAll (opened false) (packetsOf f) .counters .versionChanges) (pushAll (opened false) (packetsOf f) .counters .malformed)
+    tables (pushAll (opened false) (packetsOf f) .counters .«version_changes») (pushAll (opened false) (packetsOf f) .counters .malformed)
     (map (λ e. e .1 .version) (pushAll (opened false) (packetsOf f) .store .kept))
 told (keptOf f) = kept (map (λ e. e .1 .bytes) (pushAll (opened false) (packetsOf f) .store .kept))
 told (joinedOf f) = joinedIn (pushAll (opened false) (packetsOf f)) (controlOf 0x8001 (pushAll (opened false) (packetsOf f)))

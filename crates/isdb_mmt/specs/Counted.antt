@@ -9,9 +9,9 @@ use Rattle.isdb_mmt.specs.declared.decoder.counts.Counters.{Counters}
 -- counts as question 5 has them, and at most one more of each
 pub record Countable (c : Counters) (ip non time : ℕ) : Type 0 where
   pub packets : c .«tlv_packets» ≤ mostCount
-  pub ipErrors : c .«ip_errors» ≤ mostCount
-  pub nonMmtps : c .«non_mmtp» ≤ mostCount
-  pub ntps : c .ntp ≤ mostCount
+  pub «ip_errors» : c .«ip_errors» ≤ mostCount
+  pub «non_mmtp» : c .«non_mmtp» ≤ mostCount
+  pub ntp : c .ntp ≤ mostCount
   pub oneIp : ip ≤ 1
   pub oneNon : non ≤ 1
   pub oneTime : time ≤ 1

@@ -6,11 +6,12 @@ use mathlib.Core.Option.{Option, none, some}
 use mathlib.Core.List.{List, [], _∷_, _++_, map}
 use lib.ListN.{length, getD, set}
 use Rattle.isdb_tlv.specs.Guards.{if_then_else_, _<?_, _=?_}
+use Rattle.isdb_mmt.specs.declared.decoder.counts.Counters.{Counters}
 use Rattle.isdb_mmt.specs.Layout.{mostSections, mostMessageArea, mostTableArea, mostCount, tableIds}
 use Rattle.isdb_mmt.specs.Packet.{Bytes}
 use Rattle.isdb_mmt.specs.Lent.{part, indexed}
 use Rattle.isdb_mmt.specs.View.{given}
-use Rattle.isdb_mmt.specs.Kept.{Kept, Counters, Table, aSection, sectionOf}
+use Rattle.isdb_mmt.specs.Kept.{Kept, Table, aSection, sectionOf}
 use Rattle.isdb_mmt.specs.declared.part.Part.{Part}
 use Rattle.isdb_mmt.specs.declared.decoder.section.KeptSection.{KeptSection}
 use Rattle.isdb_mmt.specs.declared.decoder.verdict.Recent.{Recent}
@@ -43,7 +44,7 @@ pub record Dry : Type 0 where
   pub index : List Logged
   pub others : List ℕ
   pub tables : ℕ
-  pub crcErrors : ℕ
+  pub «crc_errors» : ℕ
   pub malformed : ℕ
   pub changes : ℕ
   pub breaks : ℕ
@@ -58,7 +59,7 @@ dryOf ix log others g =
       index = withLog (indexOf (g .used) ix) log;
       others = others;
       tables = g .tables;
-      crcErrors = g .«crc_errors»;
+      «crc_errors» = g .«crc_errors»;
       malformed = g .malformed;
       changes = g .«version_changes»;
       breaks = g .«split_errors»;
@@ -129,7 +130,7 @@ afterTable d t f =
       index = indexAfter (d .index) (t .act) f;
       others = othersAfter (d .others) (t .act);
       tables = d .tables + 1;
-      crcErrors = d .crcErrors + t .«crc_errors»;
+      «crc_errors» = d .«crc_errors» + t .«crc_errors»;
       malformed = d .malformed + t .malformed;
       changes = d .changes + t .«version_changes»;
       breaks = d .breaks + t .breaks;
@@ -179,18 +180,18 @@ pub record Areas : Type 0 where
 abbrev pub drawnCounters : Counters → Dry → Counters
 drawnCounters c d =
     record {
-      tlvPackets = c .tlvPackets;
-      ipErrors = c .ipErrors;
-      nonMmtps = c .nonMmtps;
-      ntps = c .ntps;
+      «tlv_packets» = c .«tlv_packets»;
+      «ip_errors» = c .«ip_errors»;
+      «non_mmtp» = c .«non_mmtp»;
+      ntp = c .ntp;
       tables = d .tables;
-      crcErrors = d .crcErrors;
+      «crc_errors» = d .«crc_errors»;
       malformed = d .malformed;
-      versionChanges = d .changes;
-      orphans = c .orphans;
-      oversizes = c .oversizes;
-      messageMalformed = c .messageMalformed;
-      splitErrors = d .breaks;
+      «version_changes» = d .changes;
+      «orphan_fragments» = c .«orphan_fragments»;
+      oversize = c .oversize;
+      «message_malformed» = c .«message_malformed»;
+      «split_errors» = d .breaks;
     }
 
 unfoldable pub drawn : Bytes → Areas → Counters → Dry → Tally
@@ -228,7 +229,7 @@ mostBefore = 512 * mostCount
 
 pub record Room (g : Going) (others : List ℕ) (most : ℕ) : Type 0 where
   pub tables : g .tables ≤ most
-  pub crcErrors : g .«crc_errors» ≤ most
+  pub «crc_errors» : g .«crc_errors» ≤ most
   pub malformed : g .malformed ≤ most
   pub changes : g .«version_changes» ≤ most
   pub breaks : g .«split_errors» ≤ most
@@ -251,7 +252,7 @@ PutWithin (Tot n) used = Unit {0}
 PutWithin (Put i x) used = i ≤ used
 
 pub record Small (t : Told) (used most : ℕ) : Type 0 where
-  pub crcErrors : t .«crc_errors» ≤ most
+  pub «crc_errors» : t .«crc_errors» ≤ most
   pub malformed : t .malformed ≤ most
   pub changes : t .«version_changes» ≤ most
   pub breaks : t .breaks ≤ most
@@ -264,7 +265,7 @@ pub record CanNote (ix log others : List ℕ) (g : Going) (t : Told) : Type 0 wh
 
 pub record CanCount (g : Going) (t : Told) : Type 0 where
   pub tables : g .tables ≤ mostBefore
-  pub crcErrors : g .«crc_errors» + t .«crc_errors» ≤ mostBefore + mostAdded
+  pub «crc_errors» : g .«crc_errors» + t .«crc_errors» ≤ mostBefore + mostAdded
   pub malformed : g .malformed + t .malformed ≤ mostBefore + mostAdded
   pub changes : g .«version_changes» + t .«version_changes» ≤ mostBefore + mostAdded
   pub breaks : g .«split_errors» + t .breaks ≤ mostBefore + mostAdded

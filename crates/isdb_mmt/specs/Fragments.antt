@@ -175,6 +175,6 @@ fragmentCounted f c = countedWith c (one (faultsOf f .orphan)) (one (faultsOf f 
 -- counts as question 5 has them
 pub record CanCount (c : Counters) : Type 0 where
   pub packets : c .«tlv_packets» ≤ mostCount
-  pub orphans : c .«orphan_fragments» ≤ mostCount
-  pub oversizes : c .oversize ≤ mostCount
+  pub «orphan_fragments» : c .«orphan_fragments» ≤ mostCount
+  pub oversize : c .oversize ≤ mostCount
   pub malformed : c .«message_malformed» ≤ mostCount

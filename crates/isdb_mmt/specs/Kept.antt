@@ -17,6 +17,7 @@ use Rattle.isdb_mmt.specs.Bit.{bitOf}
 use Rattle.isdb_mmt.specs.Nit.{nitOf}
 use Rattle.isdb_mmt.specs.Amt.{amtOf}
 use Rattle.isdb_mmt.specs.Packet.{Bytes}
+use Rattle.isdb_mmt.specs.declared.decoder.counts.Counters.{Counters}
 use Rattle.isdb_mmt.specs.declared.table.section.SectionError.{SectionError}
 use Rattle.isdb_mmt.specs.declared.table.section.SectionError.the-variants.{Truncated, Crc, Malformed}
 use Rattle.isdb_mmt.specs.declared.table.section.LongSection.{LongSection}
@@ -154,63 +155,49 @@ unfolding keep
 keepAll [] m = m
 keepAll (x ∷ xs) m = keepAll xs (keep x m)
 
-pub record Counters : Type 0 where
-  pub tlvPackets : ℕ
-  pub ipErrors : ℕ
-  pub nonMmtps : ℕ
-  pub ntps : ℕ
-  pub tables : ℕ
-  pub crcErrors : ℕ
-  pub malformed : ℕ
-  pub versionChanges : ℕ
-  pub orphans : ℕ
-  pub oversizes : ℕ
-  pub messageMalformed : ℕ
-  pub splitErrors : ℕ
-
 unfoldable pub zeros : Counters
 zeros =
     record {
-      tlvPackets = 0;
-      ipErrors = 0;
-      nonMmtps = 0;
-      ntps = 0;
+      «tlv_packets» = 0;
+      «ip_errors» = 0;
+      «non_mmtp» = 0;
+      ntp = 0;
       tables = 0;
-      crcErrors = 0;
+      «crc_errors» = 0;
       malformed = 0;
-      versionChanges = 0;
-      orphans = 0;
-      oversizes = 0;
-      messageMalformed = 0;
-      splitErrors = 0;
+      «version_changes» = 0;
+      «orphan_fragments» = 0;
+      oversize = 0;
+      «message_malformed» = 0;
+      «split_errors» = 0;
     }
 
 -- what a table adds to the counts
 pub record Increments : Type 0 where
-  pub crcErrors : ℕ
+  pub «crc_errors» : ℕ
   pub malformed : ℕ
-  pub versionChanges : ℕ
+  pub «version_changes» : ℕ
   pub breaks : ℕ
 
 abbrev pub increments : ℕ → ℕ → ℕ → ℕ → Increments
-increments c m v b = record { crcErrors = c; malformed = m; versionChanges = v; breaks = b }
+increments c m v b = record { «crc_errors» = c; malformed = m; «version_changes» = v; breaks = b }
 
 -- a table more, with what it adds
 unfoldable pub tableCounted : Counters → Increments → Counters
 tableCounted c x =
     record {
-      tlvPackets = c .tlvPackets;
-      ipErrors = c .ipErrors;
-      nonMmtps = c .nonMmtps;
-      ntps = c .ntps;
+      «tlv_packets» = c .«tlv_packets»;
+      «ip_errors» = c .«ip_errors»;
+      «non_mmtp» = c .«non_mmtp»;
+      ntp = c .ntp;
       tables = c .tables + 1;
-      crcErrors = c .crcErrors + x .crcErrors;
+      «crc_errors» = c .«crc_errors» + x .«crc_errors»;
       malformed = c .malformed + x .malformed;
-      versionChanges = c .versionChanges + x .versionChanges;
-      orphans = c .orphans;
-      oversizes = c .oversizes;
-      messageMalformed = c .messageMalformed;
-      splitErrors = c .splitErrors + x .breaks;
+      «version_changes» = c .«version_changes» + x .«version_changes»;
+      «orphan_fragments» = c .«orphan_fragments»;
+      oversize = c .oversize;
+      «message_malformed» = c .«message_malformed»;
+      «split_errors» = c .«split_errors» + x .breaks;
     }
 
 -- a section: a bad header or CRC is counted; a section of the kept version is passed over; another counts a version change

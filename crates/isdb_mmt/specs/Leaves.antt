@@ -7,16 +7,17 @@ use mathlib.Core.Option.{Option, none, some}
 use mathlib.Core.List.{List, [], _∷_, _++_}
 use lib.ListN.{length}
 use Rattle.isdb_tlv.specs.Fields.{written}
+use Rattle.isdb_mmt.specs.declared.decoder.counts.Counters.{Counters}
 use Rattle.isdb_mmt.specs.Packet.{Bytes, MessagePacket, Packet, ipError, ntp, nonMmtp, media, message, control, other}
 use Rattle.isdb_mmt.specs.Joins.{PartialMessage}
-use Rattle.isdb_mmt.specs.Kept.{Kept, KeptTables, Counters as Counts}
+use Rattle.isdb_mmt.specs.Kept.{Kept, KeptTables}
 use Rattle.isdb_mmt.specs.Model.{State, Control as ControlState, controlOf, pushed}
 use Rattle.isdb_mmt.specs.Lent.{over, namesFrom, placeForName}
 use Rattle.isdb_mmt.specs.Layout.{usedPlace, latestPlace, timePlace, countersPlace, controlPlaces, controlSize, sectionPlaces}
 use Rattle.isdb_mmt.specs.Session.{Session, limitsOf, usedOf, usedFields, latestFields, timeFields, countersFields, controlFields, sectionFields}
 use Rattle.isdb_mmt.specs.View.{view}
 use Rattle.isdb_mmt.specs.Opening.{lent}
-use Rattle.isdb_mmt.specs.Placing.{controlFor, sectionFor, latestFor, countersFor}
+use Rattle.isdb_mmt.specs.Placing.{controlFor, sectionFor, latestFor}
 use Rattle.isdb_mmt.specs.MediaPush.{withUsed, mediaLeaves}
 use Rattle.isdb_mmt.specs.declared.decoder.place.PlaceFor.{PlaceFor}
 use Rattle.isdb_mmt.specs.declared.decoder.place.PlaceFor.the-variants.{Own, Free, NoneFree}
@@ -58,8 +59,8 @@ abbrev pub withTime : Option ℕ → List ℕ → List ℕ
 withTime none l = l
 withTime (some t) l = over timePlace (written (timeFields (record { seen = true; timestamp = t }))) l
 
-abbrev pub withCounters : Counts → List ℕ → List ℕ
-withCounters c l = over countersPlace (written (countersFields (countersFor c))) l
+abbrev pub withCounters : Counters → List ℕ → List ℕ
+withCounters c l = over countersPlace (written (countersFields c)) l
 
 -- what tables leave: places in use, section places, counters; of a message the PLT and the TOT too
 abbrev pub stateOfTables : State → List ℕ → List ℕ

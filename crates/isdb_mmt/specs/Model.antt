@@ -5,11 +5,12 @@ use mathlib.Core.Bool.{Bool}
 use mathlib.Core.Option.{Option, none, some}
 use mathlib.Core.List.{List, []}
 use lib.ListN.{replicate}
+use Rattle.isdb_mmt.specs.declared.decoder.counts.Counters.{Counters}
 use Rattle.isdb_mmt.specs.Packet.{Bytes, MessagePacket, Packet, ipError, ntp, nonMmtp, media, message, control, other}
 use Rattle.isdb_mmt.specs.Maps.{find, put, orElse, one}
 use Rattle.isdb_mmt.specs.Objects.{fresh, assetAfter, mediaGives, Asset, Rec}
 use Rattle.isdb_mmt.specs.Joins.{idle, reassemblyAfter, messageCompleted, orphan, oversize, cutOfAll, short, Reassembly}
-use Rattle.isdb_mmt.specs.Kept.{zeros, mptAfterAll, storedAll, countedAll, Counters, KeptTables}
+use Rattle.isdb_mmt.specs.Kept.{zeros, mptAfterAll, storedAll, countedAll, KeptTables}
 use Rattle.isdb_mmt.specs.GivenTables.{tablesGiven, controlTables}
 
 -- what is known of a control id: the message being joined, and the kept MPT
@@ -58,35 +59,35 @@ reassemblyOf i s = controlOf i s .line
 unfoldable pub packetCounted : Counters → ℕ → ℕ → ℕ → Counters
 packetCounted c ip non time =
     record {
-      tlvPackets = c .tlvPackets + 1;
-      ipErrors = c .ipErrors + ip;
-      nonMmtps = c .nonMmtps + non;
-      ntps = c .ntps + time;
+      «tlv_packets» = c .«tlv_packets» + 1;
+      «ip_errors» = c .«ip_errors» + ip;
+      «non_mmtp» = c .«non_mmtp» + non;
+      ntp = c .ntp + time;
       tables = c .tables;
-      crcErrors = c .crcErrors;
+      «crc_errors» = c .«crc_errors»;
       malformed = c .malformed;
-      versionChanges = c .versionChanges;
-      orphans = c .orphans;
-      oversizes = c .oversizes;
-      messageMalformed = c .messageMalformed;
-      splitErrors = c .splitErrors;
+      «version_changes» = c .«version_changes»;
+      «orphan_fragments» = c .«orphan_fragments»;
+      oversize = c .oversize;
+      «message_malformed» = c .«message_malformed»;
+      «split_errors» = c .«split_errors»;
     }
 
 unfoldable pub messageCounted : Counters → ℕ → ℕ → ℕ → Counters
 messageCounted c orphans oversizes bad =
     record {
-      tlvPackets = c .tlvPackets;
-      ipErrors = c .ipErrors;
-      nonMmtps = c .nonMmtps;
-      ntps = c .ntps;
+      «tlv_packets» = c .«tlv_packets»;
+      «ip_errors» = c .«ip_errors»;
+      «non_mmtp» = c .«non_mmtp»;
+      ntp = c .ntp;
       tables = c .tables;
-      crcErrors = c .crcErrors;
+      «crc_errors» = c .«crc_errors»;
       malformed = c .malformed;
-      versionChanges = c .versionChanges;
-      orphans = c .orphans + orphans;
-      oversizes = c .oversizes + oversizes;
-      messageMalformed = c .messageMalformed + bad;
-      splitErrors = c .splitErrors;
+      «version_changes» = c .«version_changes»;
+      «orphan_fragments» = c .«orphan_fragments» + orphans;
+      oversize = c .oversize + oversizes;
+      «message_malformed» = c .«message_malformed» + bad;
+      «split_errors» = c .«split_errors»;
     }
 
 -- the counters that message.rs keeps, for a message packet

@@ -7,7 +7,7 @@ use Rattle.isdb_mmt.specs.Packet.{Bytes}
 use Rattle.isdb_mmt.specs.Maps.{isSome, orElse}
 use Rattle.isdb_mmt.specs.Objects.{Mfu, Asset}
 use Rattle.isdb_mmt.specs.Joins.{PartialMessage}
-use Rattle.isdb_mmt.specs.Kept.{Kept, KeptTables, Counters as Counts}
+use Rattle.isdb_mmt.specs.Kept.{Kept, KeptTables}
 use Rattle.isdb_mmt.specs.Model.{Control as ControlState}
 use Rattle.isdb_mmt.specs.Needs.{partialLength}
 use Rattle.isdb_mmt.specs.Records.{noHeader, objectFor}
@@ -105,20 +105,3 @@ latestFor s =
 unfoldable pub timeFor : Option ℕ → Time
 unfolding isSome orElse
 timeFor t = record { seen = isSome t; timestamp = orElse 0 t }
-
-abbrev pub countersFor : Counts → Counters
-countersFor c =
-    record {
-      «tlv_packets» = c .tlvPackets;
-      «ip_errors» = c .ipErrors;
-      «non_mmtp» = c .nonMmtps;
-      ntp = c .ntps;
-      tables = c .tables;
-      «crc_errors» = c .crcErrors;
-      malformed = c .malformed;
-      «version_changes» = c .versionChanges;
-      «orphan_fragments» = c .orphans;
-      oversize = c .oversizes;
-      «message_malformed» = c .messageMalformed;
-      «split_errors» = c .splitErrors;
-    }

@@ -17,7 +17,7 @@ use Rattle.isdb_mmt.specs.Octets.{Octets}
 use Rattle.isdb_mmt.specs.Session.{Session}
 use Rattle.isdb_mmt.specs.Check.{sound}
 use Rattle.isdb_mmt.specs.View.{view}
-use Rattle.isdb_mmt.specs.Placing.{statsFor, countersFor}
+use Rattle.isdb_mmt.specs.Placing.{statsFor}
 use Rattle.isdb_mmt.specs.Readings.{mediaNames, controlNames, keysIn, countersRead, timeRead, countRead, mostName, ascending, nextMediaRead, nextControlRead, nextKeyRead, mediaRead, heldRead, controlRead}
 use Rattle.isdb_mmt.specs.declared.maybe.MaybeU32.{MaybeU32}
 use Rattle.isdb_mmt.specs.declared.maybe.MaybeU32.the-variants.{None as noU32, Some as someU32}
@@ -44,7 +44,7 @@ timeTold none = noTime
 timeTold (some t) = Timestamp t
 
 pub record CountsTold (s : Session) : Type 0 where
-  pub counters : countersRead s ≡ theCounters (countersFor (view s .counters))
+  pub counters : countersRead s ≡ theCounters (view s .counters)
   pub time : timeRead s ≡ timeTold (view s .time)
   pub tables : (id : ℕ) → countRead s id ≡ Count (getD (view s .store .others) id 0)
 

@@ -14,7 +14,6 @@ use Rattle.isdb_mmt.specs.Packet.{Bytes, Packet, control}
 use Rattle.isdb_mmt.specs.Lent.{part, over}
 use Rattle.isdb_mmt.specs.Session.{Session, limitsOf, usedOf, latestOf, countersFields}
 use Rattle.isdb_mmt.specs.MediaPush.{withUsed}
-use Rattle.isdb_mmt.specs.Kept.{Counters as Counts}
 use Rattle.isdb_mmt.specs.Commit.{putTables, loggedFrom, CanStore}
 use Rattle.isdb_mmt.specs.Check.{lengthsOf, Sound}
 use Rattle.isdb_mmt.specs.Push.{mostBytes}
@@ -135,28 +134,28 @@ pub record SectionsLeft (state tables ix log mine : List ℕ) (c : Counters) (g 
 -- ---- a message
 
 -- counters with more messages or tables of messages that are cut short
-abbrev pub malformedMore : Counts → ℕ → Counts
+abbrev pub malformedMore : Counters → ℕ → Counters
 malformedMore c k =
     record {
-      tlvPackets = c .tlvPackets;
-      ipErrors = c .ipErrors;
-      nonMmtps = c .nonMmtps;
-      ntps = c .ntps;
+      «tlv_packets» = c .«tlv_packets»;
+      «ip_errors» = c .«ip_errors»;
+      «non_mmtp» = c .«non_mmtp»;
+      ntp = c .ntp;
       tables = c .tables;
-      crcErrors = c .crcErrors;
+      «crc_errors» = c .«crc_errors»;
       malformed = c .malformed;
-      versionChanges = c .versionChanges;
-      orphans = c .orphans;
-      oversizes = c .oversizes;
-      messageMalformed = c .messageMalformed + k;
-      splitErrors = c .splitErrors;
+      «version_changes» = c .«version_changes»;
+      «orphan_fragments» = c .«orphan_fragments»;
+      oversize = c .oversize;
+      «message_malformed» = c .«message_malformed» + k;
+      «split_errors» = c .«split_errors»;
     }
 
 -- the counts that tables raise
-pub record CountsFit (c : Counts) : Type 0 where
+pub record CountsFit (c : Counters) : Type 0 where
   pub tables : c .tables ≤ mostCount
-  pub crcErrors : c .crcErrors ≤ mostCount
+  pub «crc_errors» : c .«crc_errors» ≤ mostCount
   pub malformed : c .malformed ≤ mostCount
-  pub versionChanges : c .versionChanges ≤ mostCount
-  pub messageMalformed : c .messageMalformed ≤ mostCount
-  pub splitErrors : c .splitErrors ≤ mostCount
+  pub «version_changes» : c .«version_changes» ≤ mostCount
+  pub «message_malformed» : c .«message_malformed» ≤ mostCount
+  pub «split_errors» : c .«split_errors» ≤ mostCount

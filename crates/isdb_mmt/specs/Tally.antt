@@ -3,8 +3,9 @@
 use Prim.Native.Nat.{ℕ, max}
 use mathlib.Core.Option.{Option}
 use mathlib.Core.List.{List, [], _∷_}
+use Rattle.isdb_mmt.specs.declared.decoder.counts.Counters.{Counters}
 use Rattle.isdb_mmt.specs.Packet.{Bytes}
-use Rattle.isdb_mmt.specs.Kept.{Counters, KeptTables, Table, tableCounted, tableIncrements, mptAfter, stored}
+use Rattle.isdb_mmt.specs.Kept.{KeptTables, Table, tableCounted, tableIncrements, mptAfter, stored}
 use Rattle.isdb_mmt.specs.Needs.{tableArea}
 
 pub record Tally : Type 0 where

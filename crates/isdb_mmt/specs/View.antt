@@ -7,7 +7,7 @@ use mathlib.Core.List.{List, [], _∷_}
 use Rattle.isdb_mmt.specs.Packet.{Bytes}
 use Rattle.isdb_mmt.specs.Objects.{Mfu, Asset}
 use Rattle.isdb_mmt.specs.Joins.{PartialMessage, Reassembly}
-use Rattle.isdb_mmt.specs.Kept.{Kept, KeptTables, Counters as Counts}
+use Rattle.isdb_mmt.specs.Kept.{Kept, KeptTables}
 use Rattle.isdb_mmt.specs.Model.{State, Control as ControlState, opened}
 use Rattle.isdb_mmt.specs.Lent.{part, indexed}
 use Rattle.isdb_mmt.specs.Session.{Session, limitsOf, latestOf, timeOf, countersOf}
@@ -99,23 +99,6 @@ controlEntry l s i c = (
 abbrev pub sectionEntry : Limits → Session → ℕ → KeptSection → ℕ × Kept
 sectionEntry l s i x = (x .key, record { version = x .version; bytes = tableAt l s i (x .length) })
 
-abbrev pub countsOf : Counters → Counts
-countsOf c =
-    record {
-      tlvPackets = c .«tlv_packets»;
-      ipErrors = c .«ip_errors»;
-      nonMmtps = c .«non_mmtp»;
-      ntps = c .ntp;
-      tables = c .tables;
-      crcErrors = c .«crc_errors»;
-      malformed = c .malformed;
-      versionChanges = c .«version_changes»;
-      orphans = c .«orphan_fragments»;
-      oversizes = c .oversize;
-      messageMalformed = c .«message_malformed»;
-      splitErrors = c .«split_errors»;
-    }
-
 unfoldable pub viewBy : Limits → Session → State
 unfolding indexed assetOfPlace controlStateOf
 viewBy l s =
@@ -131,7 +114,7 @@ viewBy l s =
             others = s .others;
           };
       time = given (timeOf (s .state) .seen) (timeOf (s .state) .timestamp);
-      counters = countsOf (countersOf (s .state));
+      counters = (countersOf (s .state));
     }
 
 unfoldable pub view : Session → State

@@ -2,8 +2,6 @@
 ghost use mathlib.Core.Path.{_≡_};
 ghost use Rattle.isdb_mmt.specs.Model.{packetCounted};
 ghost use Rattle.isdb_mmt.specs.Session.{countersOf};
-ghost use Rattle.isdb_mmt.specs.View.{countsOf};
-ghost use Rattle.isdb_mmt.specs.Placing.{countersFor};
 ghost use Rattle.isdb_mmt.specs.Leaves.{withCounters, withTime};
 ghost use Rattle.isdb_mmt.specs.Route.{timeGiven};
 ghost use Rattle.isdb_mmt.specs.Counted.{Countable, StateCountable};
@@ -16,7 +14,7 @@ use crate::maybe::MaybeU64;
 // One packet more, with what is counted of it beside tables.
 pub(crate) fn packet_counted(c: Counters, ip: u64, non: u64, time: u64) -> Counters
     requires { ⌜ Countable c ip non time ⌝ }
-    ensures { λ r. ⌜ r ≡ countersFor (packetCounted (countsOf c) ip non time) ⌝ }
+    ensures { λ r. ⌜ r ≡ packetCounted c ip non time ⌝ }
 {
     Counters {
         tlv_packets: c.tlv_packets + 1,
@@ -36,7 +34,7 @@ pub(crate) fn packet_counted(c: Counters, ip: u64, non: u64, time: u64) -> Count
 
 pub(crate) fn count_packet(state: &mut [u8], ip: u64, non: u64)
     requires { ⌜ StateCountable (now state) ip non 0 ⌝ }
-    ensures { λ r. ⌜ now (state .exit) ≡ withCounters (packetCounted (countsOf (countersOf (now (state .entry)))) ip non 0) (now (state .entry)) ⌝ }
+    ensures { λ r. ⌜ now (state .exit) ≡ withCounters (packetCounted (countersOf (now (state .entry))) ip non 0) (now (state .entry)) ⌝ }
 {
     let c = counts::counters_of(state);
     head::store_counters(state, packet_counted(c, ip, non, 0));
@@ -61,7 +59,7 @@ fn store_seen(state: &mut [u8], t: MaybeU64)
 // An NTP packet: its transmit timestamp, where it is there.
 pub(crate) fn push_time(state: &mut [u8], t: MaybeU64)
     requires { ⌜ StateCountable (now state) 0 0 1 ⌝ }
-    ensures { λ r. ⌜ now (state .exit) ≡ withCounters (packetCounted (countsOf (countersOf (now (state .entry)))) 0 0 1) (withTime (timeGiven t) (now (state .entry))) ⌝ }
+    ensures { λ r. ⌜ now (state .exit) ≡ withCounters (packetCounted (countersOf (now (state .entry))) 0 0 1) (withTime (timeGiven t) (now (state .entry))) ⌝ }
 {
     let c = counts::counters_of(state);
     store_seen(state, t);
