@@ -1,13 +1,13 @@
 -- Numbers in bytes, the CRC, the kind of a TLV packet.
-use Prim.Native.Nat.{ℕ, _%_, _^_}
+use Prim.Native.Nat.{_%_, _^_}
 use mathlib.Core.Path.{_≡_, refl}
-use mathlib.Core.List.{List, [], _∷_}
+use mathlib.Core.List.{[], _∷_}
 use lib.ListN.{replicate}
 use Rattle.isdb_tlv.specs.Fields.{bytesOf, puts, fourFields}
 use Rattle.isdb_tlv.specs.Bytes.{be, putBe, withBit}
 use Rattle.isdb_tlv.specs.Crc.{feed, feedByte, crcOf}
 use Rattle.isdb_tlv.specs.Tlv.{packetType}
-use Rattle.isdb_tlv.specs.declared.tlv.PacketType.the-variants.{Ipv4, Compressed, Control, Null, Other}
+use Rattle.isdb_tlv.specs.declared.tlv.PacketType.the-variants.{Compressed, Null, Other}
 
 -- bytes::number, of nine bytes: the low 64 bits
 -- wrong: 0x0203040506070809 => 0x0102030405060708 (the high 64)

@@ -1,9 +1,7 @@
 -- Locations, descriptors, timestamps.
-use Prim.Native.Nat.{ℕ}
 use mathlib.Core.Path.{_≡_, refl}
 use mathlib.Core.Bool.{true, false}
-use mathlib.Core.List.{List, [], _∷_, _++_}
-use lib.ListN.{replicate}
+use mathlib.Core.List.{[], _∷_}
 use lib.Ieee.{binary64, ofInt, sub, div, toBits}
 use Rattle.isdb_tlv.specs.Fields.{bytesOf}
 use Rattle.isdb_tlv.specs.Bytes.{be}
@@ -14,14 +12,14 @@ use Rattle.isdb_mmt.specs.Timestamp.{timestampAt, mpuAt, mpusFrom, mpusWhole, e
 use Rattle.isdb_mmt.specs.Desc.{lengthWidth, stepAt, splitFrom, splitOf, counted, streamIdentifier, descriptorOf, isOther, firstOf, serviceAt, genreAt}
 use Rattle.isdb_mmt.specs.declared.maybe.MaybeU16.the-variants.{None as noU16, Some as someU16}
 use Rattle.isdb_mmt.specs.declared.maybe.MaybeU32.the-variants.{None as noU32, Some as someU32}
-use Rattle.isdb_mmt.specs.declared.location.Location.the-variants.{SameFlow, Ipv4, Mpeg2Ts, Url}
-use Rattle.isdb_mmt.specs.declared.location.Located.the-variants.{None as notLocated, Some as located}
-use Rattle.isdb_mmt.specs.declared.timestamp.TimestampStep.the-variants.{End as noTimestamp, Timestamp}
+use Rattle.isdb_mmt.specs.declared.location.Location.the-variants.{Mpeg2Ts, Url}
+use Rattle.isdb_mmt.specs.declared.location.Located.the-variants.{Some as located}
+use Rattle.isdb_mmt.specs.declared.timestamp.TimestampStep.the-variants.{Timestamp}
 use Rattle.isdb_mmt.specs.declared.timestamp.Extended.{Extended}
 use Rattle.isdb_mmt.specs.declared.timestamp.MaybeExtended.the-variants.{None as notExtended, Some as extended}
-use Rattle.isdb_mmt.specs.declared.timestamp.MpuStep.the-variants.{End as noMpu, Broken as brokenMpu, Mpu}
-use Rattle.isdb_mmt.specs.declared.timestamp.AccessUnitStep.the-variants.{End as noUnit, Unit as unit}
-use Rattle.isdb_mmt.specs.declared.desc.Step.the-variants.{End, Broken, Raw}
+use Rattle.isdb_mmt.specs.declared.timestamp.MpuStep.the-variants.{Mpu}
+use Rattle.isdb_mmt.specs.declared.timestamp.AccessUnitStep.the-variants.{Unit as unit}
+use Rattle.isdb_mmt.specs.declared.desc.Step.the-variants.{Raw}
 use Rattle.isdb_mmt.specs.declared.desc.Descriptor.the-variants.{StreamIdentifier, ServiceList, Other}
 use Rattle.isdb_mmt.specs.declared.desc.Found.the-variants.{None as notFound, Some as found}
 use Rattle.isdb_mmt.specs.declared.desc.ServiceStep.the-variants.{End as noService, Service as service}

@@ -1,7 +1,7 @@
 -- Feeds: what pushing them leaves and gives, by the model.
 use Prim.Native.Nat.{ℕ, _+_}
 use mathlib.Core.Path.{_≡_, refl}
-use mathlib.Core.Bool.{true, false}
+use mathlib.Core.Bool.{false}
 use mathlib.Core.Option.{none, some}
 use mathlib.Core.List.{List, [], _∷_, _++_, map}
 use lib.ListN.{length}
@@ -9,7 +9,7 @@ use Rattle.isdb_tlv.specs.Fields.{bytesOf}
 use Rattle.isdb_mmt.specs.Objects.{Mfu, continued, grown, effectOf}
 use Rattle.isdb_mmt.specs.Model.{opened}
 use Rattle.isdb_mmt.specs.Demand.{packetsOf, pushAll}
-use Rattle.isdb_mmt.specs.Cases.{told, left, passed, sections, needed, given, tables, asks, clearly, headOf, lastOf, completeOf, unreadable, scrambledOf, payload, mediaNeeds, ab, cd}
+use Rattle.isdb_mmt.specs.Cases.{told, left, passed, sections, needed, given, tables, asks, clearly, headOf, lastOf, unreadable, scrambledOf, payload, mediaNeeds, ab, cd}
 use Rattle.isdb_mmt.specs.ControlCases.{fragment, mptMessage, messageNeeds, nit1, nit2}
 use Rattle.isdb_mmt.specs.declared.mpu.FragmentationIndicator.the-variants.{Middle, Last}
 

@@ -1,13 +1,13 @@
 -- Pushes: the question that a packet fails, and what an accepted one hands out and leaves.
 use Prim.Native.Nat.{ℕ, _+_}
 use mathlib.Core.Path.{_≡_, refl}
-use mathlib.Core.List.{List, [], _∷_, _++_}
+use mathlib.Core.List.{[], _∷_, _++_}
 use lib.ListN.{replicate}
 use Rattle.isdb_mmt.specs.Packet.{Bytes}
 use Rattle.isdb_mmt.specs.Layout.{sectionPlaces, sectionSize}
 use Rattle.isdb_mmt.specs.Cases.{completeOf, headOf, lastOf, ab, cd}
 use Rattle.isdb_mmt.specs.ControlCases.{fragment, tableMessage, nit1, nitNext}
-use Rattle.isdb_mmt.specs.PushCases.{told, rowsOf, pushedTo, behind, stateAt, objectsBy, bytes, number, blank, input, only, whole, secondId, longHead, null, bare, low4, longMpt}
+use Rattle.isdb_mmt.specs.PushCases.{told, rowsOf, pushedTo, behind, stateAt, objectsBy, bytes, number, blank, input, only, whole, longHead, null, bare, low4, longMpt}
 
 -- decoder::push: memory of zeros is no session
 -- wrong: number 5 => number 0 (taken for one)

@@ -1,7 +1,7 @@
 -- The limits of a session, and opening one.
 use Prim.Native.Nat.{ℕ}
 use mathlib.Core.Path.{_≡_, refl}
-use mathlib.Core.Bool.{true, false}
+use mathlib.Core.Bool.{false}
 use mathlib.Core.List.{List}
 use Rattle.isdb_mmt.specs.Limits.{inRange, placesInRange, areasInRange, packetsInRange, lengthsFor, longEnough, neededOf, asked}
 use Rattle.isdb_mmt.specs.declared.decoder.limits.Limits.{Limits}

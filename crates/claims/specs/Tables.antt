@@ -2,14 +2,14 @@
 use Prim.Native.Nat.{ℕ}
 use mathlib.Core.Path.{_≡_, refl}
 use mathlib.Core.Bool.{true, false}
-use mathlib.Core.List.{List, [], _∷_, _++_}
+use mathlib.Core.List.{List, [], _∷_}
 use lib.ListN.{drop}
 use Rattle.isdb_tlv.specs.Fields.{bytesOf}
 use Rattle.isdb_tlv.specs.Bytes.{be}
 use Rattle.isdb_tlv.specs.Crc.{feed, feedByte, crcOf}
-use Rattle.isdb_tlv.specs.declared.ip.Address.the-variants.{V4, V6}
+use Rattle.isdb_tlv.specs.declared.ip.Address.the-variants.{V4}
 use Rattle.isdb_mmt.specs.Part.{part}
-use Rattle.isdb_mmt.specs.Location.{sized, urlOf, locationOf}
+use Rattle.isdb_mmt.specs.Location.{sized, locationOf}
 use Rattle.isdb_mmt.specs.Desc.{lengthWidth, stepAt, splitFrom, splitOf, broken, streamIdentifier, serviceText, shortEvent, descriptorOf, firstOf}
 use Rattle.isdb_mmt.specs.Section.{longSectionOf, entryAt, entriesFrom, entriesTold}
 use Rattle.isdb_mmt.specs.Eit.{eitBody, eitOf, eventStep}
@@ -21,32 +21,32 @@ use Rattle.isdb_mmt.specs.Tot.{totFields, totOf}
 use Rattle.isdb_mmt.specs.Mpt.{declaredLength, assetFields, assetAt, mptAssets, mptTable, mptOf, serviceId, firstPacketId, locationsOf, componentTag}
 use Rattle.isdb_mmt.specs.Plt.{packageAt, deliverySize, deliveryAt, deliveriesWhole, pltDeliveries, pltTable, pltOf}
 use Rattle.isdb_mmt.specs.declared.maybe.MaybeU16.the-variants.{None as noU16, Some as someU16}
-use Rattle.isdb_mmt.specs.declared.maybe.MaybeU64.the-variants.{None as noU64, Some as someU64}
+use Rattle.isdb_mmt.specs.declared.maybe.MaybeU64.the-variants.{Some as someU64}
 use Rattle.isdb_mmt.specs.declared.location.Location.the-variants.{SameFlow}
 use Rattle.isdb_mmt.specs.declared.location.Located.the-variants.{None as notLocated, Some as located}
-use Rattle.isdb_mmt.specs.declared.desc.Descriptor.the-variants.{Service, ShortEvent, Other}
-use Rattle.isdb_mmt.specs.declared.desc.Found.the-variants.{None as notFound, Some as found}
+use Rattle.isdb_mmt.specs.declared.desc.Descriptor.the-variants.{Service, ShortEvent}
+use Rattle.isdb_mmt.specs.declared.desc.Found.the-variants.{Some as found}
 use Rattle.isdb_mmt.specs.declared.table.section.SectionHeader.{SectionHeader}
 use Rattle.isdb_mmt.specs.declared.table.section.SectionError.the-variants.{Truncated, Crc, Malformed}
 use Rattle.isdb_mmt.specs.declared.table.section.LongSection.the-variants.{Ok, Err}
-use Rattle.isdb_mmt.specs.declared.table.section.EntryStep.the-variants.{End as noEntry, Malformed as brokenEntry, Entry as entry}
+use Rattle.isdb_mmt.specs.declared.table.section.EntryStep.the-variants.{Entry as entry}
 use Rattle.isdb_mmt.specs.declared.table.eit.EitResult.the-variants.{Ok as eitOk, Err as noEit}
-use Rattle.isdb_mmt.specs.declared.table.eit.EventStep.the-variants.{End as noEvent, Malformed as brokenEvent, Event as event}
+use Rattle.isdb_mmt.specs.declared.table.eit.EventStep.the-variants.{Event as event}
 use Rattle.isdb_mmt.specs.declared.table.sdt.SdtResult.the-variants.{Ok as sdtOk, Err as noSdt}
-use Rattle.isdb_mmt.specs.declared.table.sdt.SdtStep.the-variants.{End as noService, Malformed as brokenService, Service as service}
+use Rattle.isdb_mmt.specs.declared.table.sdt.SdtStep.the-variants.{Service as service}
 use Rattle.isdb_mmt.specs.declared.table.bit.BitResult.the-variants.{Ok as bitOk, Err as noBit}
-use Rattle.isdb_mmt.specs.declared.table.bit.BroadcasterStep.the-variants.{End as noBroadcaster, Malformed as brokenBroadcaster, Broadcaster as broadcaster}
+use Rattle.isdb_mmt.specs.declared.table.bit.BroadcasterStep.the-variants.{End as noBroadcaster, Broadcaster as broadcaster}
 use Rattle.isdb_mmt.specs.declared.table.nit.NitResult.the-variants.{Ok as nitOk, Err as noNit}
-use Rattle.isdb_mmt.specs.declared.table.nit.StreamStep.the-variants.{End as noStream, Malformed as brokenStream, Stream as stream}
+use Rattle.isdb_mmt.specs.declared.table.nit.StreamStep.the-variants.{Stream as stream}
 use Rattle.isdb_mmt.specs.declared.table.nit.TlvStep.the-variants.{End as noDescriptor, Descriptor as descriptor}
 use Rattle.isdb_mmt.specs.declared.table.nit.MaybePart.the-variants.{None as noPart, Some as somePart}
 use Rattle.isdb_mmt.specs.declared.table.amt.AmtResult.the-variants.{Ok as amtOk, Err as noAmt}
-use Rattle.isdb_mmt.specs.declared.table.amt.AmtStep.the-variants.{Malformed as brokenFlow, Service as flow}
+use Rattle.isdb_mmt.specs.declared.table.amt.AmtStep.the-variants.{Service as flow}
 use Rattle.isdb_mmt.specs.declared.table.tot.TotResult.the-variants.{Ok as totOk, Err as noTot}
-use Rattle.isdb_mmt.specs.declared.table.mpt.Place.the-variants.{None as nowhere, At}
-use Rattle.isdb_mmt.specs.declared.table.mpt.AssetStep.the-variants.{Malformed as brokenAsset, Asset as asset}
+use Rattle.isdb_mmt.specs.declared.table.mpt.Place.the-variants.{At}
+use Rattle.isdb_mmt.specs.declared.table.mpt.AssetStep.the-variants.{Asset as asset}
 use Rattle.isdb_mmt.specs.declared.table.mpt.MaybeMpt.the-variants.{None as noMpt, Some as someMpt}
-use Rattle.isdb_mmt.specs.declared.table.plt.PackageStep.the-variants.{Malformed as brokenPackage, Package as package′}
+use Rattle.isdb_mmt.specs.declared.table.plt.PackageStep.the-variants.{Package as package′}
 use Rattle.isdb_mmt.specs.declared.table.plt.DeliveryStep.the-variants.{Malformed as brokenDelivery, Delivery as delivery}
 use Rattle.isdb_mmt.specs.declared.table.plt.MaybePlt.the-variants.{None as noPlt, Some as somePlt}
 

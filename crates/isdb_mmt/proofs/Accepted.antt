@@ -1,52 +1,50 @@
 -- What an accepted push stores fits its fields, so that the session after it is the model's next state and has bytes alone; and so
 -- after every list of accepted pushes from an opened session. Assumes nothing.
-use Prim.Native.Nat.{ℕ, zero, suc, _+_, _-_, _*_, _^_, _≤_, _<_}
-use mathlib.Core.Path.{_≡_, refl, sym, ap, _∙_}
-use mathlib.Core.Bool.{Bool, true, false}
+use Prim.Native.Nat.{ℕ, _+_, _-_, _*_, _≤_, _<_}
+use mathlib.Core.Path.{_≡_, refl, ap, _∙_}
+use mathlib.Core.Bool.{true}
 use mathlib.Core.Option.{Option, none, some}
-use mathlib.Core.List.{List, [], _∷_, _++_, map}
+use mathlib.Core.List.{List, [], _∷_, _++_}
 use native.Mathlib.Omega.{arith}
 use lib.ListN.{length}
-use Rattle.isdb_tlv.specs.Fields.{Field, field, written, Fit}
-use Rattle.isdb_mmt.specs.Packet.{Bytes, MpuPacket, MessagePacket, Packet, classify, ipError, ntp, nonMmtp, media, message, control, other}
-use Rattle.isdb_mmt.specs.Maps.{find, put, orElse}
+use Rattle.isdb_tlv.specs.Fields.{Field, field, written}
+use Rattle.isdb_mmt.specs.Packet.{Bytes, Packet, classify, ipError, ntp, nonMmtp, media, message, control, other}
 use Rattle.isdb_mmt.specs.Joins.{PartialMessage}
-use Rattle.isdb_mmt.specs.Objects.{Mfu, Asset, Rec, fresh, assetAfter}
-use Rattle.isdb_mmt.specs.Kept.{Kept, KeptTables}
-use Rattle.isdb_mmt.specs.Model.{State, Control as ControlState, opened, assetOf, controlOf, idleControl, pushed, gives}
+use Rattle.isdb_mmt.specs.Objects.{Mfu, Asset, Rec, assetAfter}
+use Rattle.isdb_mmt.specs.Kept.{Kept}
+use Rattle.isdb_mmt.specs.Model.{State, opened, assetOf, controlOf, pushed, gives}
 use Rattle.isdb_mmt.specs.Needs.{partialLength, needs}
 use Rattle.isdb_mmt.specs.Demand.{pushAll, giveAll}
-use Rattle.isdb_mmt.specs.Limits.{asked}
 use Rattle.isdb_mmt.specs.Layout.{mostCount}
-use Rattle.isdb_mmt.specs.Lent.{over, indexed}
+use Rattle.isdb_mmt.specs.Lent.{over}
 use Rattle.isdb_mmt.specs.Session.{Session, limitsOf, usedOf, countersOf, usedFields, latestFields, timeFields, countersFields, controlFields, sectionFields, mediaFields}
-use Rattle.isdb_mmt.specs.Check.{mediaIn, controlsIn, sectionsIn, lengthsOf, sound, Sound}
+use Rattle.isdb_mmt.specs.Check.{mediaIn, controlsIn, sectionsIn, lengthsOf, Sound}
 use Rattle.isdb_mmt.specs.View.{assetEntry, controlEntry, sectionEntry, viewBy, view}
 use Rattle.isdb_mmt.specs.Opening.{openedSession}
 use Rattle.isdb_mmt.specs.Octets.{Octets, Lent}
 use Rattle.isdb_mmt.specs.Placing.{placeFor, tableLength, controlFor, latestFor}
-use Rattle.isdb_mmt.specs.MediaPush.{heldOver, withUsed, oneMore, withPackets, withPlace, mediaPlaceFor, leavesAt, assetNext, mediaLeaves}
-use Rattle.isdb_mmt.specs.Leaves.{joinedIn, keptPlace, usedFor, withControl, sectionRows, withSections, withLatest, withTime, withCounters, stateOfTables, bytesOver, keptOver, latestOver, countedIn, timeLeaves, controlLeaves, messageIn, controlPlaceFor, messageAt, messageLeaves, packetLeaves}
-use Rattle.isdb_mmt.specs.Push.{Input, packetOf, asks, Fits, Taken, leavesAll, handed, handedAll, AllTaken, AllBytes, packetsOf, AsModel, Demand2}
+use Rattle.isdb_mmt.specs.MediaPush.{heldOver, oneMore, mediaPlaceFor, leavesAt, assetNext, mediaLeaves}
+use Rattle.isdb_mmt.specs.Leaves.{joinedIn, keptPlace, usedFor, withControl, sectionRows, withTime, withCounters, stateOfTables, bytesOver, keptOver, controlLeaves, messageIn, controlPlaceFor, messageAt, messageLeaves, packetLeaves}
+use Rattle.isdb_mmt.specs.Push.{Input, packetOf, asks, Fits, Taken, leavesAll, handed, handedAll, AllTaken, AllBytes, packetsOf, Demand2}
 use Rattle.isdb_mmt.specs.declared.decoder.place.PlaceFor.{PlaceFor}
 use Rattle.isdb_mmt.specs.declared.decoder.place.PlaceFor.the-variants.{Own, Free, NoneFree}
 use Rattle.isdb_mmt.specs.declared.decoder.limits.Limits.{Limits}
 use Rattle.isdb_mmt.proofs.Limits.{passed, Passed}
 use Rattle.isdb_mmt.proofs.Checks.{sound-session}
 use Rattle.isdb_mmt.proofs.Opening.{opening}
-use Rattle.isdb_mmt.proofs.Every.{Every, every-mono, every-found}
+use Rattle.isdb_mmt.proofs.Every.{Every}
 use Rattle.isdb_mmt.proofs.Brief.{Plain, plain-of, octets-append, octets-written, octets-over, lent-opened}
 use Rattle.isdb_mmt.proofs.Fits.{mostAdded}
 use Rattle.isdb_mmt.proofs.Ready.{JoinFits}
-use Rattle.isdb_mmt.proofs.Outs.{HeldOk, TimeOk, PacketOk, packet-ok}
+use Rattle.isdb_mmt.proofs.Outs.{HeldOk, PacketOk, packet-ok}
 use Rattle.isdb_mmt.proofs.PlaceFits.{TableOk, KeptOk, section-place, control-place}
 use Rattle.isdb_mmt.proofs.Storable.{Storable, HasAreas, control-of, asset-next, storable-view, storable-next}
 use Rattle.isdb_mmt.proofs.SoundFits.{media-fits, counters-fit, rows-read}
 use Rattle.isdb_mmt.proofs.PlacesFor.{length-media, length-indexed}
-use Rattle.isdb_mmt.proofs.TableAreas.{SectionFits, AllKept}
+use Rattle.isdb_mmt.proofs.TableAreas.{AllKept}
 use Rattle.isdb_mmt.proofs.StateWrites.{TablesFit}
 use Rattle.isdb_mmt.proofs.MessageLeaves.{length-controls, length-sections}
-use Rattle.isdb_mmt.proofs.PacketLeaves.{fits-of, taken, ControlFits, MessageFits, Stores, packet-leaves}
+use Rattle.isdb_mmt.proofs.PacketLeaves.{taken, ControlFits, Stores, packet-leaves}
 
 -- ---- lengths, from what is known of a state
 

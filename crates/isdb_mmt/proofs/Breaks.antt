@@ -1,7 +1,7 @@
 -- A table breaks no more descriptor loops than it has bytes and 256, so that the counts of a message do not wrap. Assumes nothing.
-use Prim.Native.Nat.{ℕ, zero, suc, _+_, _-_, _≤_, _<_, min}
-use mathlib.Core.Path.{_≡_, refl, sym, ap, _∙_}
-use mathlib.Core.Bool.{Bool, true, false, not, cond, _&&_}
+use Prim.Native.Nat.{ℕ, zero, suc, _+_, _-_, _≤_, _<_}
+use mathlib.Core.Path.{_≡_, refl, ap}
+use mathlib.Core.Bool.{Bool, true, false, not}
 use mathlib.Core.List.{List, [], _∷_}
 use native.Mathlib.Omega.{arith}
 use lib.ListN.{length, getD, take, drop, length-take, length-drop}
@@ -17,13 +17,13 @@ use Rattle.isdb_mmt.specs.Packet.{Bytes}
 use Rattle.isdb_mmt.specs.Maps.{one}
 use Rattle.isdb_mmt.specs.Desc.{broken}
 use Rattle.isdb_mmt.specs.Lent.{foundFrom}
-use Rattle.isdb_mmt.specs.Section.{length12, longSectionOf, entriesTold, entriesFrom}
+use Rattle.isdb_mmt.specs.Section.{length12, longSectionOf, entriesTold}
 use Rattle.isdb_mmt.specs.Kept.{Section, sectionOf, Body, bodyRead, Table, emptyTable, mptTable, pltTable, totTable, truncatedSection, aSection, otherTable, longTable, tableById, tableRead}
 use Rattle.isdb_mmt.specs.Eit.{eitBody, eitIn, eitOf}
 use Rattle.isdb_mmt.specs.Sdt.{sdtBody, sdtIn, sdtOf}
 use Rattle.isdb_mmt.specs.Bit.{bitBody, bitIn, bitOf}
 use Rattle.isdb_mmt.specs.Tot.{totOf, totFields}
-use Rattle.isdb_mmt.specs.Mpt.{mptOf, mptIn, mptAssets, declaredLength, assetsTold, assetsFrom, mptTable as mptRead}
+use Rattle.isdb_mmt.specs.Mpt.{mptOf, mptIn, mptAssets, declaredLength, assetsTold, mptTable as mptRead}
 use Rattle.isdb_mmt.specs.declared.table.section.LongSection.{LongSection}
 use Rattle.isdb_mmt.specs.declared.table.section.LongSection.the-variants.{Ok as good, Err as bad}
 use Rattle.isdb_mmt.specs.declared.table.eit.EitParsed.{EitParsed}
@@ -41,7 +41,7 @@ use Rattle.isdb_mmt.proofs.Assets.{breaks-le as assets-le}
 use Rattle.isdb_mmt.specs.declared.decoder.verdict.Recent.{Recent}
 use Rattle.isdb_mmt.specs.declared.decoder.verdict.Told.{Told}
 use Rattle.isdb_mmt.specs.Verdict.{keysOf, noSection, bodyTold, versionTold, sectionTold, toldOf, changesTo}
-use Rattle.isdb_mmt.specs.Dry.{mostAdded, PutWithin, Small, sectionRead}
+use Rattle.isdb_mmt.specs.Dry.{mostAdded, Small, sectionRead}
 use Rattle.isdb_mmt.specs.Layout.{mostMessageArea}
 use Rattle.isdb_mmt.proofs.Verdicts.{found-within}
 

@@ -1,7 +1,7 @@
 -- After the commit the areas have what index and log stood for. Assumes nothing.
-use Prim.Native.Nat.{ℕ, zero, suc, _+_, _-_, _*_, _≤_, _<_, min}
+use Prim.Native.Nat.{ℕ, zero, suc, _+_, _-_, _*_, _≤_, _<_}
 use mathlib.Core.Path.{_≡_, refl, sym, ap, _∙_}
-use mathlib.Core.Bool.{Bool, true, false, not}
+use mathlib.Core.Bool.{true, false, not}
 use mathlib.Core.List.{List, [], _∷_, _++_, map}
 use native.Mathlib.Omega.{arith}
 use native.Mathlib.Nat.{add-zero, mul-le-mul-right}
@@ -20,7 +20,7 @@ use Rattle.isdb_tlv.specs.Fields.{written}
 use Rattle.isdb_tlv.proofs.Fields.{length-written}
 use Rattle.isdb_mmt.specs.declared.decoder.section.KeptSection.{KeptSection}
 use Rattle.isdb_mmt.specs.Verdict.{placeAt, indexOf}
-use Rattle.isdb_mmt.proofs.Lent.{part-over, length-over, over-next}
+use Rattle.isdb_mmt.proofs.Lent.{length-over, over-next}
 use Rattle.isdb_mmt.proofs.Views.{area-apart}
 use Rattle.isdb_mmt.specs.Dry.{Logged, logged, withLog, bytesAt, drawnEntry, drawnRecent}
 use Rattle.isdb_mmt.specs.Part.{partOf}

@@ -1,22 +1,22 @@
 -- A control packet: what is asked and left is the model's. Assumes nothing.
-use Prim.Native.Nat.{ℕ, zero, suc, _+_, _-_, _*_, _≤_, _<_, max}
+use Prim.Native.Nat.{ℕ, _+_, _-_, _*_, _≤_, _<_, max}
 use mathlib.Core.Path.{_≡_, refl, sym, ap, _∙_, subst}
-use mathlib.Core.Bool.{Bool, true, false, not, cond}
-use mathlib.Core.Option.{Option, none, some}
-use mathlib.Core.List.{List, [], _∷_, _++_, map}
+use mathlib.Core.Bool.{true, false, not}
+use mathlib.Core.Option.{none}
+use mathlib.Core.List.{List, [], _++_, map}
 use native.Mathlib.Omega.{arith}
 use native.Mathlib.Nat.{add-zero, zero-add, mul-le-mul-right}
-use lib.Dec.{leb, ltb}
-use lib.ListN.{length, getD, take, drop, replicate, length-replicate, length-take, length-drop}
+use lib.Dec.{ltb}
+use lib.ListN.{length, getD, take, drop, replicate, length-replicate, length-drop}
 use lib.Seq.{length-take-le}
-use mir.Syntax.{w8, w32}
+use mir.Syntax.{w8}
 use mir.Val.{Fits as FitsIn}
-use borrow.Author.Tests.{le-leb, lt-leb, ltb-true, ltb-false, le-ltb, lt-ltb}
+use borrow.Author.Tests.{le-leb, lt-leb, ltb-true, ltb-false, le-ltb}
 use Rattle.isdb_tlv.specs.Fields.{written}
 use Rattle.isdb_tlv.specs.Si.{sectionsOf}
 use Rattle.isdb_tlv.specs.declared.si.Section.{Section as Found}
 use Rattle.isdb_tlv.proofs.Guards.{either}
-use Rattle.isdb_mmt.specs.Layout.{mostSections, mostMessageArea, mostCount, tableIds, countersPlace, sectionPlaces, sectionSize, stateSize}
+use Rattle.isdb_mmt.specs.Layout.{mostSections, tableIds, countersPlace, sectionPlaces, sectionSize}
 use Rattle.isdb_mmt.specs.Packet.{Bytes, Packet, control}
 use Rattle.isdb_mmt.specs.Kept.{Kept, KeptTables, Table, storedAll, countedAll}
 use Rattle.isdb_mmt.specs.GivenTables.{controlTables}
@@ -24,39 +24,38 @@ use Rattle.isdb_mmt.specs.Model.{State, packetCounted, pushed, gives}
 use Rattle.isdb_mmt.specs.Needs.{Needs, needs, tablesNeed}
 use Rattle.isdb_mmt.specs.Records.{rowSize}
 use Rattle.isdb_mmt.specs.Octets.{Octets}
-use Rattle.isdb_mmt.specs.Lent.{part, over, indexed}
+use Rattle.isdb_mmt.specs.Lent.{part, over}
 use Rattle.isdb_mmt.specs.Session.{Session, limitsOf, usedOf, countersOf, countersFields}
 use Rattle.isdb_mmt.specs.Check.{mediaIn, controlsIn, sectionsIn, packetCounts, tableCounts, lengthsOf, Sound}
 use Rattle.isdb_mmt.specs.View.{assetEntry, controlEntry, sectionEntry, viewBy, view}
 use Rattle.isdb_mmt.specs.Opening.{lent}
 use Rattle.isdb_mmt.specs.Placing.{}
 use Rattle.isdb_mmt.specs.MediaPush.{withUsed}
-use Rattle.isdb_mmt.specs.Leaves.{usedFor, sectionRows, withSections, withCounters, stateOfTables, keptOver, controlLeaves, packetLeaves}
+use Rattle.isdb_mmt.specs.Leaves.{usedFor, sectionRows, stateOfTables, keptOver, controlLeaves, packetLeaves}
 use Rattle.isdb_mmt.specs.Counted.{Countable}
-use Rattle.isdb_mmt.specs.Push.{CanTakePacket, hasPlaces, hasAreas, hasOutputs, asksOf, Fits, QuietPushed}
-use Rattle.isdb_mmt.specs.Verdict.{indexSize, indexOf, placeAt}
-use Rattle.isdb_mmt.specs.Placed.{Placed, bytesOf, placedSections}
+use Rattle.isdb_mmt.specs.Push.{CanTakePacket, hasPlaces, hasAreas, asksOf, QuietPushed}
+use Rattle.isdb_mmt.specs.Verdict.{indexSize, indexOf}
+use Rattle.isdb_mmt.specs.Placed.{bytesOf, placedSections}
 use Rattle.isdb_mmt.specs.Tally.{Tally}
-use Rattle.isdb_mmt.specs.Dry.{sectionRead, Logged, withLog, Dry, dryOf, Areas, drawn, Versions, drawnCounters, Room, Copies, Walked, CanWalkSections}
-use Rattle.isdb_mmt.specs.Commit.{putTables, loggedFrom, EntryFits, AllFit, CanStore}
+use Rattle.isdb_mmt.specs.Dry.{sectionRead, Logged, withLog, dryOf, Areas, drawn, Versions, Walked, CanWalkSections}
+use Rattle.isdb_mmt.specs.Commit.{putTables, loggedFrom, AllFit, CanStore}
 use Rattle.isdb_mmt.specs.Start.{noRecent, goingIn, tablesAsk, signalOf, countersWith, withSectionsUsed, CanLeave, SectionsLeft}
 use Rattle.isdb_mmt.specs.declared.decoder.limits.Limits.{Limits}
 use Rattle.isdb_mmt.specs.declared.decoder.counts.Counters.{Counters}
 use Rattle.isdb_mmt.specs.declared.decoder.head.Used.{Used}
 use Rattle.isdb_mmt.specs.declared.decoder.verdict.Recent.{Recent}
 use Rattle.isdb_mmt.specs.declared.decoder.walk.Going.{Going}
-use Rattle.isdb_mmt.proofs.Limits.{Passed}
 use Rattle.isdb_mmt.proofs.Checks.{count-was}
 use Rattle.isdb_mmt.proofs.Questions.{asks-zero, asks-places, asks-areas}
 use Rattle.isdb_mmt.proofs.PlacesFor.{length-media, length-indexed}
 use Rattle.isdb_mmt.proofs.MessageLeaves.{length-controls, length-sections}
 use Rattle.isdb_mmt.proofs.Placing.{bytes-sections, sections-placed}
 use Rattle.isdb_mmt.proofs.Drawn.{sections-stand}
-use Rattle.isdb_mmt.proofs.Loaded.{NoLog, no-log, met, areas, start, store-view, held-view, versions-view}
+use Rattle.isdb_mmt.proofs.Loaded.{no-log, met, areas, store-view, held-view, versions-view}
 use Rattle.isdb_mmt.proofs.Commits.{logged-all, all-each}
 use Rattle.isdb_mmt.proofs.Leaving.{counters-are}
 use Rattle.isdb_mmt.proofs.Logging.{AllHeld}
-use Rattle.isdb_mmt.proofs.Modelled.{AsModel, walk-is, full-above, used-after, kept-grows, fits-after, length-after, committed-kept, committed-rows}
+use Rattle.isdb_mmt.proofs.Modelled.{AsModel, walk-is, full-above, used-after, kept-grows, fits-after, committed-kept, committed-rows}
 
 module _ (state others objects messages tables : List ℕ) (b : Bytes) (can : CanTakePacket (lent state others objects messages tables) b) where
   abbrev s : Session

@@ -1,6 +1,6 @@
 -- The count of a packet, in the state's bytes. Assumes nothing.
 use Prim.Native.Nat.{ℕ}
-use mathlib.Core.Path.{_≡_, refl, sym, ap, _∙_, subst}
+use mathlib.Core.Path.{_≡_, sym, ap, _∙_, subst}
 use mathlib.Core.Bool.{true}
 use mathlib.Core.List.{List}
 use Rattle.isdb_tlv.specs.Fields.{written}
@@ -16,7 +16,6 @@ use Rattle.isdb_mmt.specs.Counted.{Countable, StateCountable}
 use Rattle.isdb_mmt.specs.declared.maybe.MaybeU64.{MaybeU64}
 use Rattle.isdb_mmt.specs.declared.maybe.MaybeU64.the-variants.{Some as someU64}
 use Rattle.isdb_mmt.specs.declared.decoder.counts.Counters.{Counters}
-use Rattle.isdb_mmt.specs.declared.decoder.head.Time.{Time}
 
 module _ (l : List ℕ) (c : Counters) (e : c ≡ countersOf l) where
   pub countable : (ip non time : ℕ) → StateCountable l ip non time → Countable c ip non time

@@ -1,40 +1,35 @@
 -- The walk over the index and its log is the model's walk. Assumes nothing.
-use Prim.Native.Nat.{ℕ, zero, suc, _+_, _-_, _*_, _≤_, _<_, max, min}
-use mathlib.Core.Path.{_≡_, refl, sym, ap, _∙_, subst}
+use Prim.Native.Nat.{ℕ, zero, suc, _+_, _-_, _*_, _≤_, _<_, max}
+use mathlib.Core.Path.{_≡_, refl, sym, ap, _∙_}
 use mathlib.Core.Bool.{Bool, true, false, not, cond, _&&_}
 use mathlib.Core.Option.{Option, none, some}
 use mathlib.Core.List.{List, [], _∷_, _++_, map}
 use native.Mathlib.Omega.{arith}
 use native.Mathlib.Nat.{add-zero, zero-add}
-use lib.Dec.{eqb, ltb}
-use lib.ListN.{length, getD, take, drop, set, length-take, length-drop, length-set, length-append}
-use borrow.Author.Tests.{eq-eqb, ne-eqb, lt-ltb, le-ltb}
+use lib.Dec.{eqb}
+use lib.ListN.{length, getD, take, set}
+use borrow.Author.Tests.{ne-eqb, lt-ltb, le-ltb}
 use Rattle.isdb_tlv.specs.Guards.{_<?_, _≤?_, _=?_}
 use Rattle.isdb_tlv.specs.Bytes.{be}
-use Rattle.isdb_tlv.proofs.Guards.{either, cond-elim}
+use Rattle.isdb_tlv.proofs.Guards.{cond-elim}
 use Rattle.isdb_mmt.specs.declared.decoder.counts.Counters.{Counters}
 use Rattle.isdb_mmt.specs.Packet.{Bytes}
 use Rattle.isdb_mmt.specs.Maps.{find, put, one, isSome}
-use Rattle.isdb_mmt.specs.Part.{partOf}
-use Rattle.isdb_mmt.specs.Lent.{part, foundFrom, indexed}
-use Rattle.isdb_mmt.specs.View.{given}
+use Rattle.isdb_mmt.specs.Lent.{foundFrom, indexed}
 use Rattle.isdb_mmt.specs.Section.{length12}
-use Rattle.isdb_mmt.specs.Kept.{Section, sectionOf, declaredSection, declaredTable, Kept, KeptTables, Table, emptyTable, mptTable, pltTable, totTable, truncatedSection, aSection, otherTable, otherVersion, keepIf, keep, increments, tableCounted, sectionIncrements, changes, tableIncrements, mptAfter, stored, tableById, tableRead, longTable}
+use Rattle.isdb_mmt.specs.Kept.{Section, sectionOf, Kept, Table, emptyTable, mptTable, pltTable, totTable, truncatedSection, aSection, otherTable, otherVersion, keepIf, keep, tableCounted, sectionIncrements, changes, tableIncrements, mptAfter, stored, tableById, tableRead, longTable}
 use Rattle.isdb_mmt.specs.Needs.{tableArea}
 use Rattle.isdb_mmt.specs.declared.decoder.place.Found.{Found}
 use Rattle.isdb_mmt.specs.declared.decoder.place.Found.the-variants.{At, Nothing as notFound}
 use Rattle.isdb_mmt.specs.declared.decoder.section.KeptSection.{KeptSection}
-use Rattle.isdb_mmt.specs.declared.part.Part.{Part}
-use Rattle.isdb_mmt.proofs.Names.{clash}
 use Rattle.isdb_mmt.proofs.Views.{keys, entry, Stands, stands, absent, indexed-set, indexed-snoc, keys-indexed}
 use Rattle.isdb_mmt.specs.declared.decoder.verdict.Recent.{Recent}
-use Rattle.isdb_mmt.specs.declared.decoder.verdict.Act.{Act}
-use Rattle.isdb_mmt.specs.declared.decoder.verdict.Act.the-variants.{Nothing, Other, Mpt, Plt, Tot, Put}
+use Rattle.isdb_mmt.specs.declared.decoder.verdict.Act.the-variants.{Nothing}
 use Rattle.isdb_mmt.specs.declared.decoder.verdict.Told.{Told}
 use Rattle.isdb_mmt.specs.Placed.{Placed, StandsAt, AllStand, bytesOf}
 use Rattle.isdb_mmt.specs.Tally.{Tally, taken, takenAll}
-use Rattle.isdb_mmt.specs.Verdict.{keysOf, noSection, told, changesTo, placeOf, bodyTold, versionTold, sectionTold, toldOf}
-use Rattle.isdb_mmt.specs.Dry.{sectionRead, mptAfter as recentMpt, pltAfter as recentPlt, Logged, logged, placesOf, Dry, recent, putAt, afterTable, notedOne, notedAll, bytesAt, drawnEntry, drawnKept, drawnRecent, Areas, drawnCounters, drawn, VersionOf, Versions}
+use Rattle.isdb_mmt.specs.Verdict.{keysOf, noSection, told, changesTo, bodyTold, versionTold, sectionTold, toldOf}
+use Rattle.isdb_mmt.specs.Dry.{sectionRead, mptAfter as recentMpt, pltAfter as recentPlt, Logged, logged, placesOf, Dry, recent, putAt, afterTable, notedOne, notedAll, bytesAt, drawnEntry, drawnKept, drawnRecent, Areas, drawn, VersionOf, Versions}
 use Rattle.isdb_mmt.proofs.Placing.{part-stands}
 use Rattle.isdb_mmt.proofs.Verdicts.{found-within}
 

@@ -1,18 +1,18 @@
 -- A message in two pieces, one behind the other: its bytes, its parts, and a table gathered out of both. Assumes nothing.
-use Prim.Native.Nat.{ℕ, _+_, _-_, _*_, _≤_, _<_, min}
+use Prim.Native.Nat.{ℕ, _+_, _-_, _≤_, _<_}
 use mathlib.Core.Path.{_≡_, refl, sym, ap, _∙_}
 use mathlib.Core.List.{List, [], _∷_, _++_, append-nil}
 use native.Mathlib.Omega.{arith}
 use native.Mathlib.Nat.{zero-add}
 use lib.Dec.{ltb}
-use lib.ListN.{length, getD, take, drop, length-append, length-take, length-drop, drop-of-length-le, List·getD-append}
+use lib.ListN.{length, getD, take, drop, length-append, length-drop, drop-of-length-le, List·getD-append}
 use lib.Seq.{take-all, take-nil, take-append-le, drop-append-le, take-append-add, drop-append-add, getD-append-add}
 use mir.Syntax.{w8, w64}
 use mir.Val.{Fits}
 use borrow.Author.Tests.{ltb-true, ltb-false}
 use Rattle.isdb_tlv.specs.Bytes.{be}
 use Rattle.isdb_tlv.proofs.Guards.{either}
-use Rattle.isdb_mmt.specs.Layout.{mostMessageArea, mostTableArea}
+use Rattle.isdb_mmt.specs.Layout.{mostMessageArea}
 use Rattle.isdb_mmt.specs.Packet.{Bytes}
 use Rattle.isdb_mmt.specs.Part.{partOf}
 use Rattle.isdb_mmt.specs.Lent.{part, over}
@@ -23,7 +23,7 @@ use Rattle.isdb_mmt.specs.declared.part.Part.{Part}
 use Rattle.isdb_mmt.specs.declared.decoder.section.KeptSection.{KeptSection}
 use Rattle.isdb_mmt.specs.declared.decoder.verdict.Recent.{Recent}
 use Rattle.isdb_mmt.specs.declared.decoder.verdict.Told.{Told}
-use Rattle.isdb_mmt.proofs.Lent.{part-over, over-next, length-over}
+use Rattle.isdb_mmt.proofs.Lent.{part-over, over-next}
 use Rattle.isdb_mmt.proofs.Verdicts.{byte-at}
 
 module _ (a b : Bytes) where

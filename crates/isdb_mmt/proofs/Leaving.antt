@@ -1,13 +1,13 @@
 -- What the commit of a walk stores is the model's next state, laid out. Assumes nothing.
 use Prim.Native.Nat.{ℕ, zero, suc, _+_, _-_, _*_, _/_, _%_, _≤_, _<_}
-use mathlib.Core.Path.{_≡_, refl, sym, ap, _∙_, subst}
-use mathlib.Core.Bool.{Bool, true, false}
+use mathlib.Core.Path.{_≡_, refl, sym, ap, _∙_}
+use mathlib.Core.Bool.{true}
 use mathlib.Core.List.{List, [], _∷_, _++_, map, append-nil}
 use native.Mathlib.Omega.{arith}
 use native.Mathlib.Nat.{zero-add, mul-le-mul-right}
 use lib.Dec.{eqb}
-use lib.ListN.{length, getD, take, drop, length-take, length-drop}
-use lib.Seq.{getD-take, getD-drop, take-all, take-add, take-suc, drop-drop, length-take-le}
+use lib.ListN.{length, getD, take, drop, length-drop}
+use lib.Seq.{getD-drop, take-all, take-add, take-suc, drop-drop, length-take-le}
 use borrow.Author.Tests.{eqb-false}
 use Rattle.isdb_tlv.specs.Bytes.{be}
 use Rattle.isdb_tlv.specs.Fields.{bytesOf, written}
@@ -15,13 +15,12 @@ use Rattle.isdb_tlv.proofs.Guards.{either}
 use Rattle.isdb_mmt.specs.Layout.{sectionSize}
 use Rattle.isdb_mmt.specs.Packet.{Bytes}
 use Rattle.isdb_mmt.specs.Octets.{Octets}
-use Rattle.isdb_mmt.specs.Kept.{Kept}
 use Rattle.isdb_mmt.specs.Lent.{part, placesFrom, indexed}
 use Rattle.isdb_mmt.specs.Session.{sectionPlaceOf, sectionFields}
 use Rattle.isdb_mmt.specs.Placing.{tableLength}
-use Rattle.isdb_mmt.specs.Leaves.{keptPlace, sectionRows}
+use Rattle.isdb_mmt.specs.Leaves.{sectionRows}
 use Rattle.isdb_mmt.specs.Verdict.{indexOf}
-use Rattle.isdb_mmt.specs.Dry.{Logged, withLog, placesOf, bytesAt, drawnEntry, drawnRecent, Dry, dryOf, drawnCounters}
+use Rattle.isdb_mmt.specs.Dry.{Logged, withLog, placesOf, bytesAt, drawnEntry, drawnRecent, dryOf, drawnCounters}
 use Rattle.isdb_mmt.specs.Commit.{EntryFits, AllFit}
 use Rattle.isdb_mmt.specs.Start.{recentLength, countersWith}
 use Rattle.isdb_mmt.specs.Maps.{isSome}
@@ -29,7 +28,7 @@ use Rattle.isdb_mmt.specs.declared.decoder.section.KeptSection.{KeptSect
 use Rattle.isdb_mmt.specs.declared.decoder.verdict.Recent.{Recent}
 use Rattle.isdb_mmt.specs.declared.decoder.walk.Going.{Going}
 use Rattle.isdb_mmt.specs.declared.decoder.counts.Counters.{Counters}
-use Rattle.isdb_mmt.proofs.Notes.{log-places, log-length}
+use Rattle.isdb_mmt.proofs.Notes.{log-places}
 
 -- ---- a place written again is what it was
 

@@ -7,7 +7,7 @@ use mathlib.Core.List.{List, [], _∷_, _++_, map, append-assoc, append-nil}
 use native.Mathlib.Nat.{add-zero, mul-zero, not-suc-le-zero}
 use native.Mathlib.Numerals.{add-one}
 use native.Mathlib.Omega.{arith}
-use lib.ListN.{length, getD, take, drop, set, length-append, length-take, length-drop, take-append-drop, drop-of-length-le, List·getD-append}
+use lib.ListN.{length, getD, take, drop, set, length-append, length-take, length-drop, take-append-drop, List·getD-append}
 use lib.Seq.{length-take-le, drop-length, take-append-seam, drop-append-seam, take-append-add, drop-append-add, getD-append-add, getD-take, getD-drop, drop-drop, drop-append-le, take-all, take-suc, take-take, set-split, ext-getD, take-at, drop-at}
 use borrow.Rule.Slice.PartMut.{putMid}
 use Rattle.isdb_tlv.specs.Bytes.{be, putBe}

@@ -1,34 +1,30 @@
 -- What the copies stand for at the start of a walk is the session's view. Assumes nothing.
-use Prim.Native.Nat.{ℕ, zero, suc, _+_, _-_, _*_, _≤_, _<_, max}
-use mathlib.Core.Path.{_≡_, refl, sym, ap, _∙_}
-use mathlib.Core.Bool.{Bool, true, false, cond}
-use mathlib.Core.List.{List, [], _∷_, _++_, map}
+use Prim.Native.Nat.{ℕ, zero, suc, _+_, _-_, _*_, _≤_}
+use mathlib.Core.Path.{_≡_, refl, ap, _∙_}
+use mathlib.Core.Bool.{Bool, true, false}
+use mathlib.Core.List.{List, [], _∷_, map}
 use native.Mathlib.Omega.{arith}
-use native.Mathlib.Nat.{add-zero, zero-add}
-use lib.Dec.{leb}
+use native.Mathlib.Nat.{add-zero}
 use lib.ListN.{length, getD, take, drop, replicate}
 use lib.Seq.{drop-drop}
 use borrow.Author.Tests.{leb-true}
-use Rattle.isdb_tlv.proofs.Guards.{either}
-use Rattle.isdb_mmt.specs.Layout.{mostSections, mostControlIds, mostTableArea, mostCount, tableIds, sectionPlaces, sectionSize}
+use Rattle.isdb_mmt.specs.Layout.{mostSections, sectionPlaces, sectionSize}
 use Rattle.isdb_mmt.specs.Packet.{Bytes}
-use Rattle.isdb_mmt.specs.Kept.{Kept, KeptTables}
+use Rattle.isdb_mmt.specs.Kept.{Kept}
 use Rattle.isdb_mmt.specs.Lent.{part, placesFrom, indexed, every}
-use Rattle.isdb_mmt.specs.Session.{Session, limitsOf, usedOf, latestOf, countersOf, sectionPlaceOf}
-use Rattle.isdb_mmt.specs.Check.{sectionsIn, sectionSound, lengthsOf, countFits, Sound}
+use Rattle.isdb_mmt.specs.Session.{Session, limitsOf, usedOf, latestOf, sectionPlaceOf}
+use Rattle.isdb_mmt.specs.Check.{sectionsIn, sectionSound, lengthsOf, Sound}
 use Rattle.isdb_mmt.specs.View.{given, sectionEntry, viewBy, view}
 use Rattle.isdb_mmt.specs.Verdict.{indexSize, indexOf}
-use Rattle.isdb_mmt.specs.Dry.{Logged, logged, withLog, Dry, dryOf, bytesAt, drawnEntry, drawnKept, drawnRecent, Areas, drawnCounters, drawn, VersionOf, Versions, Room}
-use Rattle.isdb_mmt.specs.Start.{recentAt, startOf, pltAt, totAt, goingIn, CanGo}
+use Rattle.isdb_mmt.specs.Dry.{logged, withLog, Dry, dryOf, drawnEntry, drawnKept, drawnRecent, Areas, drawn, VersionOf, Versions}
+use Rattle.isdb_mmt.specs.Start.{recentAt, pltAt, totAt, goingIn, CanGo}
 use Rattle.isdb_mmt.specs.declared.decoder.limits.Limits.{Limits}
 use Rattle.isdb_mmt.specs.declared.decoder.counts.Counters.{Counters}
 use Rattle.isdb_mmt.specs.declared.decoder.section.KeptSection.{KeptSection}
 use Rattle.isdb_mmt.specs.declared.decoder.verdict.Recent.{Recent}
-use Rattle.isdb_mmt.specs.declared.decoder.walk.Going.{Going}
 use Rattle.isdb_mmt.proofs.Lent.{part-take}
 use Rattle.isdb_mmt.proofs.Limits.{Passed, passed}
 use Rattle.isdb_mmt.proofs.Guards.{was-both}
-use Rattle.isdb_mmt.proofs.Checks.{count-was}
 use Rattle.isdb_mmt.proofs.Verdicts.{byte-at}
 use Rattle.isdb_mmt.proofs.Logging.{Held, AllHeld}
 

@@ -1,8 +1,8 @@
 -- What the walk logs stands in the message, and is no longer than the longest: so the commit can be made. Assumes nothing.
-use Prim.Native.Nat.{ℕ, zero, suc, _+_, _-_, _*_, _≤_, _<_, max}
-use mathlib.Core.Path.{_≡_, refl, sym, ap, _∙_}
-use mathlib.Core.Bool.{Bool, true, false, cond}
-use mathlib.Core.List.{List, [], _∷_, _++_, map}
+use Prim.Native.Nat.{ℕ, zero, suc, _+_, _-_, _≤_, max}
+use mathlib.Core.Path.{_≡_, sym, ap}
+use mathlib.Core.Bool.{true, false}
+use mathlib.Core.List.{List, [], _∷_, _++_}
 use native.Mathlib.Omega.{arith}
 use lib.Dec.{ltb}
 use lib.ListN.{length, getD, set}
@@ -20,8 +20,8 @@ use Rattle.isdb_mmt.specs.declared.decoder.verdict.Act.the-variants.{Not
 use Rattle.isdb_mmt.specs.declared.decoder.verdict.Told.{Told}
 use Rattle.isdb_mmt.specs.Placed.{Placed, StandsAt, AllStand}
 use Rattle.isdb_mmt.specs.Verdict.{keysOf, noSection, bodyTold, versionTold, sectionTold, toldOf}
-use Rattle.isdb_mmt.specs.Dry.{Logged, logged, placesOf, Dry, recent, putAt, indexAfter, mptAfter, pltAfter, totAfter, keptLength, notedOne, notedAll}
-use Rattle.isdb_mmt.specs.Commit.{EntryFits, AllFit}
+use Rattle.isdb_mmt.specs.Dry.{Logged, logged, placesOf, Dry, recent, indexAfter, mptAfter, pltAfter, totAfter, keptLength, notedOne, notedAll}
+use Rattle.isdb_mmt.specs.Commit.{AllFit}
 use Rattle.isdb_mmt.proofs.Drawn.{TableAt, ReadStands}
 
 module _ (m : Bytes) where

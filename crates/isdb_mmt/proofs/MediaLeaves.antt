@@ -1,62 +1,54 @@
 -- What a media packet leaves, seen as the model's state: only this id's entry and the count of packets differ. Assumes nothing.
-use Prim.Native.Nat.{ℕ, zero, suc, _+_, _-_, _*_, _^_, _≤_, _<_, max, min}
+use Prim.Native.Nat.{ℕ, _+_, _-_, _*_, _^_, _≤_, _<_, max}
 use mathlib.Core.Path.{_≡_, refl, sym, ap, _∙_, subst}
-use mathlib.Core.Logic.{_⊎_, inl, inr}
-use mathlib.Core.Bool.{Bool, true, false, cond, not}
+use mathlib.Core.Logic.{inl, inr}
+use mathlib.Core.Bool.{Bool, true, false, not}
 use mathlib.Core.Option.{Option, none, some}
-use mathlib.Core.List.{List, [], _∷_, _++_, map}
-use native.Mathlib.Nat.{add-zero, mul-le-mul-right, mul-le-mul-left}
+use mathlib.Core.List.{List, [], _∷_, _++_}
+use native.Mathlib.Nat.{add-zero, mul-le-mul-right}
 use native.Mathlib.Omega.{arith}
-use lib.Dec.{ltb, eqb, leb}
-use lib.ListN.{length, getD, set, take, drop, length-append, length-take, length-drop}
-use borrow.Author.Tests.{ltb-true, ltb-false, eqb-true, eqb-false}
+use lib.Dec.{eqb, leb}
+use lib.ListN.{length, getD, set, drop, length-append, length-drop}
+use borrow.Author.Tests.{eqb-true}
 use Rattle.isdb_tlv.specs.Bytes.{be}
-use Rattle.isdb_tlv.specs.Fields.{Field, field, written, Fit}
+use Rattle.isdb_tlv.specs.Fields.{field, written, Fit}
 use Rattle.isdb_tlv.proofs.Fields.{length-written}
 use Rattle.isdb_tlv.proofs.Guards.{either}
 use Rattle.isdb_mmt.specs.Packet.{MpuPacket, media as mediaPacket, Bytes, PayloadUnit, readable}
 use Rattle.isdb_mmt.specs.Maps.{find, put, orElse, isSome}
-use Rattle.isdb_mmt.specs.Objects.{newMpu, mpuAfter, rangeAfter, mpuIn, Mfu, Asset, fresh, assetAfter, UnitEffect, mostObject, grown, continued, effectOf, unitEffect, afterUnit, objectOf, afterUnits, gap, afterHeaders}
-use Rattle.isdb_mmt.specs.Model.{State, assetOf, pushed, packetCounted}
+use Rattle.isdb_mmt.specs.Objects.{newMpu, mpuAfter, rangeAfter, mpuIn, Mfu, Asset, fresh, assetAfter, mostObject, grown, continued, effectOf, unitEffect, afterUnit, objectOf, afterUnits, gap, afterHeaders}
+use Rattle.isdb_mmt.specs.Model.{assetOf, pushed, packetCounted}
 use Rattle.isdb_mmt.specs.Needs.{heldLength, unitArea, unitsNeed, needs}
-use Rattle.isdb_mmt.specs.Lent.{part, over, placesFrom, namesFrom, foundFrom, placeForFound, placeForName, every, indexed}
-use Rattle.isdb_mmt.specs.Limits.{asked}
-use Rattle.isdb_mmt.specs.Session.{Session, limitsOf, usedOf, usedFields, latestOf, timeOf, countersOf, mediaFields, mediaPlaceOf}
+use Rattle.isdb_mmt.specs.Lent.{part, over, namesFrom, foundFrom, every, indexed}
+use Rattle.isdb_mmt.specs.Session.{Session, limitsOf, usedOf, usedFields, latestOf, timeOf, countersOf, mediaFields}
 use Rattle.isdb_mmt.specs.Check.{mediaIn, controlsIn, sectionsIn, mediaSound, packetCounts, lengthsOf, Sound}
 use Rattle.isdb_mmt.specs.View.{given, headerGiven, itemGiven, mfuOf, assetOfPlace, assetEntry, controlEntry, sectionEntry, tableAt, viewBy, view}
 use Rattle.isdb_mmt.specs.Opening.{lent}
-use Rattle.isdb_mmt.specs.Records.{objectFor, headerOr, hasHeader, itemOr, hasItem}
-use Rattle.isdb_mmt.specs.MediaPush.{placeFor, heldFor, firstIn, heldOver, withPlace, oneMore, withUsed, withPackets, mediaPlaceFor, leavesAt, assetNext, mediaLeaves, asksFor, mediaAsks}
+use Rattle.isdb_mmt.specs.Records.{headerOr, hasHeader, itemOr, hasItem}
+use Rattle.isdb_mmt.specs.MediaPush.{placeFor, heldFor, firstIn, heldOver, withPlace, oneMore, withUsed, withPackets, mediaPlaceFor, leavesAt, assetNext, mediaLeaves}
 use Rattle.isdb_mmt.specs.declared.maybe.MaybeU32.{MaybeU32}
 use Rattle.isdb_mmt.specs.declared.maybe.MaybeU32.the-variants.{None as noU32, Some as someU32}
 use Rattle.isdb_mmt.specs.declared.mpu.MaybeMfu.{MaybeMfu}
 use Rattle.isdb_mmt.specs.declared.mpu.MaybeMfu.the-variants.{None as noMfu, Some as someMfu}
-use Rattle.isdb_mmt.specs.declared.decoder.place.Found.{Found}
 use Rattle.isdb_mmt.specs.declared.decoder.place.Found.the-variants.{At, Nothing}
 use Rattle.isdb_mmt.specs.declared.decoder.place.PlaceFor.{PlaceFor}
 use Rattle.isdb_mmt.specs.declared.decoder.place.PlaceFor.the-variants.{Own, Free, NoneFree}
 use Rattle.isdb_mmt.specs.declared.decoder.counts.Counters.{Counters}
 use Rattle.isdb_mmt.specs.declared.decoder.head.Used.{Used}
-use Rattle.isdb_mmt.specs.declared.decoder.head.Latest.{Latest}
-use Rattle.isdb_mmt.specs.declared.decoder.head.Time.{Time}
 use Rattle.isdb_mmt.specs.declared.decoder.limits.Limits.{Limits}
 use Rattle.isdb_mmt.specs.declared.decoder.media.Media.{Media}
-use Rattle.isdb_mmt.proofs.Lent.{length-over, part-over, be-apart, names-of, length-places, length-names, places-apart}
-use Rattle.isdb_mmt.proofs.Names.{clash}
+use Rattle.isdb_mmt.proofs.Lent.{length-over, part-over, be-apart, length-names}
 use Rattle.isdb_mmt.proofs.Stored.{apart, limits-own, latest-own, time-own, counters-own, used-back, holds-over}
-use Rattle.isdb_mmt.proofs.Sessions.{Sort, media, controls, sections, inUse, named, place-set, place-new, place-apart, used-apart}
-use Rattle.isdb_mmt.proofs.Views.{keys, entry, Stands, stands, absent, indexed-set, indexed-snoc, indexed-same, keys-indexed, area-apart}
-use Rattle.isdb_mmt.proofs.Limits.{passed, Passed}
+use Rattle.isdb_mmt.proofs.Sessions.{media, controls, sections, inUse, named, place-set, place-new, place-apart, used-apart}
+use Rattle.isdb_mmt.proofs.Views.{keys, entry, Stands, stands, absent, indexed-set, indexed-snoc, indexed-same, area-apart}
+use Rattle.isdb_mmt.proofs.Limits.{passed}
 use Rattle.isdb_mmt.proofs.Checks.{media-was, count-was}
 use lib.Seq.{length-take-le}
-use Rattle.isdb_tlv.specs.Guards.{_<?_}
 use Rattle.isdb_mmt.specs.declared.mpu.FragmentationIndicator.{FragmentationIndicator}
 use Rattle.isdb_mmt.specs.declared.mpu.FragmentationIndicator.the-variants.{Complete, Head, Middle, Last}
-use Rattle.isdb_mmt.specs.declared.mpu.MaybeHeader.{MaybeHeader}
 use Rattle.isdb_mmt.specs.declared.mpu.PayloadHeader.{PayloadHeader}
-use Rattle.isdb_mmt.specs.Layout.{mediaPlaces, mediaSize, usedPlace, countersPlace, stateSize}
 use Rattle.isdb_mmt.proofs.StateWrites.{used-other}
-use Rattle.isdb_mmt.proofs.PlacesFor.{entries, entry-names, length-media, place-for-was-old, place-for-was-new, place-for-was-full, length-map, length-indexed, every-at, set-indexed, getD-indexed, none-some}
+use Rattle.isdb_mmt.proofs.PlacesFor.{entries, entry-names, length-media, place-for-was-old, place-for-was-new, place-for-was-full, length-indexed, every-at, set-indexed, getD-indexed, none-some}
 
 -- ---- what a write leaves of the state, beside media places, the numbers in use and the counters
 

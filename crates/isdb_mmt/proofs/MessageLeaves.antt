@@ -1,11 +1,11 @@
 -- What message packets, control packets and the others leave, seen as the model's state. Assumes nothing.
-use Prim.Native.Nat.{ℕ, zero, suc, _+_, _-_, _*_, _≤_, _<_}
+use Prim.Native.Nat.{ℕ, suc, _+_, _-_, _*_, _≤_, _<_}
 use mathlib.Core.Path.{_≡_, refl, sym, ap, _∙_}
-use mathlib.Core.Logic.{_⊎_, inl, inr}
-use mathlib.Core.Bool.{Bool, true, false, cond}
+use mathlib.Core.Logic.{inl, inr}
+use mathlib.Core.Bool.{Bool, true, false}
 use mathlib.Core.Option.{Option, none, some}
 use mathlib.Core.List.{List, [], _∷_, _++_, map}
-use native.Mathlib.Nat.{add-zero, mul-le-mul-right}
+use native.Mathlib.Nat.{mul-le-mul-right}
 use native.Mathlib.Omega.{arith}
 use lib.ListN.{length, getD, set, length-append, length-set}
 use Rattle.isdb_tlv.specs.Bytes.{be}
@@ -13,41 +13,36 @@ use Rattle.isdb_tlv.specs.Fields.{written, Fit}
 use Rattle.isdb_tlv.proofs.Fields.{length-written}
 use Rattle.isdb_tlv.proofs.Guards.{either}
 use Rattle.isdb_mmt.specs.Packet.{Bytes}
-use Rattle.isdb_mmt.specs.Maps.{find, put, isSome, orElse}
+use Rattle.isdb_mmt.specs.Maps.{put, isSome}
 use Rattle.isdb_mmt.specs.Objects.{Asset}
 use Rattle.isdb_mmt.specs.Joins.{PartialMessage}
-use Rattle.isdb_mmt.specs.Kept.{Kept, KeptTables}
-use Rattle.isdb_mmt.specs.Model.{State, Control as ControlState, controlOf, idleControl}
+use Rattle.isdb_mmt.specs.Model.{State, Control as ControlState, idleControl}
 use Rattle.isdb_mmt.specs.Needs.{partialLength}
-use Rattle.isdb_mmt.specs.Layout.{controlPlaces, controlSize, mediaPlaces, mediaSize, mostMediaIds, mostControlIds, mostSections, stateSize, usedPlace, countersPlace, sectionPlaces, sectionSize}
-use Rattle.isdb_mmt.specs.Lent.{part, over, placesFrom, namesFrom, foundFrom, placeForName, every, indexed}
-use Rattle.isdb_mmt.specs.Limits.{asked}
-use Rattle.isdb_mmt.specs.Session.{Session, limitsOf, usedOf, latestOf, timeOf, countersOf, countersFields, mediaPlaceOf, controlPlaceOf, sectionPlaceOf, controlFields, usedFields}
+use Rattle.isdb_mmt.specs.Layout.{controlPlaces, controlSize, mediaPlaces, mostMediaIds, mostControlIds, mostSections, stateSize, sectionPlaces, sectionSize}
+use Rattle.isdb_mmt.specs.Lent.{part, placesFrom, namesFrom, foundFrom, indexed}
+use Rattle.isdb_mmt.specs.Session.{Session, limitsOf, usedOf, latestOf, timeOf, countersOf, controlPlaceOf, sectionPlaceOf, controlFields}
 use Rattle.isdb_mmt.specs.Check.{mediaIn, controlsIn, sectionsIn, controlSound, lengthsOf, Sound}
 use Rattle.isdb_mmt.specs.View.{given, controlStateOf, assetEntry, controlEntry, sectionEntry, tableAt, viewBy, view}
 use Rattle.isdb_mmt.specs.Opening.{lent}
 use Rattle.isdb_mmt.specs.MediaPush.{withUsed}
 use Rattle.isdb_mmt.specs.Placing.{tableLength, longIn, aggregatedIn, controlFor, latestFor}
-use Rattle.isdb_mmt.specs.Leaves.{joinedIn, keptPlace, usedFor, withControl, withLatest, withCounters, stateOfTables, bytesOver, keptOver, latestOver, countedIn, controlLeaves, messageIn, controlPlaceFor, messageAt}
-use Rattle.isdb_mmt.specs.declared.decoder.place.Found.{Found}
+use Rattle.isdb_mmt.specs.Leaves.{joinedIn, keptPlace, usedFor, withControl, withLatest, stateOfTables, bytesOver, keptOver, controlPlaceFor}
 use Rattle.isdb_mmt.specs.declared.decoder.place.Found.the-variants.{At, Nothing}
-use Rattle.isdb_mmt.specs.declared.decoder.place.PlaceFor.{PlaceFor}
-use Rattle.isdb_mmt.specs.declared.decoder.place.PlaceFor.the-variants.{Own, Free, NoneFree}
+use Rattle.isdb_mmt.specs.declared.decoder.place.PlaceFor.the-variants.{Own, Free}
 use Rattle.isdb_mmt.specs.declared.decoder.limits.Limits.{Limits}
 use Rattle.isdb_mmt.specs.declared.decoder.head.Used.{Used}
 use Rattle.isdb_mmt.specs.declared.decoder.head.Latest.{Latest}
 use Rattle.isdb_mmt.specs.declared.decoder.head.Time.{Time}
-use Rattle.isdb_mmt.specs.declared.decoder.media.Media.{Media}
 use Rattle.isdb_mmt.specs.declared.decoder.control.Control.{Control}
 use Rattle.isdb_mmt.proofs.Lent.{length-over, part-over, names-of, length-places, length-names}
-use Rattle.isdb_mmt.proofs.Stored.{apart, limits-own, latest-own, time-own, counters-own}
+use Rattle.isdb_mmt.proofs.Stored.{apart, limits-own, time-own}
 use Rattle.isdb_mmt.proofs.Sessions.{Sort, media, controls, sections, inUse, named, place-set, place-new, place-apart, used-apart}
-use Rattle.isdb_mmt.proofs.Views.{keys, entry, Stands, stands, absent, indexed-set, indexed-snoc, indexed-same, keys-indexed}
+use Rattle.isdb_mmt.proofs.Views.{keys, Stands, stands, absent, indexed-set, indexed-snoc, indexed-same, keys-indexed}
 use Rattle.isdb_mmt.proofs.Limits.{passed, Passed}
 use Rattle.isdb_mmt.proofs.Checks.{control-was}
-use Rattle.isdb_mmt.proofs.PlacesFor.{length-media, place-for-was-old, place-for-was-new, place-for-was-full, length-map, length-indexed, every-at, set-indexed}
-use Rattle.isdb_mmt.proofs.TableAreas.{AllKept, length-laid, laid-apart, laid, length-kept, kept-apart, Lie, kept-lie, lie-on, entryIn, lie-read}
-use Rattle.isdb_mmt.proofs.StateWrites.{used-other, TablesFit, used-fits, length-tables, limits-tables, latest-tables, time-tables, counters-tables, used-tables, others-tables, sections-tables, long-latest, latest-read, limits-latest, time-latest, counters-latest, places-latest}
+use Rattle.isdb_mmt.proofs.PlacesFor.{length-media, place-for-was-old, place-for-was-new, length-map, length-indexed, every-at, set-indexed}
+use Rattle.isdb_mmt.proofs.TableAreas.{length-laid, laid-apart, laid, length-kept, kept-apart, Lie, kept-lie, lie-on, lie-read}
+use Rattle.isdb_mmt.proofs.StateWrites.{used-other, TablesFit, used-fits, length-tables, limits-tables, latest-tables, time-tables, counters-tables, used-tables, others-tables, sections-tables, latest-read, limits-latest, time-latest, counters-latest, places-latest}
 use Rattle.isdb_mmt.proofs.MediaLeaves.{given-back}
 
 -- ---- a view put together

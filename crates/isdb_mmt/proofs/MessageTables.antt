@@ -1,18 +1,18 @@
 -- The tables of a message that a packet makes whole: what the walk and its commit leave is the model's. Assumes nothing.
-use Prim.Native.Nat.{ℕ, zero, suc, _+_, _-_, _*_, _≤_, _<_, max}
+use Prim.Native.Nat.{ℕ, _+_, _-_, _*_, _≤_, _<_, max}
 use mathlib.Core.Path.{_≡_, refl, sym, ap, _∙_, subst}
 use mathlib.Core.Bool.{Bool, true, false}
-use mathlib.Core.Option.{Option, none, some}
-use mathlib.Core.List.{List, [], _∷_, _++_, map}
+use mathlib.Core.Option.{Option}
+use mathlib.Core.List.{List, [], map}
 use native.Mathlib.Omega.{arith}
 use native.Mathlib.Nat.{zero-add, mul-le-mul-right}
-use lib.ListN.{length, getD, take, drop, replicate, length-replicate, length-drop}
+use lib.ListN.{length, take, drop, replicate, length-replicate, length-drop}
 use lib.Seq.{length-take-le}
-use Rattle.isdb_mmt.specs.Layout.{mostSections, mostControlIds, mostMessageArea, mostTableArea, mostCount, tableIds, sectionPlaces, sectionSize}
+use Rattle.isdb_mmt.specs.Layout.{mostSections, mostMessageArea, mostTableArea, mostCount, tableIds, sectionPlaces, sectionSize}
 use Rattle.isdb_mmt.specs.Packet.{Bytes}
 use Rattle.isdb_mmt.specs.Maps.{isSome}
 use Rattle.isdb_mmt.specs.Joins.{PartialMessage, cutOf}
-use Rattle.isdb_mmt.specs.Kept.{Kept, KeptTables, Table, tableRead, mptAfterAll, storedAll, countedAll}
+use Rattle.isdb_mmt.specs.Kept.{KeptTables, Table, tableRead, mptAfterAll, storedAll, countedAll}
 use Rattle.isdb_mmt.specs.Needs.{tablesNeed}
 use Rattle.isdb_mmt.specs.Octets.{Octets}
 use Rattle.isdb_mmt.specs.Lent.{part}
@@ -22,17 +22,15 @@ use Rattle.isdb_mmt.specs.View.{given, view}
 use Rattle.isdb_mmt.specs.Placing.{tableLength, latestFor}
 use Rattle.isdb_mmt.specs.Leaves.{sectionRows, bytesOver, keptOver, latestOver}
 use Rattle.isdb_mmt.specs.Verdict.{indexSize, indexOf}
-use Rattle.isdb_mmt.specs.Placed.{Placed, bytesOf, placedCut, AllStand}
+use Rattle.isdb_mmt.specs.Placed.{bytesOf, placedCut}
 use Rattle.isdb_mmt.specs.Tally.{Tally}
-use Rattle.isdb_mmt.specs.Dry.{Logged, withLog, Dry, dryOf, drawnRecent, Areas, drawn, Versions, Room, Walked, CanWalk}
+use Rattle.isdb_mmt.specs.Dry.{Logged, withLog, Dry, dryOf, drawnRecent, Areas, drawn, Versions, Walked, CanWalk}
 use Rattle.isdb_mmt.specs.Commit.{putTables, putRecent, putAreas, loggedFrom, AllFit, CanStoreAreas}
 use Rattle.isdb_mmt.specs.Start.{recentAt, pltAt, totAt, goingIn, recentLength, latestWith, countersWith, malformedMore, CountsFit}
 use Rattle.isdb_mmt.specs.declared.decoder.limits.Limits.{Limits}
-use Rattle.isdb_mmt.specs.declared.decoder.head.Latest.{Latest}
 use Rattle.isdb_mmt.specs.declared.decoder.verdict.Recent.{Recent}
 use Rattle.isdb_mmt.specs.declared.decoder.walk.Going.{Going}
 use Rattle.isdb_mmt.specs.declared.decoder.counts.Counters.{Counters}
-use Rattle.isdb_mmt.proofs.Limits.{Passed}
 use Rattle.isdb_mmt.proofs.Checks.{count-was}
 use Rattle.isdb_mmt.proofs.Placing.{bytes-cut, cut-stands}
 use Rattle.isdb_mmt.proofs.Drawn.{tables-stand}

@@ -1,13 +1,13 @@
 -- The tables of a joined message: one, those of a PA message's body, those of a message, and those of messages that are
 -- aggregated. Assumes nothing.
-use Prim.Native.Nat.{ℕ, zero, suc, _+_, _-_, _*_, _≤_, _<_, min}
-use mathlib.Core.Path.{_≡_, refl, sym, ap, _∙_, subst}
-use mathlib.Core.Bool.{Bool, true, false, cond}
+use Prim.Native.Nat.{ℕ, _+_, _-_, _*_, _≤_, _<_, min}
+use mathlib.Core.Path.{_≡_, sym, ap, _∙_, subst}
+use mathlib.Core.Bool.{Bool, true, false}
 use mathlib.Core.List.{List, [], _∷_, _++_, map}
 use native.Mathlib.Omega.{arith}
 use native.Mathlib.Nat.{zero-add}
 use lib.Dec.{ltb}
-use lib.ListN.{length, getD, take, drop, length-append, length-take, length-drop, List·getD-eq-default}
+use lib.ListN.{length, getD, drop, length-append, length-take, List·getD-eq-default}
 use lib.Seq.{getD-take, getD-drop}
 use mir.Syntax.{w8, w64}
 use mir.Val.{Fits}
@@ -17,11 +17,11 @@ use Rattle.isdb_tlv.specs.Bytes.{be}
 use Rattle.isdb_tlv.specs.Walk.{turn}
 use Rattle.isdb_tlv.proofs.Guards.{either, cond-elim}
 use Rattle.isdb_tlv.proofs.Numbers.{be-lt}
-use Rattle.isdb_mmt.specs.Layout.{mostSections, mostMessageArea, mostTableArea, mostCount}
+use Rattle.isdb_mmt.specs.Layout.{mostMessageArea, mostTableArea, mostCount}
 use Rattle.isdb_mmt.specs.Packet.{Bytes}
-use Rattle.isdb_mmt.specs.Part.{part, partOf}
+use Rattle.isdb_mmt.specs.Part.{partOf}
 use Rattle.isdb_mmt.specs.Message.{Aggregated, prefixWidth, aggregatedAt, aggregatedItem, aggregatedFrom, contentOf, paTables, sectionTable, bodyPart, tableAt, tableItem, tablesFrom}
-use Rattle.isdb_mmt.specs.Joins.{PartialMessage, messagesOf, partsOf, tablesIn, tablesOf, tablesOfAll, cutOf}
+use Rattle.isdb_mmt.specs.Joins.{messagesOf, partsOf, tablesIn, tablesOf, tablesOfAll, cutOf}
 use Rattle.isdb_mmt.specs.Kept.{tableRead}
 use Rattle.isdb_mmt.specs.declared.part.Part.{Part}
 use Rattle.isdb_mmt.specs.declared.message.Content.{Content}
@@ -32,9 +32,9 @@ use Rattle.isdb_mmt.specs.declared.message.TableStep.{TableStep}
 use Rattle.isdb_mmt.specs.declared.message.TableStep.the-variants.{End as noMore, Malformed as badTable, Table as tableStep}
 use Rattle.isdb_mmt.specs.declared.decoder.verdict.Told.{Told}
 use Rattle.isdb_mmt.specs.declared.decoder.walk.Going.{Going}
-use Rattle.isdb_mmt.specs.Placed.{Placed, joinOf, placed, placedIn, placedOf, placedOfAll, placedFrom, malformedFrom, placedCut, behind}
+use Rattle.isdb_mmt.specs.Placed.{joinOf, placed, placedIn, placedOf, placedOfAll, placedFrom, malformedFrom, placedCut, behind}
 use Rattle.isdb_mmt.specs.Verdict.{indexOf, toldOf, CanTell}
-use Rattle.isdb_mmt.specs.Dry.{mostAdded, mostBefore, Room, CanNote, cutShort, Noted, Walked, at, CanTake, CanWalk, inBody}
+use Rattle.isdb_mmt.specs.Dry.{mostAdded, mostBefore, Room, CanNote, cutShort, Noted, Walked, CanTake, CanWalk, inBody}
 use Rattle.isdb_mmt.proofs.Places.{Lies}
 use Rattle.isdb_mmt.proofs.AggregatedMessages.{width-ge, piece-lies, pieces-at, table-lies, tables-at}
 use Rattle.isdb_mmt.proofs.Verdicts.{length-index}

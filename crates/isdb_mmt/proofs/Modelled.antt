@@ -1,8 +1,7 @@
 -- A walk over tables, and the model: where the copies are not full they stand for the model's next state. Assumes nothing.
-use Prim.Native.Nat.{ℕ, zero, suc, _+_, _-_, _*_, _≤_, _<_, max}
+use Prim.Native.Nat.{ℕ, suc, _+_, _-_, _*_, _≤_, _<_, max}
 use mathlib.Core.Path.{_≡_, refl, sym, ap, _∙_, subst}
-use mathlib.Core.Bool.{Bool, true, false}
-use mathlib.Core.Option.{Option}
+use mathlib.Core.Bool.{true, false}
 use mathlib.Core.List.{List, [], _∷_, map}
 use native.Mathlib.Omega.{arith}
 use native.Mathlib.Nat.{zero-add}
@@ -11,7 +10,7 @@ use Rattle.isdb_mmt.specs.declared.decoder.counts.Counters.{Counters}
 use Rattle.isdb_mmt.specs.Layout.{mostSections, sectionSize}
 use Rattle.isdb_mmt.specs.Packet.{Bytes}
 use Rattle.isdb_mmt.specs.Lent.{indexed}
-use Rattle.isdb_mmt.specs.Kept.{Kept, KeptTables, Table, mptAfterAll, storedAll, countedAll}
+use Rattle.isdb_mmt.specs.Kept.{KeptTables, Table, mptAfterAll, storedAll, countedAll}
 use Rattle.isdb_mmt.specs.Needs.{tablesNeed}
 use Rattle.isdb_mmt.specs.declared.decoder.walk.Going.{Going}
 use Rattle.isdb_mmt.specs.Placed.{Placed, bytesOf, AllStand}

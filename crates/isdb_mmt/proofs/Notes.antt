@@ -1,20 +1,20 @@
 -- One step on the copies: one law for each return of `note`. Assumes nothing.
-use Prim.Native.Nat.{ℕ, zero, suc, _+_, _-_, _*_, _^_, _≤_, _<_, max}
+use Prim.Native.Nat.{ℕ, zero, suc, _+_, _-_, _*_, _≤_, _<_, max}
 use mathlib.Core.Path.{_≡_, refl, sym, ap, _∙_}
-use mathlib.Core.Logic.{_⊎_, inl, inr}
-use mathlib.Core.Bool.{Bool, true, false, not, cond}
+use mathlib.Core.Logic.{inr}
+use mathlib.Core.Bool.{true, false, not}
 use mathlib.Core.List.{List, [], _∷_, _++_, map}
 use native.Mathlib.Omega.{arith}
-use native.Mathlib.Nat.{add-zero, zero-add}
+use native.Mathlib.Nat.{zero-add}
 use native.Mathlib.Numerals.{add-one}
 use lib.Dec.{eqb, ltb}
-use lib.ListN.{length, getD, set, length-set, length-append}
+use lib.ListN.{length, getD, set, length-append}
 use lib.Seq.{getD-set-same, getD-set-other, set-out}
 use mir.Syntax.{w8, w32}
 use mir.Val.{Fits}
 use borrow.Author.Tests.{lt-ltb, le-ltb, ltb-true, ltb-false, eqb-true, eqb-false}
-use Rattle.isdb_tlv.specs.Fields.{Field, written, Fit}
-use Rattle.isdb_tlv.proofs.Fields.{size, length-written}
+use Rattle.isdb_tlv.specs.Fields.{written, Fit}
+use Rattle.isdb_tlv.proofs.Fields.{length-written}
 use Rattle.isdb_tlv.proofs.Guards.{either}
 use Rattle.isdb_mmt.specs.Lent.{part, over, placesFrom}
 use Rattle.isdb_mmt.specs.Layout.{mostSections, tableIds, sectionSize}
@@ -30,7 +30,7 @@ use Rattle.isdb_mmt.specs.declared.decoder.verdict.Act.the-variants.{Not
 use Rattle.isdb_mmt.specs.declared.decoder.verdict.Told.{Told}
 use Rattle.isdb_mmt.specs.declared.decoder.walk.Going.{Going}
 use Rattle.isdb_mmt.specs.Verdict.{indexSize, indexOf}
-use Rattle.isdb_mmt.specs.Dry.{mostAdded, mostBefore, Logged, logged, withLog, placesOf, Dry, dryOf, recent, putAt, indexAfter, othersAfter, mptAfter, pltAfter, totAfter, keptLength, afterTable, Room, Copies, PutWithin, Small, CanNote, CanCount, countedBy, keptWith, filled, usedWith, WalkedTo, Noted}
+use Rattle.isdb_mmt.specs.Dry.{mostAdded, mostBefore, Logged, logged, withLog, placesOf, Dry, dryOf, recent, putAt, indexAfter, othersAfter, mptAfter, pltAfter, totAfter, keptLength, afterTable, Room, PutWithin, CanNote, CanCount, countedBy, keptWith, filled, usedWith, WalkedTo, Noted}
 use Rattle.isdb_mmt.proofs.Verdicts.{length-index}
 
 -- ---- an index with its log

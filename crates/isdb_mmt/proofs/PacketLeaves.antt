@@ -1,36 +1,33 @@
 -- What an accepted packet leaves, of any kind, is the model's next state, where every number that it stores fits its field. Assumes
 -- nothing.
-use Prim.Native.Nat.{ℕ, zero, suc, _+_, _-_, _*_, _^_, _≤_, _<_}
+use Prim.Native.Nat.{ℕ, _+_, _-_, _^_, _≤_, _<_}
 use mathlib.Core.Path.{_≡_, refl, sym, ap, _∙_}
-use mathlib.Core.Logic.{inl, inr}
-use mathlib.Core.Bool.{Bool, true, false, not, cond}
-use mathlib.Core.Option.{Option, none, some}
-use mathlib.Core.List.{List, [], _∷_, _++_, map}
-use native.Mathlib.Nat.{add-zero}
+use mathlib.Core.Logic.{inl}
+use mathlib.Core.Bool.{true}
+use mathlib.Core.Option.{none, some}
+use mathlib.Core.List.{List, [], _∷_}
 use native.Mathlib.Omega.{arith}
 use lib.Dec.{ltb, leb}
 use lib.ListN.{length, length-append}
 use borrow.Author.Tests.{ltb-true, leb-true}
 use Rattle.isdb_tlv.specs.Fields.{written, Fit}
 use Rattle.isdb_tlv.proofs.Fields.{length-written}
-use Rattle.isdb_mmt.specs.Packet.{Bytes, MpuPacket, MessagePacket, Packet, ipError, ntp, nonMmtp, media, message, control, other}
-use Rattle.isdb_mmt.specs.Maps.{find, put, orElse}
-use Rattle.isdb_mmt.specs.Objects.{Asset}
-use Rattle.isdb_mmt.specs.Kept.{KeptTables, Table, aSection, sectionOf, stored, storedAll}
+use Rattle.isdb_mmt.specs.Packet.{Bytes, MessagePacket, Packet, ipError, ntp, nonMmtp, media, message, control, other}
+use Rattle.isdb_mmt.specs.Maps.{put, orElse}
+use Rattle.isdb_mmt.specs.Kept.{KeptTables, aSection, sectionOf, stored, storedAll}
 use Rattle.isdb_mmt.specs.Model.{State, Control as ControlState, controlOf, pushed, timeAfter}
 use Rattle.isdb_mmt.specs.GivenTables.{controlTables}
 use Rattle.isdb_mmt.specs.Needs.{partialLength, needs}
 use Rattle.isdb_mmt.specs.Layout.{controlPlaces, controlSize, timePlace, countersPlace, stateSize, latestPlace, mediaPlaces}
-use Rattle.isdb_mmt.specs.Lent.{over, namesFrom, foundFrom, placeForName, indexed}
+use Rattle.isdb_mmt.specs.Lent.{namesFrom, foundFrom, indexed}
 use Rattle.isdb_mmt.specs.Session.{Session, limitsOf, usedOf, latestOf, timeOf, timeFields, countersOf, countersFields, controlFields, mediaFields}
 use Rattle.isdb_mmt.specs.Check.{mediaIn, controlsIn, sectionsIn, lengthsOf, sound, Sound}
 use Rattle.isdb_mmt.specs.View.{given, assetEntry, controlEntry, sectionEntry, tableAt, viewBy, view}
 use Rattle.isdb_mmt.specs.Opening.{lent}
 use Rattle.isdb_mmt.specs.MediaPush.{placeFor, assetNext}
 use Rattle.isdb_mmt.specs.Placing.{tableLength, controlFor}
-use Rattle.isdb_mmt.specs.Leaves.{usedFor, withTime, withCounters, countedIn, timeLeaves, controlLeaves, messageIn, controlPlaceFor, messageAt, messageLeaves, packetLeaves}
+use Rattle.isdb_mmt.specs.Leaves.{withTime, withCounters, countedIn, timeLeaves, controlLeaves, messageIn, controlPlaceFor, messageAt, messageLeaves, packetLeaves}
 use Rattle.isdb_mmt.specs.Push.{Input, packetOf, hasPlaces, hasAreas, hasOutputs, asksOf, asks, Fits, Taken}
-use Rattle.isdb_mmt.specs.declared.decoder.place.Found.{Found}
 use Rattle.isdb_mmt.specs.declared.decoder.place.Found.the-variants.{At, Nothing}
 use Rattle.isdb_mmt.specs.declared.decoder.place.PlaceFor.{PlaceFor}
 use Rattle.isdb_mmt.specs.declared.decoder.place.PlaceFor.the-variants.{Own, Free, NoneFree}
@@ -40,7 +37,7 @@ use Rattle.isdb_mmt.specs.declared.decoder.head.Time.{Time}
 use Rattle.isdb_mmt.proofs.Lent.{length-over, length-names}
 use Rattle.isdb_mmt.proofs.Guards.{was-asked, was-guarded}
 use Rattle.isdb_mmt.proofs.Maps.{find-put}
-use Rattle.isdb_mmt.proofs.Stored.{apart, limits-own, used-own, latest-own, time-own, counters-own, counters-back, time-back}
+use Rattle.isdb_mmt.proofs.Stored.{apart, limits-own, latest-own, time-own, counters-back, time-back}
 use Rattle.isdb_mmt.proofs.Sessions.{Sort, media as mediaSort, controls as controlSort, sections as sectionSort, inUse, named, place-apart, used-apart}
 use Rattle.isdb_mmt.proofs.Views.{keys, stands, absent}
 use Rattle.isdb_mmt.proofs.PlacesFor.{place-for-was-old, place-for-was-new, place-for-was-full, length-indexed}

@@ -1,6 +1,6 @@
 -- The tables of a joined message and the sections of a control packet by their places: their bytes are the model's, and stand
 -- where they say. Assumes nothing.
-use Prim.Native.Nat.{ℕ, _+_, _-_, _≤_, _<_, min}
+use Prim.Native.Nat.{ℕ, _+_, _-_, min}
 use mathlib.Core.Path.{_≡_, refl, sym, ap, _∙_}
 use mathlib.Core.Bool.{Bool, true, false, cond}
 use mathlib.Core.List.{List, [], _∷_, _++_, map}
@@ -15,7 +15,7 @@ use Rattle.isdb_mmt.specs.Part.{partOf}
 use Rattle.isdb_mmt.specs.Lent.{part}
 use Rattle.isdb_mmt.specs.Packet.{Bytes}
 use Rattle.isdb_mmt.specs.Message.{contentOf, tablesFrom}
-use Rattle.isdb_mmt.specs.Joins.{PartialMessage, TablesFound, messagesOf, tablesIn, tablesOf, tablesOfAll, partsOf, cutOf}
+use Rattle.isdb_mmt.specs.Joins.{PartialMessage, messagesOf, tablesIn, tablesOf, tablesOfAll, partsOf, cutOf}
 use Rattle.isdb_mmt.specs.declared.part.Part.{Part}
 use Rattle.isdb_mmt.specs.declared.message.Content.{Content}
 use Rattle.isdb_mmt.specs.declared.message.Content.the-variants.{Malformed as badMessage, Nothing, Table as oneTable, Tables}

@@ -1,21 +1,18 @@
 -- The push: its questions in order, then the packet. Assumes nothing.
 use Prim.Native.Nat.{ℕ, _≤_, _<_}
 use mathlib.Core.Path.{_≡_, refl, sym, ap, _∙_, subst}
-use mathlib.Core.Bool.{Bool, true, false, not, cond}
-use mathlib.Core.List.{List}
+use mathlib.Core.Bool.{Bool, true, false, not}
 use native.Mathlib.Omega.{arith}
-use lib.Dec.{leb, ltb}
 use lib.ListN.{length}
 use borrow.Author.Tests.{le-leb, lt-leb}
 use Rattle.isdb_tlv.specs.Guards.{_<?_}
 use Rattle.isdb_mmt.specs.Packet.{Bytes, classify}
-use Rattle.isdb_mmt.specs.Model.{pushed, gives}
 use Rattle.isdb_mmt.specs.Needs.{needs}
 use Rattle.isdb_mmt.specs.Layout.{tableIds}
 use Rattle.isdb_mmt.specs.Session.{Session, limitsOf, countersOf}
 use Rattle.isdb_mmt.specs.Check.{lengthsOf, soundIn, sound}
 use Rattle.isdb_mmt.specs.View.{view}
-use Rattle.isdb_mmt.specs.Octets.{Octets, Lent}
+use Rattle.isdb_mmt.specs.Octets.{Octets}
 use Rattle.isdb_mmt.specs.Push.{Input, packetOf, mostBytes, asksOf, asks, CanTakePacket, PacketPushed, Pushed}
 use Rattle.isdb_mmt.specs.declared.decoder.records.Answer.{Answer}
 use Rattle.isdb_mmt.proofs.Checks.{sound-session}

@@ -1,28 +1,23 @@
 -- Questions 8 to 10, from what a packet needs. Assumes nothing.
-use Prim.Native.Nat.{ℕ, zero, suc, _+_, _-_, _*_, _≤_, _<_}
-use mathlib.Core.Path.{_≡_, refl, sym, ap, _∙_}
+use Prim.Native.Nat.{ℕ, _+_, _-_, _*_, _≤_}
+use mathlib.Core.Path.{_≡_, refl, sym, _∙_}
 use mathlib.Core.Bool.{Bool, true, false, not, cond}
-use mathlib.Core.List.{List, [], _∷_}
+use mathlib.Core.List.{[]}
 use native.Mathlib.Omega.{arith}
 use lib.Dec.{leb, ltb}
 use lib.ListN.{length}
-use borrow.Author.Tests.{le-leb, lt-leb, lt-ltb, le-ltb, ltb-true, ltb-false}
-use Rattle.isdb_tlv.specs.Guards.{_<?_}
+use borrow.Author.Tests.{le-leb, lt-leb, ltb-true, ltb-false}
 use Rattle.isdb_tlv.proofs.Guards.{either}
-use Rattle.isdb_mmt.specs.Packet.{Bytes, MpuPacket, Packet, ipError, ntp, nonMmtp, media, message, control, other}
-use Rattle.isdb_mmt.specs.Objects.{Rec}
+use Rattle.isdb_mmt.specs.Packet.{Bytes, MpuPacket, Packet, media, message}
 use Rattle.isdb_mmt.specs.Model.{pushed, gives}
-use Rattle.isdb_mmt.specs.Needs.{Needs, needs, dataOf}
-use Rattle.isdb_mmt.specs.Lent.{over}
+use Rattle.isdb_mmt.specs.Needs.{Needs, needs}
 use Rattle.isdb_mmt.specs.Session.{Session, limitsOf, usedOf}
 use Rattle.isdb_mmt.specs.Check.{lengthsOf, Sound}
 use Rattle.isdb_mmt.specs.View.{view}
 use Rattle.isdb_mmt.specs.Records.{rowSize, rowsFrom, dataFrom}
-use Rattle.isdb_mmt.specs.MediaPush.{asksFor, mediaAsks, MediaPushed, mediaLeaves}
-use Rattle.isdb_mmt.specs.Leaves.{packetLeaves}
+use Rattle.isdb_mmt.specs.MediaPush.{mediaAsks}
 use Rattle.isdb_mmt.specs.Push.{hasPlaces, hasAreas, hasOutputs, asksOf, Fits, PacketPushed, QuietPushed}
 use Rattle.isdb_mmt.specs.declared.decoder.limits.Limits.{Limits}
-use Rattle.isdb_mmt.specs.declared.decoder.head.Used.{Used}
 use Rattle.isdb_mmt.proofs.Lent.{over-none}
 
 -- every question is answered yes

@@ -1,13 +1,11 @@
 -- What a sender that conforms to RFC 5905 writes is read right. Assumes nothing.
-use Prim.Native.Nat.{ℕ, _*_, _+_, _^_, _<_}
 use mathlib.Core.Path.{_≡_, _∙_}
-use mathlib.Core.List.{List, [], _∷_, _++_, append-nil}
+use mathlib.Core.List.{List, [], _∷_, append-nil}
 use native.Mathlib.Omega.{arith}
 use Rattle.isdb_tlv.specs.Bytes.{be}
-use Rattle.isdb_tlv.specs.Fields.{Field, field, written}
+use Rattle.isdb_tlv.specs.Fields.{Field, field}
 use Rattle.isdb_tlv.proofs.Numbers.{be-add}
 use Rattle.isdb_tlv.proofs.Fields.{read}
-use Rattle.isdb_mmt.specs.Ntp.{ntpToUnix, Exact}
 use Rattle.isdb_mmt.specs.Rfc5905.{Timestamp, sent, Conforming, ticks, Theorem}
 use Rattle.isdb_mmt.proofs.Floats as Floats
 

@@ -1,9 +1,8 @@
 -- A route leads to the packet that the kind and the data are read as. Assumes nothing.
 use Prim.Native.Nat.{ℕ, _≤_, _<_}
 use mathlib.Core.Path.{_≡_, refl, sym, ap, _∙_}
-use mathlib.Core.Bool.{Bool, true, false, cond}
-use mathlib.Core.Option.{Option, none, some}
-use mathlib.Core.List.{List}
+use mathlib.Core.Bool.{cond}
+use mathlib.Core.Option.{none, some}
 use lib.Dec.{ltb, eqb}
 use lib.ListN.{length, drop}
 use borrow.Author.Tests.{eq-eqb, ne-eqb, lt-ltb, le-ltb}
@@ -20,7 +19,7 @@ use Rattle.isdb_tlv.specs.declared.ip.Datagram.{Datagram}
 use Rattle.isdb_tlv.specs.declared.ip.IpError.{IpError}
 use Rattle.isdb_tlv.specs.declared.ip.IpResult.{IpResult}
 use Rattle.isdb_tlv.specs.declared.ip.IpResult.the-variants.{Ok, Err}
-use Rattle.isdb_mmt.specs.Packet.{Bytes, Packet, ntp, inFlow, datagramIn, byKind, classify}
+use Rattle.isdb_mmt.specs.Packet.{Bytes, ntp, inFlow, datagramIn, byKind, classify}
 use Rattle.isdb_mmt.specs.Route.{flowRoute, ipRoute, routeOf, timeIn, timeGiven, routed}
 use Rattle.isdb_mmt.specs.declared.maybe.MaybeU64.the-variants.{None as noU64, Some as someU64}
 use Rattle.isdb_mmt.specs.declared.decoder.route.Route.{Route}

@@ -1,17 +1,17 @@
 -- The sections of a control packet's data. Assumes nothing.
-use Prim.Native.Nat.{ℕ, _+_, _-_, _*_, _≤_, _<_, min}
+use Prim.Native.Nat.{ℕ, _+_, _-_, _*_, _<_, min}
 use mathlib.Core.Path.{_≡_, refl, sym, ap, _∙_, subst}
-use mathlib.Core.List.{List, [], _∷_, _++_, map}
+use mathlib.Core.List.{List, [], _∷_, map}
 use native.Mathlib.Omega.{arith}
-use lib.ListN.{length, take, drop, length-take}
+use lib.ListN.{length, drop, length-take}
 use mir.Syntax.{w64}
 use mir.Val.{Fits}
-use Rattle.isdb_tlv.specs.Si.{sectionsFrom, nextSection, onward}
+use Rattle.isdb_tlv.specs.Si.{nextSection, onward}
 use Rattle.isdb_tlv.specs.declared.si.Section.{Section}
 use Rattle.isdb_tlv.specs.declared.si.MaybeSection.{MaybeSection}
 use Rattle.isdb_tlv.specs.declared.si.MaybeSection.the-variants.{None, Some}
 use Rattle.isdb_tlv.proofs.Sections.{Lies, Found, sections-step, next-lies}
-use Rattle.isdb_mmt.specs.Layout.{mostMessageArea, mostCount}
+use Rattle.isdb_mmt.specs.Layout.{mostCount}
 use Rattle.isdb_mmt.specs.Packet.{Bytes}
 use Rattle.isdb_mmt.specs.Lent.{part}
 use Rattle.isdb_mmt.specs.Kept.{sectionOf}
@@ -19,7 +19,7 @@ use Rattle.isdb_mmt.specs.declared.decoder.verdict.Told.{Told}
 use Rattle.isdb_mmt.specs.declared.decoder.walk.Going.{Going}
 use Rattle.isdb_mmt.specs.Placed.{Placed, placedSections}
 use Rattle.isdb_mmt.specs.Verdict.{indexOf, sectionTold, toldOf}
-use Rattle.isdb_mmt.specs.Dry.{mostAdded, mostBefore, sectionRead, Room, CanNote, Noted, Walked, at, CanTakeSection, CanWalkSections}
+use Rattle.isdb_mmt.specs.Dry.{mostAdded, mostBefore, sectionRead, CanNote, Noted, Walked, at, CanTakeSection, CanWalkSections}
 use Rattle.isdb_mmt.proofs.Verdicts.{length-index}
 use Rattle.isdb_mmt.proofs.Breaks.{small-section-told}
 use Rattle.isdb_mmt.proofs.Walking.{room-more, one-walked, Goes, goes-start, goes-on, goes-end}

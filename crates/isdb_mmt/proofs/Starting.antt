@@ -1,6 +1,6 @@
 -- What a walk over tables starts with: copies of the session's bytes and counts. Assumes nothing.
-use Prim.Native.Nat.{ℕ, zero, suc, _+_, _*_, _≤_, _<_}
-use mathlib.Core.Path.{_≡_, refl, sym, ap, _∙_}
+use Prim.Native.Nat.{ℕ, _+_, _*_, _≤_, _<_}
+use mathlib.Core.Path.{_≡_, sym, ap, _∙_}
 use mathlib.Core.Bool.{true, false}
 use mathlib.Core.List.{List}
 use native.Mathlib.Omega.{arith}

@@ -1,31 +1,29 @@
 -- What tables leave of the state: places in use, section places, counters, PLT and TOT, each read back; all else is as before.
 -- Assumes nothing.
-use Prim.Native.Nat.{ℕ, zero, suc, _+_, _*_, _≤_, _<_}
-use mathlib.Core.Path.{_≡_, refl, sym, ap, _∙_}
-use mathlib.Core.Logic.{_⊎_, inl, inr}
+use Prim.Native.Nat.{ℕ, _+_, _*_, _≤_, _<_}
+use mathlib.Core.Path.{_≡_, sym, ap, _∙_}
+use mathlib.Core.Logic.{inl, inr}
 use mathlib.Core.Bool.{Bool, true, false}
-use mathlib.Core.Option.{Option, none, some}
-use mathlib.Core.List.{List, [], _∷_, _++_, map}
+use mathlib.Core.List.{List, [], map}
 use native.Mathlib.Omega.{arith}
-use lib.ListN.{length, take, drop, length-take}
+use lib.ListN.{length, take, drop}
 use lib.Seq.{length-take-le}
 use Rattle.isdb_tlv.specs.Fields.{written, Fit}
 use Rattle.isdb_tlv.proofs.Fields.{length-written}
 use Rattle.isdb_mmt.specs.Kept.{Kept, KeptTables}
 use Rattle.isdb_mmt.specs.Maps.{isSome}
 use Rattle.isdb_mmt.specs.Model.{State}
-use Rattle.isdb_mmt.specs.Layout.{usedPlace, latestPlace, timePlace, countersPlace, mediaPlaces, controlPlaces, sectionPlaces, sectionSize, mostMediaIds, mostControlIds, mostSections, mostTableArea, stateSize}
-use Rattle.isdb_mmt.specs.Lent.{part, over, flagByte, placesFrom}
+use Rattle.isdb_mmt.specs.Layout.{usedPlace, latestPlace, timePlace, countersPlace, mediaPlaces, sectionPlaces, sectionSize, mostMediaIds, mostControlIds, mostSections, mostTableArea, stateSize}
+use Rattle.isdb_mmt.specs.Lent.{over, flagByte, placesFrom}
 use Rattle.isdb_mmt.specs.Session.{limitsOf, usedOf, usedFields, latestOf, latestFields, timeOf, countersOf, countersFields, sectionPlaceOf}
-use Rattle.isdb_mmt.specs.Check.{mediaIn, controlsIn, sectionsIn}
+use Rattle.isdb_mmt.specs.Check.{sectionsIn}
 use Rattle.isdb_mmt.specs.MediaPush.{withUsed}
 use Rattle.isdb_mmt.specs.Placing.{tableLength, latestFor}
-use Rattle.isdb_mmt.specs.Leaves.{keptPlace, usedFor, sectionRows, withSections, withLatest, withCounters, stateOfTables}
+use Rattle.isdb_mmt.specs.Leaves.{keptPlace, usedFor, sectionRows, withSections, withLatest, stateOfTables}
 use Rattle.isdb_mmt.specs.declared.decoder.limits.Limits.{Limits}
 use Rattle.isdb_mmt.specs.declared.decoder.head.Used.{Used}
-use Rattle.isdb_mmt.specs.declared.decoder.section.KeptSection.{KeptSection}
 use Rattle.isdb_mmt.proofs.Lent.{length-over, places-apart}
-use Rattle.isdb_mmt.proofs.Stored.{apart, limits-own, used-own, latest-own, time-own, counters-own, used-back, latest-back, counters-back}
+use Rattle.isdb_mmt.proofs.Stored.{apart, limits-own, latest-own, time-own, counters-own, used-back, latest-back, counters-back}
 use Rattle.isdb_mmt.proofs.Sessions.{Sort, media, controls, sections, inUse, named, place-apart, used-apart}
 use Rattle.isdb_mmt.proofs.TableAreas.{AllKept, length-rows, rows-read}
 

@@ -1,9 +1,9 @@
 -- A packet that is taken, arm by arm: what each arm leaves and answers is what is asked of the packet. Assumes nothing.
-use Prim.Native.Nat.{ℕ, zero, suc, _+_, _-_, _*_, _≤_, _<_}
+use Prim.Native.Nat.{ℕ, _-_, _≤_}
 use mathlib.Core.Path.{_≡_, refl, sym, ap, _∙_, subst}
-use mathlib.Core.Bool.{Bool, true, false, not, cond}
-use mathlib.Core.Option.{Option, none, some}
-use mathlib.Core.List.{List, [], _∷_, map}
+use mathlib.Core.Bool.{not}
+use mathlib.Core.Option.{Option}
+use mathlib.Core.List.{List, [], map}
 use native.Mathlib.Omega.{arith}
 use lib.ListN.{length, take, drop, length-drop}
 use Rattle.isdb_tlv.specs.Tlv.{packetType}
@@ -15,18 +15,18 @@ use Rattle.isdb_tlv.specs.declared.mmtp.Packet.{Packet as MmtpPacket}
 use Rattle.isdb_tlv.specs.declared.mmtp.Parsed.{Parsed}
 use Rattle.isdb_tlv.specs.declared.mmtp.Parsed.the-variants.{None as notMmtp, Some as someMmtp}
 use Rattle.isdb_mmt.specs.Packet.{Bytes, MpuPacket, Packet, ipError, ntp, nonMmtp, media, message, control, other, classify, mmtpIn, mediaOf, byType, messagePacket}
-use Rattle.isdb_mmt.specs.Model.{State, packetCounted, pushed, gives}
+use Rattle.isdb_mmt.specs.Model.{packetCounted, pushed, gives}
 use Rattle.isdb_mmt.specs.Needs.{needs}
-use Rattle.isdb_mmt.specs.Session.{Session, limitsOf, usedOf, countersOf}
+use Rattle.isdb_mmt.specs.Session.{Session, countersOf}
 use Rattle.isdb_mmt.specs.Check.{lengthsOf, Sound, packetCounts}
 use Rattle.isdb_mmt.specs.View.{viewBy, view}
 use Rattle.isdb_mmt.specs.Opening.{lent}
-use Rattle.isdb_mmt.specs.Counted.{Countable, StateCountable}
+use Rattle.isdb_mmt.specs.Counted.{StateCountable}
 use Rattle.isdb_mmt.specs.Leaves.{withCounters, withTime, packetLeaves}
 use Rattle.isdb_mmt.specs.Route.{routeOf, routed, timeIn, timeGiven}
 use Rattle.isdb_mmt.specs.MediaPush.{MediaPushed}
 use Rattle.isdb_mmt.specs.MediaCommit.{CanPushMedia}
-use Rattle.isdb_mmt.specs.Push.{Fits, PacketPushed, QuietPushed, CanTakePacket, asksOf}
+use Rattle.isdb_mmt.specs.Push.{Fits, PacketPushed, QuietPushed, CanTakePacket}
 use Rattle.isdb_mmt.specs.declared.maybe.MaybeU64.{MaybeU64}
 use Rattle.isdb_mmt.specs.declared.decoder.records.Answer.{Answer}
 use Rattle.isdb_mmt.specs.declared.decoder.route.Route.{Route}

@@ -1,9 +1,9 @@
 -- The model's folds over tables are the fields of one. Assumes nothing.
 use Prim.Native.Nat.{ℕ, max}
-use mathlib.Core.Path.{_≡_, refl, sym, ap, _∙_}
+use mathlib.Core.Path.{_≡_, refl, _∙_}
 use mathlib.Core.List.{List, [], _∷_}
 use native.Mathlib.Omega.{arith}
-use Rattle.isdb_mmt.specs.Kept.{Table, mptAfterAll, storedAll, countedAll, tableIncrements, tableCounted, stored, mptAfter}
+use Rattle.isdb_mmt.specs.Kept.{Table, mptAfterAll, storedAll, countedAll, stored}
 use Rattle.isdb_mmt.specs.Needs.{tableArea, tablesNeed}
 use Rattle.isdb_mmt.specs.Tally.{Tally, taken, takenAll}
 

@@ -1,47 +1,43 @@
 -- What is decided of a table: one law for each return. Assumes nothing.
-use Prim.Native.Nat.{ℕ, zero, suc, _+_, _-_, _*_, _≤_, _<_, _%_, min}
+use Prim.Native.Nat.{ℕ, zero, suc, _+_, _-_, _*_, _≤_, _<_, _%_}
 use mathlib.Core.Path.{_≡_, refl, sym, ap, _∙_}
-use mathlib.Core.Logic.{inl, inr}
-use mathlib.Core.Bool.{Bool, true, false, not, cond, _&&_}
-use mathlib.Core.List.{List, [], _∷_, _++_, map}
+use mathlib.Core.Bool.{Bool, true, false, not, cond}
+use mathlib.Core.List.{List, [], _∷_, map}
 use native.Mathlib.Omega.{arith}
 use native.Mathlib.Nat.{add-zero, zero-add, mul-zero}
 use lib.Dec.{eqb}
-use lib.ListN.{length, getD, take, drop, length-take}
+use lib.ListN.{length, getD, take, length-take}
 use borrow.Author.Tests.{eq-eqb, ne-eqb, lt-ltb, le-ltb, not-true, not-false}
 use mir.Syntax.{w16, w32, w64}
 use mir.Val.{Fits}
 use Rattle.isdb_tlv.specs.Bytes.{be}
 use Rattle.isdb_tlv.proofs.Guards.{either}
-use Rattle.isdb_tlv.proofs.Numbers.{be-lt}
 use Rattle.isdb_mmt.specs.Part.{partOf}
 use Rattle.isdb_mmt.specs.Packet.{Bytes}
 use Rattle.isdb_mmt.specs.Maps.{one}
 use Rattle.isdb_mmt.specs.Lent.{part, placesFrom, namesFrom, foundFrom}
 use Rattle.isdb_mmt.specs.Layout.{mostSections, sectionSize}
 use Rattle.isdb_mmt.specs.Session.{sectionPlaceOf}
-use Rattle.isdb_mmt.specs.Section.{length12, longSectionOf}
+use Rattle.isdb_mmt.specs.Section.{longSectionOf}
 use Rattle.isdb_tlv.specs.Guards.{_<?_}
 use Rattle.isdb_mmt.specs.Mpt.{mptOf}
 use Rattle.isdb_mmt.specs.Plt.{pltOf}
 use Rattle.isdb_mmt.specs.Tot.{totOf}
 use Rattle.isdb_mmt.specs.declared.table.tot.Tot.{Tot as TotRead}
 use Rattle.isdb_mmt.specs.declared.table.tot.TotParsed.{TotParsed}
-use Rattle.isdb_mmt.specs.declared.table.tot.TotResult.{TotResult}
 use Rattle.isdb_mmt.specs.declared.table.tot.TotResult.the-variants.{Ok as totOk, Err as totErr}
 use Rattle.isdb_mmt.specs.declared.table.mpt.Mpt.{Mpt as MptRead}
 use Rattle.isdb_mmt.specs.declared.table.mpt.MptParsed.{MptParsed}
-use Rattle.isdb_mmt.specs.declared.table.mpt.MaybeMpt.{MaybeMpt}
 use Rattle.isdb_mmt.specs.declared.table.mpt.MaybeMpt.the-variants.{None as noMpt, Some as someMpt}
 use Rattle.isdb_mmt.specs.declared.table.plt.Plt.{Plt as PltRead}
 use Rattle.isdb_mmt.specs.declared.table.plt.MaybePlt.{MaybePlt}
 use Rattle.isdb_mmt.specs.declared.table.plt.MaybePlt.the-variants.{None as noPlt, Some as somePlt}
-use Rattle.isdb_mmt.specs.Kept.{Body, mptParses, pltParses, totParses, totCrcBad, keyOf, declaredSection, declaredTable, Section, sectionOf, bodyRead as modelBody, longTable, truncatedSection, aSection, tableById, tableRead}
-use Rattle.isdb_mmt.specs.Eit.{eitBody, eitOf}
-use Rattle.isdb_mmt.specs.Sdt.{sdtBody, sdtOf}
-use Rattle.isdb_mmt.specs.Bit.{bitBody, bitOf}
-use Rattle.isdb_mmt.specs.Nit.{nitBody, nitOf}
-use Rattle.isdb_mmt.specs.Amt.{amtBody, amtOf}
+use Rattle.isdb_mmt.specs.Kept.{Body, mptParses, pltParses, totParses, totCrcBad, keyOf, declaredSection, declaredTable, sectionOf, bodyRead as modelBody, longTable, tableById, tableRead}
+use Rattle.isdb_mmt.specs.Eit.{eitOf}
+use Rattle.isdb_mmt.specs.Sdt.{sdtOf}
+use Rattle.isdb_mmt.specs.Bit.{bitOf}
+use Rattle.isdb_mmt.specs.Nit.{nitOf}
+use Rattle.isdb_mmt.specs.Amt.{amtOf}
 use Rattle.isdb_mmt.specs.declared.table.section.SectionHeader.{SectionHeader}
 use Rattle.isdb_mmt.specs.declared.table.section.SectionError.{SectionError}
 use Rattle.isdb_mmt.specs.declared.table.section.SectionError.the-variants.{Truncated, Crc, Malformed}
@@ -54,10 +50,9 @@ use Rattle.isdb_mmt.proofs.Lent.{names-of, length-places}
 use Rattle.isdb_mmt.proofs.Names.{clash, there, indexIn}
 use Rattle.isdb_mmt.specs.declared.decoder.verdict.BodyRead.{BodyRead}
 use Rattle.isdb_mmt.specs.declared.decoder.verdict.Recent.{Recent}
-use Rattle.isdb_mmt.specs.declared.decoder.verdict.Act.{Act}
-use Rattle.isdb_mmt.specs.declared.decoder.verdict.Act.the-variants.{Nothing, Other, Mpt, Plt, Tot, Put}
+use Rattle.isdb_mmt.specs.declared.decoder.verdict.Act.the-variants.{Nothing, Mpt, Plt, Tot, Put}
 use Rattle.isdb_mmt.specs.declared.decoder.verdict.Told.{Told}
-use Rattle.isdb_mmt.specs.Verdict.{indexOf, placeAt, keysOf, noSection, bodyFrom, told, changesTo, bodyPut, versionBy, versionFor, placeOf, bodyTold, versionTold, sectionTold, longTold, mptTold, pltTold, totTold, toldOf}
+use Rattle.isdb_mmt.specs.Verdict.{indexOf, placeAt, keysOf, noSection, bodyFrom, told, changesTo, bodyPut, versionBy, versionFor, bodyTold, versionTold, sectionTold, longTold, mptTold, pltTold, totTold, toldOf}
 
 -- ---- an index's places and keys
 

@@ -1,45 +1,42 @@
 -- A message packet with which a message is whole, and the model: what is asked and left. Assumes nothing.
-use Prim.Native.Nat.{ℕ, zero, suc, _+_, _-_, _*_, _≤_, _<_, max}
+use Prim.Native.Nat.{ℕ, zero, suc, _+_, _-_, _*_, _≤_, _<_}
 use mathlib.Core.Path.{_≡_, refl, sym, ap, _∙_, subst}
-use mathlib.Core.Bool.{Bool, true, false, not, cond}
-use mathlib.Core.Option.{Option, none, some}
-use mathlib.Core.List.{List, [], _∷_, _++_, map}
+use mathlib.Core.Bool.{Bool, true, false, not}
+use mathlib.Core.Option.{Option, some}
+use mathlib.Core.List.{List, [], _++_, map}
 use native.Mathlib.Omega.{arith}
-use native.Mathlib.Nat.{add-zero, zero-add, mul-le-mul-right}
-use lib.Dec.{eqb, ltb}
+use native.Mathlib.Nat.{add-zero, mul-le-mul-right}
+use lib.Dec.{ltb}
 use lib.ListN.{length, getD, take, drop, length-take, length-drop, length-append}
 use mir.Syntax.{w8}
 use mir.Val.{Fits}
-use borrow.Author.Tests.{lt-ltb, le-ltb, ltb-true, ltb-false}
-use Rattle.isdb_tlv.specs.Guards.{if_then_else_, _<?_, _=?_}
+use borrow.Author.Tests.{lt-ltb, ltb-false}
+use Rattle.isdb_tlv.specs.Guards.{if_then_else_, _<?_}
 use Rattle.isdb_tlv.proofs.Guards.{either, cond-elim}
-use Rattle.isdb_mmt.specs.Layout.{mostSections, mostControlIds, mostMessageArea, mostTableArea, mostCount, tableIds, controlPlaces, controlSize, sectionPlaces, sectionSize, stateSize}
+use Rattle.isdb_mmt.specs.Layout.{mostSections, mostMessageArea, tableIds, controlPlaces, controlSize, sectionPlaces, sectionSize}
 use Rattle.isdb_mmt.specs.Packet.{Bytes, MessagePacket, message}
 use Rattle.isdb_mmt.specs.Maps.{one, isSome}
 use Rattle.isdb_mmt.specs.Joins.{PartialMessage, Reassembly, mostMessage, short, cutOf, cutOfAll, messageCompleted}
-use Rattle.isdb_mmt.specs.Kept.{Kept, KeptTables, Table, tableRead, mptAfterAll, storedAll, countedAll}
+use Rattle.isdb_mmt.specs.Kept.{KeptTables, Table, tableRead, mptAfterAll, storedAll, countedAll}
 use Rattle.isdb_mmt.specs.GivenTables.{tablesGiven}
 use Rattle.isdb_mmt.specs.Model.{State, Control as ControlState, packetCounted, messageCounted, reassemblyCounted, controlOf, reassemblyOf, pushed}
 use Rattle.isdb_mmt.specs.Needs.{needs, tablesNeed}
-use Rattle.isdb_mmt.specs.Octets.{Octets}
 use Rattle.isdb_mmt.specs.Lent.{part, over, namesFrom}
 use Rattle.isdb_mmt.specs.Session.{Session, limitsOf, usedOf, countersOf, controlPlaceOf, controlAt}
 use Rattle.isdb_mmt.specs.Check.{packetCounts, tableCounts, controlSound, controlsIn, lengthsOf, Sound}
-use Rattle.isdb_mmt.specs.View.{given, tableAt, viewBy, view}
+use Rattle.isdb_mmt.specs.View.{given, viewBy, view}
 use Rattle.isdb_mmt.specs.Opening.{lent}
 use Rattle.isdb_mmt.specs.Placing.{tableLength, latestFor}
-use Rattle.isdb_mmt.specs.Leaves.{sectionRows, withSections, bytesOver, keptOver, latestOver, controlPlaceFor, messageAt, messageIn, packetLeaves}
+use Rattle.isdb_mmt.specs.Leaves.{sectionRows, bytesOver, keptOver, latestOver, controlPlaceFor, messageAt, messageIn, packetLeaves}
 use Rattle.isdb_mmt.specs.Push.{asksOf, QuietPushed}
 use Rattle.isdb_mmt.specs.Fragments.{fateOf, byDivision, flagsIn, continued, continuedBy, grownLength, joinedBy, noneJoined, controlWith, laidBy, areaBy, wholeBy, completes, faultsOf, fragmentCounted, CanCount}
-use Rattle.isdb_mmt.specs.Lines.{blankPlace, placeIn, withLine, withCounts, meetingOf}
+use Rattle.isdb_mmt.specs.Lines.{placeIn, withLine, withCounts, meetingOf}
 use Rattle.isdb_mmt.specs.Verdict.{indexSize}
-use Rattle.isdb_mmt.specs.Dry.{CanWalk}
 use Rattle.isdb_mmt.specs.Commit.{putAreas, loggedFrom, CanStoreAreas}
 use Rattle.isdb_mmt.specs.Start.{recentLength, latestWith, countersWith, tablesAsk, malformedMore, CountsFit}
-use Rattle.isdb_mmt.specs.WholeMessage.{isLast, beforeBy, joinBy, heldIn, WalkedWhole, CanWalkWhole, wholeAsk, usedWhole, placeWhole, stateLeft, CanLeaveState, placeForAt, CanPushWhole, CanPushAt}
+use Rattle.isdb_mmt.specs.WholeMessage.{isLast, beforeBy, joinBy, heldIn, WalkedWhole, CanWalkWhole, wholeAsk, placeWhole, stateLeft, CanLeaveState, placeForAt, CanPushWhole, CanPushAt}
 use Rattle.isdb_mmt.specs.declared.decoder.limits.Limits.{Limits}
 use Rattle.isdb_mmt.specs.declared.decoder.counts.Counters.{Counters}
-use Rattle.isdb_mmt.specs.declared.decoder.head.Used.{Used}
 use Rattle.isdb_mmt.specs.declared.decoder.control.Control.{Control}
 use Rattle.isdb_mmt.specs.declared.decoder.messages.Fate.{Fate}
 use Rattle.isdb_mmt.specs.declared.decoder.messages.Fate.the-variants.{Short, Undivided, First, Orphan, Oversize, Grown, Whole}
@@ -47,8 +44,7 @@ use Rattle.isdb_mmt.specs.declared.decoder.messages.Joined.{Joined}
 use Rattle.isdb_mmt.specs.declared.decoder.messages.Meeting.{Meeting}
 use Rattle.isdb_mmt.specs.declared.message.Division.{Division}
 use Rattle.isdb_mmt.specs.declared.message.Division.the-variants.{Undivided as undivided, First as first, Middle as middle, Last as lastPart}
-use Rattle.isdb_mmt.specs.declared.decoder.place.PlaceFor.{PlaceFor}
-use Rattle.isdb_mmt.specs.declared.decoder.place.PlaceFor.the-variants.{Own, Free, NoneFree}
+use Rattle.isdb_mmt.specs.declared.decoder.place.PlaceFor.the-variants.{NoneFree}
 use Rattle.isdb_mmt.specs.declared.decoder.walk.Going.{Going}
 use Rattle.isdb_mmt.proofs.Names.{clash}
 use Rattle.isdb_mmt.proofs.Lent.{length-names}

@@ -1,34 +1,30 @@
 -- A message packet with which a message is whole: what is asked and left is the model's. Assumes nothing.
-use Prim.Native.Nat.{ℕ, zero, suc, _+_, _-_, _*_, _≤_, _<_, max}
-use mathlib.Core.Path.{_≡_, refl, sym, ap, _∙_, subst}
-use mathlib.Core.Bool.{Bool, true, false, not, cond}
-use mathlib.Core.Option.{Option, none, some}
-use mathlib.Core.List.{List, [], _∷_, _++_, map}
+use Prim.Native.Nat.{ℕ, _+_, _-_, _*_, _≤_, _<_}
+use mathlib.Core.Path.{_≡_, ap, _∙_}
+use mathlib.Core.Bool.{Bool}
+use mathlib.Core.List.{List, [], _++_}
 use native.Mathlib.Omega.{arith}
-use native.Mathlib.Nat.{add-zero, zero-add, mul-le-mul-right}
-use lib.Dec.{eqb, ltb}
-use lib.ListN.{length, getD, take, drop, replicate, length-replicate, length-take, length-drop, length-append}
-use mir.Syntax.{w8, w32, w64}
+use native.Mathlib.Nat.{mul-le-mul-right}
+use lib.ListN.{length, take, drop, replicate, length-take}
+use mir.Syntax.{w32, w64}
 use mir.Val.{Fits}
-use borrow.Author.Tests.{eq-eqb, ne-eqb, lt-ltb, le-ltb, eqb-true, eqb-false, ltb-true, ltb-false}
+use borrow.Author.Tests.{eq-eqb, ne-eqb, lt-ltb, le-ltb}
 use Rattle.isdb_tlv.specs.Fields.{written}
-use Rattle.isdb_tlv.specs.Guards.{if_then_else_, _<?_, _=?_}
-use Rattle.isdb_tlv.proofs.Guards.{either}
+use Rattle.isdb_tlv.specs.Guards.{if_then_else_}
 use Rattle.isdb_tlv.proofs.Fields.{length-written}
-use Rattle.isdb_mmt.specs.Layout.{mostSections, mostControlIds, mostMessageArea, mostTableArea, mostCount, tableIds, usedPlace, latestPlace, countersPlace, controlPlaces, controlSize, sectionPlaces, sectionSize, stateSize}
-use Rattle.isdb_mmt.specs.Packet.{Bytes, MessagePacket, message}
+use Rattle.isdb_mmt.specs.Layout.{mostSections, mostCount, usedPlace, controlPlaces, controlSize, sectionPlaces, sectionSize, stateSize}
+use Rattle.isdb_mmt.specs.Packet.{Bytes, message}
 use Rattle.isdb_mmt.specs.Lent.{part, over}
-use Rattle.isdb_mmt.specs.Session.{Session, limitsOf, usedOf, usedFields, countersOf, countersFields, controlFields, latestFields}
-use Rattle.isdb_mmt.specs.MediaPush.{withUsed}
+use Rattle.isdb_mmt.specs.Session.{limitsOf, usedOf, usedFields, controlFields}
 use Rattle.isdb_mmt.specs.Lines.{withLine, withCounts}
 use Rattle.isdb_mmt.specs.Verdict.{indexSize}
 use Rattle.isdb_mmt.specs.Dry.{Walked, CanWalk}
-use Rattle.isdb_mmt.specs.Start.{recentAt, goingIn, tablesAsk, countersWith, latestWith, CanGo}
-use Rattle.isdb_mmt.specs.Joins.{PartialMessage, cutOf}
+use Rattle.isdb_mmt.specs.Start.{recentAt, goingIn, tablesAsk, countersWith, latestWith}
+use Rattle.isdb_mmt.specs.Joins.{cutOf}
 use Rattle.isdb_mmt.specs.Kept.{tableRead}
 use Rattle.isdb_mmt.specs.Placed.{joinOf, placedCut}
 use Rattle.isdb_mmt.specs.declared.decoder.verdict.Recent.{Recent}
-use Rattle.isdb_mmt.specs.WholeMessage.{isLast, beforeBy, longBy, aggregatedBy, joinBy, heldIn, goingFrom, WalkedWhole, CanWalkWhole, wholeAsk, usedWhole, placeWhole, stateLeft, CanLeaveState}
+use Rattle.isdb_mmt.specs.WholeMessage.{beforeBy, longBy, aggregatedBy, joinBy, heldIn, goingFrom, WalkedWhole, CanWalkWhole, wholeAsk, usedWhole, stateLeft, CanLeaveState}
 use Rattle.isdb_mmt.specs.declared.decoder.limits.Limits.{Limits}
 use Rattle.isdb_mmt.specs.declared.decoder.counts.Counters.{Counters}
 use Rattle.isdb_mmt.specs.declared.decoder.head.Used.{Used}

@@ -1,6 +1,6 @@
 -- Worked cases, proved as one table by computation: the lengths of descriptors, and feeds from their bytes through `classify` and
 -- `pushed`, with the readings that are easily got wrong. Those of messages and sections are in ControlCases.
-use Prim.Native.Nat.{ℕ, _+_, _-_, _*_, _/_, _%_, _^_}
+use Prim.Native.Nat.{ℕ, _+_, _-_}
 use mathlib.Core.Path.{refl}
 use mathlib.Core.Bool.{Bool, true, false}
 use mathlib.Core.List.{List, [], _∷_, _++_, map}
@@ -27,11 +27,11 @@ use Rattle.isdb_mmt.specs.Nit.{nitBody, nitOf}
 use Rattle.isdb_mmt.specs.Sdt.{sdtBody, sdtOf}
 use Rattle.isdb_mmt.specs.Mpt.{declaredLength, mptAssets, mptTable, mptOf}
 use Rattle.isdb_mmt.specs.Message.{divisionOf, paTables, sectionTable, contentOf, tableAt, tablesFrom}
-use Rattle.isdb_mmt.specs.Packet.{Bytes, Packet, mediaOf, clear, readable, classify}
+use Rattle.isdb_mmt.specs.Packet.{Bytes, mediaOf, clear, readable, classify}
 use Rattle.isdb_mmt.specs.Maps.{find, put, orElse, isSome}
 use Rattle.isdb_mmt.specs.Objects.{Asset, Rec, fresh, gap, lostBy, grown, continued, effectOf, afterUnit, objectOf, unitEffect, afterUnits, deliveredBy, newMpu, jumped, mpuAfter, rangeAfter, malformedPayload, afterHeaders, assetAfter, tagged, passes, mediaGives}
 use Rattle.isdb_mmt.specs.Joins.{PartialMessage, idle, partBefore, joinedOn, partAfter, wholeOf, reassemblyAfter, messageCompleted, orphan, oversize, tablesOf, tablesOfAll, messagesOf, cutOf, cutOfAll}
-use Rattle.isdb_mmt.specs.Kept.{Kept, bodyRead, sectionOf, otherVersion, keepIf, keep, keepAll, zeros, tableCounted, sectionIncrements, tableById, tableRead, tableIncrements, mptAfter, mptAfterAll, stored, storedAll, countedAll}
+use Rattle.isdb_mmt.specs.Kept.{bodyRead, sectionOf, otherVersion, keepIf, keep, keepAll, zeros, tableCounted, sectionIncrements, tableById, tableRead, tableIncrements, mptAfter, mptAfterAll, stored, storedAll, countedAll}
 use Rattle.isdb_mmt.specs.GivenTables.{tablesGiven}
 use Rattle.isdb_mmt.specs.Model.{State, Control, opened, idleControl, assetOf, controlOf, packetCounted, messageCounted, reassemblyCounted, timeAfter, pushed, gives}
 use Rattle.isdb_mmt.specs.Book.{book, nothing, enteredAll, entered, receptionLog, logEntries, unitsReceived, follower, dropCounted, inOrder, missing, continuedBy, deliveredOf}

@@ -1,7 +1,7 @@
 -- The walk on copies: an index with a log, and what one table makes of them. Its memory is not limited here.
 use Prim.Native.Nat.{ℕ, _+_, _-_, _*_, _≤_, _<_, max}
 use mathlib.Core.Path.{_≡_}
-use mathlib.Core.Bool.{Bool, true, false, cond}
+use mathlib.Core.Bool.{Bool, true, false}
 use mathlib.Core.Option.{Option, none, some}
 use mathlib.Core.List.{List, [], _∷_, _++_, map}
 use lib.ListN.{length, getD, set}

@@ -2,7 +2,7 @@
 -- id, the kept sections, how many places are in use, PLT and TOT, the time and the counters; of the areas, what the next state
 -- holds, joins and keeps. What it keeps from before lies there already.
 use Prim.Native.Nat.{ℕ, _+_, _*_}
-use mathlib.Core.Bool.{Bool, true, false}
+use mathlib.Core.Bool.{true}
 use mathlib.Core.Option.{Option, none, some}
 use mathlib.Core.List.{List, [], _∷_, _++_}
 use lib.ListN.{length}
@@ -13,8 +13,8 @@ use Rattle.isdb_mmt.specs.Joins.{PartialMessage}
 use Rattle.isdb_mmt.specs.Kept.{Kept, KeptTables}
 use Rattle.isdb_mmt.specs.Model.{State, Control as ControlState, controlOf, pushed}
 use Rattle.isdb_mmt.specs.Lent.{over, namesFrom, placeForName}
-use Rattle.isdb_mmt.specs.Layout.{usedPlace, latestPlace, timePlace, countersPlace, controlPlaces, controlSize, sectionPlaces}
-use Rattle.isdb_mmt.specs.Session.{Session, limitsOf, usedOf, usedFields, latestFields, timeFields, countersFields, controlFields, sectionFields}
+use Rattle.isdb_mmt.specs.Layout.{latestPlace, timePlace, countersPlace, controlPlaces, controlSize, sectionPlaces}
+use Rattle.isdb_mmt.specs.Session.{Session, limitsOf, usedOf, latestFields, timeFields, countersFields, controlFields, sectionFields}
 use Rattle.isdb_mmt.specs.View.{view}
 use Rattle.isdb_mmt.specs.Opening.{lent}
 use Rattle.isdb_mmt.specs.Placing.{controlFor, sectionFor, latestFor}

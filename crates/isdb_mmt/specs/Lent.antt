@@ -1,7 +1,7 @@
 -- Parts of lent memory: the bytes that stand at a place, memory with other bytes there, and places of one size with a name
 -- each.
 use Prim.Native.Nat.{ℕ, zero, suc, _+_, _*_, _/_, _%_}
-use mathlib.Core.Bool.{Bool, true, false, not, cond}
+use mathlib.Core.Bool.{Bool, true, false, not}
 use mathlib.Core.List.{List, [], _∷_, _++_}
 use lib.ListN.{length, take, drop}
 use Rattle.isdb_tlv.specs.Guards.{if_then_else_, _=?_, _<?_}

@@ -1,7 +1,7 @@
 -- The limits of a session, the lengths of memory that they ask for, and questions 1 to 4 of an opening.
 use Prim.Native.Nat.{ℕ, _+_, _*_}
 use mathlib.Core.Path.{_≡_}
-use mathlib.Core.Bool.{Bool, true, false, not, cond}
+use mathlib.Core.Bool.{Bool, true, false, not}
 use Rattle.isdb_tlv.specs.Guards.{if_then_else_, _<?_, _≤?_}
 use Rattle.isdb_mmt.specs.Layout.{mostMediaIds, mostControlIds, mostSections, mostMfuArea, mostMessageArea, mostTableArea, mostPackets, stateSize}
 use Rattle.isdb_mmt.specs.declared.decoder.limits.Limits.{Limits}

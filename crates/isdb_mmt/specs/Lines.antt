@@ -7,7 +7,7 @@ use mathlib.Core.List.{List}
 use lib.ListN.{length}
 use Rattle.isdb_tlv.specs.Guards.{if_then_else_, _<?_}
 use Rattle.isdb_tlv.specs.Fields.{written}
-use Rattle.isdb_mmt.specs.Packet.{messagePacket, Bytes, MessagePacket}
+use Rattle.isdb_mmt.specs.Packet.{Bytes, MessagePacket}
 use Rattle.isdb_mmt.specs.Lent.{over}
 use Rattle.isdb_mmt.specs.Layout.{latestPlace, countersPlace, controlPlaces, controlSize, mostControlIds, mostMessageArea, stateSize}
 use Rattle.isdb_mmt.specs.Session.{Session, limitsOf, usedOf, latestOf, latestFields, countersOf, countersFields, controlFields, controlAt}

@@ -2,14 +2,12 @@
 -- state the packet's own place, the number of places in use where it takes one, and the count of packets; of the objects its area.
 use Prim.Native.Nat.{ℕ, _+_, _*_}
 use mathlib.Core.Path.{_≡_}
-use mathlib.Core.Bool.{false}
 use mathlib.Core.Option.{Option, none, some}
 use mathlib.Core.List.{List, [], _∷_}
 use lib.ListN.{length}
 use Rattle.isdb_tlv.specs.Guards.{if_then_else_, _<?_}
 use Rattle.isdb_tlv.specs.Fields.{field, written}
 use Rattle.isdb_mmt.specs.Packet.{Bytes, MpuPacket, media}
-use Rattle.isdb_mmt.specs.Maps.{isSome, orElse}
 use Rattle.isdb_mmt.specs.Objects.{Mfu, Asset, assetAfter}
 use Rattle.isdb_mmt.specs.Model.{assetOf, gives}
 use Rattle.isdb_mmt.specs.Needs.{Needs, needs}
@@ -22,11 +20,8 @@ use Rattle.isdb_mmt.specs.Records.{rowSize, rowsFrom, dataFrom}
 unfoldable pub use Rattle.isdb_mmt.specs.Placing.{noObject, heldFor, firstIn, statsFor, placeFor}
 use Rattle.isdb_mmt.specs.declared.decoder.place.PlaceFor.{PlaceFor}
 use Rattle.isdb_mmt.specs.declared.decoder.place.PlaceFor.the-variants.{Own, Free, NoneFree}
-use Rattle.isdb_mmt.specs.declared.decoder.counts.AssetStats.{AssetStats}
 use Rattle.isdb_mmt.specs.declared.decoder.head.Used.{Used}
 use Rattle.isdb_mmt.specs.declared.decoder.limits.Limits.{Limits}
-use Rattle.isdb_mmt.specs.declared.decoder.media.Object.{Object}
-use Rattle.isdb_mmt.specs.declared.decoder.media.Media.{Media}
 
 -- ---- what is left
 

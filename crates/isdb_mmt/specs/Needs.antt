@@ -1,7 +1,7 @@
 -- What the decoder would need for a packet from a state, with unlimited memory: questions 8, 9 and 10 of a call compare it with
 -- what the session has.
 use Prim.Native.Nat.{ℕ, _+_, _-_, max}
-use mathlib.Core.Bool.{Bool, true, false, cond, _&&_}
+use mathlib.Core.Bool.{cond, _&&_}
 use mathlib.Core.Option.{Option, none, some}
 use mathlib.Core.List.{List, [], _∷_}
 use lib.ListN.{length, drop}
@@ -9,7 +9,7 @@ use Rattle.isdb_mmt.specs.Packet.{Bytes, PayloadUnit, MpuPacket, Message
 use Rattle.isdb_mmt.specs.Maps.{find}
 use Rattle.isdb_mmt.specs.Objects.{Mfu, Asset, UnitEffect, unitEffect, afterUnit, afterHeaders, Rec}
 use Rattle.isdb_mmt.specs.Joins.{PartialMessage, Reassembly, short, flagsOf, partBefore, joinedOn}
-use Rattle.isdb_mmt.specs.Kept.{Section, otherVersion, KeptTables, stored, Table, emptyTable, mptTable, pltTable, totTable, truncatedSection, aSection, otherTable}
+use Rattle.isdb_mmt.specs.Kept.{otherVersion, KeptTables, stored, Table, emptyTable, mptTable, pltTable, totTable, truncatedSection, aSection, otherTable}
 use Rattle.isdb_mmt.specs.GivenTables.{tablesGiven, controlTables}
 use Rattle.isdb_mmt.specs.Model.{State, assetOf, controlOf, reassemblyOf, pushed, gives}
 use Rattle.isdb_mmt.specs.declared.mpu.FragmentationIndicator.{FragmentationIndicator}

@@ -1,12 +1,12 @@
 -- What a push is given, as a value: a packet's kind and bytes, read down to a media payload, a control payload, sections, or
 -- what else the decoder counts. Each reading is that of its own file.
 -- Translated from decoder.rs of isdb-rs (Apache-2.0, see NOTICE) and changed.
-use Prim.Native.Nat.{ℕ, _+_, _*_, _^_}
-use mathlib.Core.Bool.{Bool, true, false, cond}
+use Prim.Native.Nat.{ℕ}
+use mathlib.Core.Bool.{Bool, true, false}
 use mathlib.Core.Option.{Option, none, some}
-use mathlib.Core.List.{List, [], _∷_, map}
-use lib.ListN.{length, getD, take, drop}
-use Rattle.isdb_tlv.specs.Guards.{if_then_else_, _<?_, _≤?_, _=?_}
+use mathlib.Core.List.{List, [], map}
+use lib.ListN.{length, take, drop}
+use Rattle.isdb_tlv.specs.Guards.{if_then_else_, _<?_, _=?_}
 use Rattle.isdb_tlv.specs.Bytes.{be}
 use Rattle.isdb_tlv.specs.Tlv.{packetType}
 use Rattle.isdb_tlv.specs.Ip.{ipv4Of, ipv6Of, compressedOf}
@@ -14,19 +14,15 @@ use Rattle.isdb_tlv.specs.Mmtp.{mmtpOf}
 use Rattle.isdb_tlv.specs.Si.{sectionsOf}
 use Rattle.isdb_tlv.specs.declared.tlv.PacketType.{PacketType}
 use Rattle.isdb_tlv.specs.declared.tlv.PacketType.the-variants.{Ipv4, Ipv6, Compressed, Control, Null, Other}
-use Rattle.isdb_tlv.specs.declared.ip.Flow.{Flow}
 use Rattle.isdb_tlv.specs.declared.ip.MaybeFlow.{MaybeFlow}
 use Rattle.isdb_tlv.specs.declared.ip.MaybeFlow.the-variants.{None as noFlow, Some as someFlow}
-use Rattle.isdb_tlv.specs.declared.ip.Datagram.{Datagram}
 use Rattle.isdb_tlv.specs.declared.ip.IpResult.{IpResult}
 use Rattle.isdb_tlv.specs.declared.ip.IpResult.the-variants.{Ok, Err}
 use Rattle.isdb_tlv.specs.declared.mmtp.PayloadType.{PayloadType}
 use Rattle.isdb_tlv.specs.declared.mmtp.PayloadType.the-variants.{Mpu, GenericObject, Messages, FecRepair, Reserved}
 use Rattle.isdb_tlv.specs.declared.mmtp.Header.{Header}
-use Rattle.isdb_tlv.specs.declared.mmtp.Packet.{Packet as MmtpPacket}
 use Rattle.isdb_tlv.specs.declared.mmtp.Parsed.{Parsed}
 use Rattle.isdb_tlv.specs.declared.mmtp.Parsed.the-variants.{None as notMmtp, Some as someMmtp}
-use Rattle.isdb_tlv.specs.declared.si.Section.{Section as Found}
 use Rattle.isdb_mmt.specs.Part.{partOf}
 use Rattle.isdb_mmt.specs.Mpu.{payloadHeader, declaredOf, unitsOf}
 use Rattle.isdb_mmt.specs.declared.maybe.MaybeU32.{MaybeU32}

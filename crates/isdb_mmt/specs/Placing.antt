@@ -12,7 +12,6 @@ use Rattle.isdb_mmt.specs.Model.{Control as ControlState}
 use Rattle.isdb_mmt.specs.Needs.{partialLength}
 use Rattle.isdb_mmt.specs.Records.{noHeader, objectFor}
 use Rattle.isdb_mmt.specs.declared.decoder.counts.AssetStats.{AssetStats}
-use Rattle.isdb_mmt.specs.declared.decoder.counts.Counters.{Counters}
 use Rattle.isdb_mmt.specs.declared.decoder.head.Latest.{Latest}
 use Rattle.isdb_mmt.specs.declared.decoder.head.Time.{Time}
 use Rattle.isdb_mmt.specs.declared.decoder.media.Object.{Object}

@@ -2,13 +2,13 @@
 -- pushes.
 use Prim.Native.Nat.{ℕ, _+_, _*_, _≤_, _<_}
 use mathlib.Core.Path.{_≡_}
-use mathlib.Core.Bool.{Bool, true, false, not, cond}
+use mathlib.Core.Bool.{Bool, true, false, not}
 use mathlib.Core.List.{List, [], _∷_, _++_, map}
 use lib.ListN.{length}
-use Rattle.isdb_tlv.specs.Guards.{if_then_else_, _<?_, _≤?_, _=?_}
+use Rattle.isdb_tlv.specs.Guards.{if_then_else_, _<?_, _≤?_}
 use Rattle.isdb_mmt.specs.Packet.{Bytes, Packet, classify}
 use Rattle.isdb_mmt.specs.Objects.{Rec}
-use Rattle.isdb_mmt.specs.Model.{State, opened, pushed, gives}
+use Rattle.isdb_mmt.specs.Model.{opened, pushed, gives}
 use Rattle.isdb_mmt.specs.Needs.{Needs, needs}
 use Rattle.isdb_mmt.specs.Demand.{pushAll, giveAll}
 use Rattle.isdb_mmt.specs.Limits.{asked}

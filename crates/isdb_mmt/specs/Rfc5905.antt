@@ -3,7 +3,7 @@ use Prim.Native.Nat.{ℕ, _+_, _*_, _%_, _^_, _<_}
 use mathlib.Core.Path.{_≡_}
 use mathlib.Core.List.{List, [], _∷_}
 use Rattle.isdb_tlv.specs.Bytes.{be}
-use Rattle.isdb_tlv.specs.Fields.{Field, field, written}
+use Rattle.isdb_tlv.specs.Fields.{field, written}
 use Rattle.isdb_mmt.specs.Ntp.{ntpToUnix, Exact}
 
 -- seconds since 1900, 32 bits, and their fraction, 32 bits

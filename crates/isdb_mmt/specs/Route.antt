@@ -1,8 +1,7 @@
 -- Where a packet leads, by its kind and its IP headers: the step from a packet's data to the payload of a layer.
 use Prim.Native.Nat.{ℕ}
-use mathlib.Core.Bool.{cond}
 use mathlib.Core.Option.{Option, none, some}
-use mathlib.Core.List.{List, map}
+use mathlib.Core.List.{map}
 use lib.ListN.{length, take, drop}
 use Rattle.isdb_tlv.specs.Guards.{if_then_else_, _<?_, _=?_}
 use Rattle.isdb_tlv.specs.Bytes.{be}
@@ -15,7 +14,7 @@ use Rattle.isdb_tlv.specs.declared.ip.MaybeFlow.{MaybeFlow}
 use Rattle.isdb_tlv.specs.declared.ip.MaybeFlow.the-variants.{None as noFlow, Some as someFlow}
 use Rattle.isdb_tlv.specs.declared.ip.IpResult.{IpResult}
 use Rattle.isdb_tlv.specs.declared.ip.IpResult.the-variants.{Ok, Err}
-use Rattle.isdb_mmt.specs.Packet.{Bytes, Packet, ipError, ntp, nonMmtp, control, other, mmtpIn}
+use Rattle.isdb_mmt.specs.Packet.{Bytes, Packet, ipError, ntp, control, other, mmtpIn}
 use Rattle.isdb_mmt.specs.declared.maybe.MaybeU64.{MaybeU64}
 use Rattle.isdb_mmt.specs.declared.maybe.MaybeU64.the-variants.{None as noU64, Some as someU64}
 use Rattle.isdb_mmt.specs.declared.decoder.route.Route.{Route}

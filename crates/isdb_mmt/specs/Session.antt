@@ -1,7 +1,6 @@
 -- The session in lent memory: its buffers, and the layout of its state. Every number stands with its high byte first, in as
 -- many bytes as its type has, so that any bytes are some session's.
 use Prim.Native.Nat.{ℕ, _+_, _*_}
-use mathlib.Core.Bool.{Bool}
 use mathlib.Core.List.{List, [], _∷_, _++_}
 use Rattle.isdb_tlv.specs.Bytes.{be}
 use Rattle.isdb_tlv.specs.Fields.{Field, field}

@@ -12,11 +12,9 @@ use Rattle.isdb_tlv.specs.Bytes.{be}
 use Rattle.isdb_mmt.specs.Layout.{mostSections, mostControlIds, mostTableArea, mostCount, tableIds, countersPlace, sectionPlaces, sectionSize, stateSize}
 use Rattle.isdb_mmt.specs.Packet.{Bytes, Packet, control}
 use Rattle.isdb_mmt.specs.Lent.{part, over}
-use Rattle.isdb_mmt.specs.Session.{Session, limitsOf, usedOf, latestOf, countersFields}
+use Rattle.isdb_mmt.specs.Session.{limitsOf, usedOf, latestOf, countersFields}
 use Rattle.isdb_mmt.specs.MediaPush.{withUsed}
 use Rattle.isdb_mmt.specs.Commit.{putTables, loggedFrom, CanStore}
-use Rattle.isdb_mmt.specs.Check.{lengthsOf, Sound}
-use Rattle.isdb_mmt.specs.Push.{mostBytes}
 use Rattle.isdb_mmt.specs.Verdict.{indexSize}
 use Rattle.isdb_mmt.specs.declared.decoder.limits.Limits.{Limits}
 use Rattle.isdb_mmt.specs.declared.decoder.counts.Counters.{Counters}

@@ -1,9 +1,9 @@
 -- What is decided of a table against an index of the kept sections: what it adds to the counts, and what it leaves to do.
 use Prim.Native.Nat.{ℕ, _+_, _*_, _≤_}
 use mathlib.Core.Path.{_≡_}
-use mathlib.Core.Bool.{Bool, true, false, not, cond, _&&_}
-use mathlib.Core.List.{List, [], _∷_, map}
-use lib.ListN.{length, getD, take, drop}
+use mathlib.Core.Bool.{Bool, true, false, not, _&&_}
+use mathlib.Core.List.{List, [], map}
+use lib.ListN.{length, getD}
 use Rattle.isdb_tlv.specs.Guards.{if_then_else_, _=?_, _<?_}
 use Rattle.isdb_mmt.specs.Packet.{Bytes}
 use Rattle.isdb_mmt.specs.Maps.{one}

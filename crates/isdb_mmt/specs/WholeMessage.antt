@@ -10,7 +10,7 @@ use Rattle.isdb_mmt.specs.Packet.{Bytes, MessagePacket}
 use Rattle.isdb_mmt.specs.Joins.{PartialMessage, cutOf}
 use Rattle.isdb_mmt.specs.Kept.{tableRead}
 use Rattle.isdb_mmt.specs.Lent.{part, over}
-use Rattle.isdb_mmt.specs.Session.{Session, limitsOf, usedOf, countersOf}
+use Rattle.isdb_mmt.specs.Session.{Session, limitsOf, usedOf}
 use Rattle.isdb_mmt.specs.Check.{lengthsOf, Sound}
 use Rattle.isdb_mmt.specs.Push.{mostBytes}
 use Rattle.isdb_mmt.specs.Fragments.{noneJoined, flagsIn, controlWith, completes}
@@ -27,7 +27,7 @@ use Rattle.isdb_mmt.specs.declared.decoder.messages.Fate.{Fate}
 use Rattle.isdb_mmt.specs.declared.decoder.messages.Fate.the-variants.{Short, Undivided, First, Orphan, Oversize, Grown, Whole}
 use Rattle.isdb_mmt.specs.declared.decoder.messages.Meeting.{Meeting}
 use Rattle.isdb_mmt.specs.declared.decoder.place.PlaceFor.{PlaceFor}
-use Rattle.isdb_mmt.specs.declared.decoder.place.PlaceFor.the-variants.{Own, Free, NoneFree}
+use Rattle.isdb_mmt.specs.declared.decoder.place.PlaceFor.the-variants.{Own, Free}
 use Rattle.isdb_mmt.specs.declared.decoder.walk.Going.{Going}
 
 -- ---- the message: what was joined before, where it is the last fragment, and the packet's data
