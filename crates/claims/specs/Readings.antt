@@ -2,7 +2,7 @@
 use mathlib.Core.Path.{_≡_, refl}
 use mathlib.Core.Bool.{false}
 use mathlib.Core.List.{[], _∷_, _++_}
-use Rattle.isdb_mmt.specs.Part.{part}
+use Rattle.isdb_mmt.specs.Part.{partAt}
 use Rattle.isdb_mmt.specs.Cases.{ab}
 use Rattle.isdb_mmt.specs.ControlCases.{fragment, firstPart, tableMessage, nit1, nitNext, mpt}
 use Rattle.isdb_mmt.specs.PushCases.{ntp, plt, tot}
@@ -94,7 +94,7 @@ pub held-object : told (heldIn units 0xF100)
       rap = false;
       mfu = someMfu (record { «movie_fragment_sequence_number» = 0; «sample_number» = 0; offset = 0; priority = 0; «dependency_counter» = 0 });
       «item_id» = noU32;
-      bytes = part 2 2;
+      bytes = partAt 2 2;
     }))
 unfolding told
 held-object = refl
@@ -161,18 +161,18 @@ latest-tot = refl
 pub asset-of : told (assetIn mpts 0xF100)
     ≡ asset (theAsset (record {
       «control_id» = 0x8001;
-      mpt = part 64 29;
+      mpt = partAt 64 29;
       «service_id» = someU16 0x0065;
       asset =
           record {
             «identifier_type» = 0;
             «asset_id_scheme» = 0;
-            «asset_id» = part 17 1;
+            «asset_id» = partAt 17 1;
             «asset_type» = 0x68657631;
             «clock_relation» = false;
             locations = 1;
             «locations_start» = 24;
-            descriptors = part 29 0;
+            descriptors = partAt 29 0;
           };
     }))
 unfolding told

@@ -9,7 +9,7 @@ use native.Mathlib.Omega.{arith}
 use lib.ListN.{length}
 use Rattle.isdb_tlv.specs.Fields.{Field, field, written}
 use Rattle.isdb_mmt.specs.Packet.{Bytes, Packet, classify, ipError, ntp, nonMmtp, media, message, control, other}
-use Rattle.isdb_mmt.specs.Joins.{PartialMessage}
+use Rattle.isdb_mmt.specs.Reassembly.{PartialMessage}
 use Rattle.isdb_mmt.specs.Objects.{Mfu, Asset, Rec, assetAfter}
 use Rattle.isdb_mmt.specs.Kept.{Kept}
 use Rattle.isdb_mmt.specs.Model.{State, opened, assetOf, controlOf, pushed, gives}
@@ -22,7 +22,7 @@ use Rattle.isdb_mmt.specs.Check.{mediaIn, controlsIn, sectionsIn, length
 use Rattle.isdb_mmt.specs.View.{assetEntry, controlEntry, sectionEntry, viewBy, view}
 use Rattle.isdb_mmt.specs.Opening.{openedSession}
 use Rattle.isdb_mmt.specs.Octets.{Octets, Lent}
-use Rattle.isdb_mmt.specs.Placing.{placeFor, tableLength, controlFor, latestFor}
+use Rattle.isdb_mmt.specs.PlacesOf.{placeFor, tableLength, controlFor, latestFor}
 use Rattle.isdb_mmt.specs.MediaPush.{heldOver, oneMore, mediaPlaceFor, leavesAt, assetNext, mediaLeaves}
 use Rattle.isdb_mmt.specs.Leaves.{joinedIn, keptPlace, usedFor, withControl, sectionRows, withTime, withCounters, stateOfTables, bytesOver, keptOver, controlLeaves, messageIn, controlPlaceFor, messageAt, messageLeaves, packetLeaves}
 use Rattle.isdb_mmt.specs.Push.{Input, packetOf, asks, Fits, Taken, leavesAll, handed, handedAll, AllTaken, AllBytes, packetsOf, Demand2}

@@ -121,9 +121,9 @@ gone-le : (b : Bool) (h : Option Mfu) → heldLength (cond b none h) ≤ heldLen
 gone-le true h = omega arith
 gone-le false h = omega arith
 
-noted-fits : (area n : ℕ) (a : Asset) (m : MpuPacket) → AssetFits area n a → AssetFits area (n + 1048576) (afterHeaders a m)
+applied-fits : (area n : ℕ) (a : Asset) (m : MpuPacket) → AssetFits area n a → AssetFits area (n + 1048576) (afterHeaders a m)
 unfolding afterHeaders
-noted-fits area n a m h =
+applied-fits area n a m h =
     record {
       held = omega (arith, gone-le (gap (a .number) (m .number)) (a .held), h .held);
       packets = omega (arith, h .packets);
@@ -142,4 +142,4 @@ pub asset-fits : (area n : ℕ) (a : Asset) (m : MpuPacket) → AssetFits area n
 unfolding assetAfter
 asset-fits area n a m h l k =
     asset-more area (n + 1048576 + length (readable m)) (n + mostAdded) (assetAfter a m) (omega arith)
-    (units-fit area m (readable m) (n + 1048576) (afterHeaders a m) (noted-fits area n a m h) k)
+    (units-fit area m (readable m) (n + 1048576) (afterHeaders a m) (applied-fits area n a m h) k)

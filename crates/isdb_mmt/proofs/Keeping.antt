@@ -9,7 +9,7 @@ use lib.Dec.{eqb}
 use mir.Facts.{eqb-no}
 use Rattle.isdb_mmt.specs.Packet.{Bytes, MessagePacket, Packet, ipError, ntp, nonMmtp, media, message, control, other}
 use Rattle.isdb_mmt.specs.Maps.{orElse, find, put}
-use Rattle.isdb_mmt.specs.Joins.{Reassembly, reassemblyAfter}
+use Rattle.isdb_mmt.specs.Reassembly.{Reassembly, reassemblyAfter}
 use Rattle.isdb_mmt.specs.Kept.{Section, sectionOf, Kept, KeptTables, otherVersion, keepIf, keep, keepAll, Table, emptyTable, mptTable, pltTable, totTable, truncatedSection, aSection, otherTable, stored, storedAll}
 use Rattle.isdb_mmt.specs.GivenTables.{tablesGiven, controlTables}
 use Rattle.isdb_mmt.specs.Model.{State, opened, idleControl, controlOf, reassemblyOf, pushed}

@@ -24,7 +24,7 @@ use Rattle.isdb_mmt.specs.Session.{Session, limitsOf, usedOf, latestOf, 
 use Rattle.isdb_mmt.specs.Check.{mediaIn, controlsIn, sectionsIn, lengthsOf, sound, Sound}
 use Rattle.isdb_mmt.specs.View.{view}
 use Rattle.isdb_mmt.specs.Opening.{lent}
-use Rattle.isdb_mmt.specs.Placing.{tableLength, placeFor, heldFor, controlFor, latestFor}
+use Rattle.isdb_mmt.specs.PlacesOf.{tableLength, placeFor, heldFor, controlFor, latestFor}
 use Rattle.isdb_mmt.specs.MediaPush.{heldOver, mediaPlaceFor, leavesAt, assetNext, mediaLeaves}
 use Rattle.isdb_mmt.specs.Leaves.{keptPlace, withTime, withCounters, controlLeaves, messageIn, controlPlaceFor, messageAt, messageLeaves, packetLeaves, joinedIn}
 use Rattle.isdb_mmt.specs.Push.{Fits}

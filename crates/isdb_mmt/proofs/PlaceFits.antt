@@ -17,7 +17,7 @@ use Rattle.isdb_mmt.specs.Packet.{Bytes, PayloadUnit, MpuPacket, readabl
 use Rattle.isdb_mmt.specs.Maps.{find, orElse}
 use Rattle.isdb_mmt.specs.Objects.{Mfu, Asset, fresh, gap, afterUnit, unitEffect, afterUnits, afterHeaders, mpuIn, mpuNumber, mpuAfter, lastIn, rangeAfter, newMpu, assetAfter}
 use Rattle.isdb_mmt.specs.Section.{length12, longSectionOf}
-use Rattle.isdb_mmt.specs.Joins.{PartialMessage, idle}
+use Rattle.isdb_mmt.specs.Reassembly.{PartialMessage, idle}
 use Rattle.isdb_mmt.specs.Kept.{Section, sectionOf, keyOf, versionIn, Kept, otherVersion, keepIf, keep, KeptTables, Table, emptyTable, mptTable, pltTable, totTable, truncatedSection, aSection, otherTable, longTable, tableById, tableRead, latest, mptAfter, mptAfterAll, stored, storedAll}
 use Rattle.isdb_mmt.specs.GivenTables.{controlTables}
 use Rattle.isdb_mmt.specs.Model.{Control, idleControl}
@@ -25,7 +25,7 @@ use Rattle.isdb_mmt.specs.Needs.{heldLength, partialLength, unitsNeed, t
 use Rattle.isdb_mmt.specs.Layout.{mostMfuArea, mostMessageArea, mostTableArea}
 use Rattle.isdb_mmt.specs.Session.{numberFields, objectFields, statsFields, mediaFields, controlFields, sectionFields, latestFields, timeFields, countersFields}
 use Rattle.isdb_mmt.specs.Octets.{Octets}
-use Rattle.isdb_mmt.specs.Placing.{noObject, heldFor, firstIn, placeFor, tableLength, controlFor, sectionFor, latestFor, timeFor}
+use Rattle.isdb_mmt.specs.PlacesOf.{noObject, heldFor, firstIn, placeFor, tableLength, controlFor, sectionFor, latestFor, timeFor}
 use Rattle.isdb_mmt.specs.declared.mpu.PayloadHeader.{PayloadHeader}
 use Rattle.isdb_mmt.specs.declared.table.section.LongSection.{LongSection}
 use Rattle.isdb_mmt.proofs.Every.{Every, every-put}

@@ -16,15 +16,15 @@ use Rattle.isdb_mmt.specs.Objects.{Mfu, Asset, afterUnit, unitEffect, af
 use Rattle.isdb_mmt.specs.View.{given, headerGiven, itemGiven, mfuOf, assetOfPlace}
 use Rattle.isdb_mmt.specs.Records.{hasHeader, headerOr, hasItem, itemOr, objectFor}
 use Rattle.isdb_mmt.specs.MediaPush.{noObject, heldFor, firstIn, placeFor}
-use Rattle.isdb_mmt.specs.Place.{gapIn, lostIn, headerIf, itemIf, tidied, begun, startOf, newIn, jumpIn, seenMpu, lastMpu, firstMpu, completesIn, addsOf, summed, statsAfter, placeAfter}
+use Rattle.isdb_mmt.specs.MediaPlace.{gapIn, lostIn, headerIf, itemIf, normalObject, begun, startOf, newIn, jumpIn, seenMpu, lastMpu, firstMpu, completesIn, addsOf, summed, statsAfter, placeAfter}
 use Rattle.isdb_mmt.specs.declared.mpu.MfuHeader.{MfuHeader}
 use Rattle.isdb_mmt.specs.declared.mpu.PayloadHeader.{PayloadHeader}
 use Rattle.isdb_mmt.specs.declared.mpu.MaybeHeader.{MaybeHeader}
 use Rattle.isdb_mmt.specs.declared.mpu.MaybeHeader.the-variants.{None as noPayload, Some as payload}
 use Rattle.isdb_mmt.specs.declared.decoder.media.Object.{Object}
 use Rattle.isdb_mmt.specs.declared.decoder.media.Media.{Media}
-use Rattle.isdb_mmt.specs.declared.decoder.reassembler.Survey.{Survey}
-use Rattle.isdb_mmt.proofs.Told.{Told}
+use Rattle.isdb_mmt.specs.declared.decoder.reassembler.MediaEffect.{MediaEffect}
+use Rattle.isdb_mmt.proofs.EffectsModelled.{Told}
 
 -- the range ends with the last MPU number
 abbrev pub rangeFor : Option ℕ → ℕ → Option (ℕ × ℕ)
@@ -74,42 +74,42 @@ module _ (p : Media) (b : Bytes) (n : ℕ) where
       (λ t. either (follows (p .sequence) n) (λ x. rw (t, x)) (λ x. rw (t, x)))
       (λ f. rw f)
 
-tidy-header : (t : Bool) (h : MfuHeader) → headerIf t h ≡ headerOr (headerGiven t h)
-tidy-header true h = refl
-tidy-header false h = refl
+normal-header : (t : Bool) (h : MfuHeader) → headerIf t h ≡ headerOr (headerGiven t h)
+normal-header true h = refl
+normal-header false h = refl
 
-tidy-timed : (t : Bool) (h : MfuHeader) → t ≡ hasHeader (headerGiven t h)
-tidy-timed true h = refl
-tidy-timed false h = refl
+normal-timed : (t : Bool) (h : MfuHeader) → t ≡ hasHeader (headerGiven t h)
+normal-timed true h = refl
+normal-timed false h = refl
 
-tidy-item : (t : Bool) (i : ℕ) → itemIf t i ≡ itemOr (itemGiven t i)
-tidy-item true i = refl
-tidy-item false i = refl
+normal-item : (t : Bool) (i : ℕ) → itemIf t i ≡ itemOr (itemGiven t i)
+normal-item true i = refl
+normal-item false i = refl
 
-tidy-has : (t : Bool) (i : ℕ) → t ≡ hasItem (itemGiven t i)
-tidy-has true i = refl
-tidy-has false i = refl
+normal-has : (t : Bool) (i : ℕ) → t ≡ hasItem (itemGiven t i)
+normal-has true i = refl
+normal-has false i = refl
 
-pub tidied-is : (o : Object) (b : Bytes) → length b ≡ o .length → tidied o ≡ objectFor (mfuOf o b)
-unfolding tidied mfuOf
-tidied-is o b e =
+pub normal-is : (o : Object) (b : Bytes) → length b ≡ o .length → normalObject o ≡ objectFor (mfuOf o b)
+unfolding normalObject mfuOf
+normal-is o b e =
     λ i.
     record {
       «mpu_sequence_number» = o .«mpu_sequence_number»;
       rap = o .rap;
-      timed = tidy-timed (o .timed) (o .header) i;
-      header = tidy-header (o .timed) (o .header) i;
-      item = tidy-has (o .item) (o .«item_id») i;
-      «item_id» = tidy-item (o .item) (o .«item_id») i;
+      timed = normal-timed (o .timed) (o .header) i;
+      header = normal-header (o .timed) (o .header) i;
+      item = normal-has (o .item) (o .«item_id») i;
+      «item_id» = normal-item (o .item) (o .«item_id») i;
       length = sym e i;
     }
 
 -- what the units start from
 module _ (p : Media) (b : Bytes) (m : MpuPacket) (long : p .held ≡ true → length b ≡ p .object .length) where
-  starts-by : (x g : Bool) (o : Mfu) → (x ≡ true → tidied (p .object) ≡ objectFor o)
-      → (cond (not x) (begun false noObject 0) (cond g (begun false noObject 1) (begun true (tidied (p .object)) 0)) .held ≡ isSome (cond g none (given x o)))
-      × ((cond (not x) (begun false noObject 0) (cond g (begun false noObject 1) (begun true (tidied (p .object)) 0)) .object ≡ heldFor (cond g none (given x o)))
-      × (cond (not x) (begun false noObject 0) (cond g (begun false noObject 1) (begun true (tidied (p .object)) 0)) .drops ≡ one (g && isSome (given x o))))
+  starts-by : (x g : Bool) (o : Mfu) → (x ≡ true → normalObject (p .object) ≡ objectFor o)
+      → (cond (not x) (begun false noObject 0) (cond g (begun false noObject 1) (begun true (normalObject (p .object)) 0)) .held ≡ isSome (cond g none (given x o)))
+      × ((cond (not x) (begun false noObject 0) (cond g (begun false noObject 1) (begun true (normalObject (p .object)) 0)) .object ≡ heldFor (cond g none (given x o)))
+      × (cond (not x) (begun false noObject 0) (cond g (begun false noObject 1) (begun true (normalObject (p .object)) 0)) .drops ≡ one (g && isSome (given x o))))
   unfolding isSome
   starts-by true true o e = (refl, (refl, refl))
   starts-by true false o e = (refl, (e refl, refl))
@@ -125,7 +125,7 @@ module _ (p : Media) (b : Bytes) (m : MpuPacket) (long : p .held ≡ true → le
   unfolding startOf afterHeaders assetOfPlace
   starts =
       rw (← gap-is p b (m .number))
-      (starts-by (p .held) (gapIn p (m .number)) (mfuOf (p .object) b) (λ t. tidied-is (p .object) b (long t)))
+      (starts-by (p .held) (gapIn p (m .number)) (mfuOf (p .object) b) (λ t. normal-is (p .object) b (long t)))
 
   pub start-held : startOf p (m .number) .held ≡ isSome (afterHeaders asset m .held)
   start-held = starts .0
@@ -222,7 +222,7 @@ module _ (id : ℕ) (p : Media) (b : Bytes) (m : MpuPacket) (long : p .held ≡ 
       ≡ rangeFor (mpuAfter (before .mpu) (mpuIn o)) (firstIn (rangeAfter (newMpu (before .mpu) (mpuIn o)) (before .range) (mpuIn o))))
       (sym eh) (tied-is p b h))
 
-  module _ (bad : Bool) (eb : bad ≡ malformedPayload m) (t : Survey)
+  module _ (bad : Bool) (eb : bad ≡ malformedPayload m) (t : MediaEffect)
       (w : Told m (startOf p (m .number)) (afterHeaders before m) t (readable m)) where
     mfus-after : p .stats .mfus + t .records ≡ assetAfter before m .mfus
     unfolding assetAfter afterHeaders assetOfPlace

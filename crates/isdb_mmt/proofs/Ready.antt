@@ -15,7 +15,7 @@ use Rattle.isdb_mmt.specs.Packet.{Bytes, MpuPacket, MessagePacket, Packe
 use Rattle.isdb_mmt.specs.Maps.{one}
 use Rattle.isdb_mmt.specs.Message.{tablesFrom, aggregatedFrom, contentOf}
 use Rattle.isdb_mmt.specs.Objects.{fresh, gap}
-use Rattle.isdb_mmt.specs.Joins.{PartialMessage, Reassembly, idle, mostMessage, short, flagsOf, partBefore, joinedOn, partAfter, wholeOf, reassemblyAfter, messageCompleted, orphan, oversize, TablesFound, partsOf, tablesIn, tablesOf, tablesOfAll, messagesOf, cutOf, cutOfAll}
+use Rattle.isdb_mmt.specs.Reassembly.{PartialMessage, Reassembly, idle, mostMessage, short, flagsOf, partBefore, joinedOn, partAfter, wholeOf, reassemblyAfter, messageCompleted, orphan, oversize, TablesFound, partsOf, tablesIn, tablesOf, tablesOfAll, messagesOf, cutOf, cutOfAll}
 use Rattle.isdb_mmt.specs.Kept.{zeros, tableRead}
 use Rattle.isdb_mmt.specs.GivenTables.{tablesGiven, controlTables}
 use Rattle.isdb_mmt.specs.Model.{Control, idleControl, State, opened, assetOf, controlOf, reassemblyOf, packetCounted, messageCounted, reassemblyCounted, pushed}

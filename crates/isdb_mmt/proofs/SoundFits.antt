@@ -8,7 +8,7 @@ use lib.ListN.{length, getD}
 use Rattle.isdb_tlv.specs.Fields.{Fit}
 use Rattle.isdb_mmt.specs.Packet.{Bytes, MpuPacket, MessagePacket, Packet, ipError, ntp, nonMmtp, media, message, control, other, classify}
 use Rattle.isdb_mmt.specs.Objects.{Mfu, assetAfter}
-use Rattle.isdb_mmt.specs.Joins.{PartialMessage}
+use Rattle.isdb_mmt.specs.Reassembly.{PartialMessage}
 use Rattle.isdb_mmt.specs.Model.{State, assetOf, pushed, gives}
 use Rattle.isdb_mmt.specs.Needs.{needs}
 use Rattle.isdb_mmt.specs.Lent.{over}
@@ -17,7 +17,7 @@ use Rattle.isdb_mmt.specs.Session.{Session, limitsOf, usedFields, latest
 use Rattle.isdb_mmt.specs.Check.{Sound, lengthsOf}
 use Rattle.isdb_mmt.specs.View.{view}
 use Rattle.isdb_mmt.specs.Octets.{Octets, Lent}
-use Rattle.isdb_mmt.specs.Placing.{placeFor, controlFor, sectionFor, latestFor, timeFor}
+use Rattle.isdb_mmt.specs.PlacesOf.{placeFor, controlFor, sectionFor, latestFor, timeFor}
 use Rattle.isdb_mmt.specs.Records.{rowsFrom, dataFrom, readRows}
 use Rattle.isdb_mmt.specs.declared.decoder.limits.Limits.{Limits}
 use Rattle.isdb_mmt.specs.declared.decoder.head.Used.{Used}
@@ -29,7 +29,7 @@ use Rattle.isdb_mmt.proofs.Ready.{JoinFits}
 use Rattle.isdb_mmt.proofs.RecordRows.{AllFit, rows-back}
 use Rattle.isdb_mmt.proofs.Outs.{HeldOk, PacketOk, packet-ok, gives-fit}
 use Rattle.isdb_mmt.proofs.PlaceFits.{asset-place, TableOk, KeptOk, section-place, latest-place, control-place, counters-place, time-place}
-use Rattle.isdb_mmt.proofs.Storable.{MediaFits, LineFits, Storable, HasAreas, controlAfter, asset-of, asset-next, control-next, counters-next, others-next, storable-view, storable-next}
+use Rattle.isdb_mmt.proofs.Storable.{MediaFits, ReassemblyFits, Storable, HasAreas, controlAfter, asset-of, asset-next, control-next, counters-next, others-next, storable-view, storable-next}
 
 -- ---- bytes of a state
 
@@ -70,8 +70,8 @@ state-octets l n s h =
     record {
       objects = every-mono (MediaFits l n) (λ i a. HeldOctets (a .held)) (λ i a f. held-octets (a .held) (f .1 .held)) (s .assets) (h .assets);
       messages =
-          every-mono (LineFits l) (λ i c. JoinOctets (c .line .part)) (λ i c f. join-octets (l .«message_area») (c .line .part) (f .1 .joins)) (s .controls) (h .controls);
-      mpts = every-mono (LineFits l) (λ i c. TableOctets (c .mpt)) (λ i c f. table-octets (l .«table_area») (c .mpt) (f .1 .mpt)) (s .controls) (h .controls);
+          every-mono (ReassemblyFits l) (λ i c. JoinOctets (c .line .part)) (λ i c f. join-octets (l .«message_area») (c .line .part) (f .1 .joins)) (s .controls) (h .controls);
+      mpts = every-mono (ReassemblyFits l) (λ i c. TableOctets (c .mpt)) (λ i c f. table-octets (l .«table_area») (c .mpt) (f .1 .mpt)) (s .controls) (h .controls);
       plt = table-octets (l .«table_area») (s .store .plt) (h .store .plt);
       tot = table-octets (l .«table_area») (s .store .tot) (h .store .tot);
       sections = every-mono (KeptOk (l .«table_area»)) (λ k x. Octets (x .bytes)) (λ k x f. f .octets) (s .store .kept) (h .store .kept);
@@ -135,7 +135,7 @@ module _ (s : Session) (q : Sound (s .state) (s .others) (lengthsOf s)) (h : Len
   pub every-control-fits : HasAreas l (view s) (classify kind b)
       → Every (λ i c. Fit (controlFields (controlFor i c))) (pushed (view s) (classify kind b) .controls)
   every-control-fits a =
-      every-mono (LineFits l) (λ i c. Fit (controlFields (controlFor i c)))
+      every-mono (ReassemblyFits l) (λ i c. Fit (controlFields (controlFor i c)))
       (λ i c f.
       control-place (l .«message_area») (l .«table_area») i c (omega (arith, in-order .ranges .message)) (omega (arith, in-order .ranges .table)) (f .0) (f .1))
       (pushed (view s) (classify kind b) .controls) (storable-next s kind b q h short o a .controls)

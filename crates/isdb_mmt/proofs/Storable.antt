@@ -10,7 +10,7 @@ use native.Mathlib.Omega.{arith}
 use lib.ListN.{length, getD, drop, length-take}
 use Rattle.isdb_mmt.specs.Packet.{Bytes, MpuPacket, MessagePacket, Packet, ipError, ntp, nonMmtp, media, message, control, other, classify}
 use Rattle.isdb_mmt.specs.Objects.{Mfu, Asset, fresh, assetAfter}
-use Rattle.isdb_mmt.specs.Joins.{PartialMessage, mostMessage, reassemblyAfter, messageCompleted, cutOfAll}
+use Rattle.isdb_mmt.specs.Reassembly.{PartialMessage, mostMessage, reassemblyAfter, messageCompleted, cutOfAll}
 use Rattle.isdb_mmt.specs.Kept.{tableRead, mptAfterAll}
 use Rattle.isdb_mmt.specs.GivenTables.{tablesGiven, controlTables}
 use Rattle.isdb_mmt.specs.Model.{State, Control as ControlState, idleControl, assetOf, controlOf, reassemblyOf, packetCounted, timeAfter, pushed}
@@ -21,7 +21,7 @@ use Rattle.isdb_mmt.specs.Session.{Session, limitsOf, usedOf, latestOf, 
 use Rattle.isdb_mmt.specs.Check.{statsCounts, packetCounts, tableCounts, mediaSound, controlSound, sectionSound, mediaIn, controlsIn, sectionsIn, Sound, lengthsOf}
 use Rattle.isdb_mmt.specs.View.{given, headerGiven, itemGiven, mfuOf, assetOfPlace, controlStateOf, assetEntry, controlEntry, sectionEntry, viewBy, view}
 use Rattle.isdb_mmt.specs.Octets.{Octets, Lent}
-use Rattle.isdb_mmt.specs.Placing.{firstIn}
+use Rattle.isdb_mmt.specs.PlacesOf.{firstIn}
 use Rattle.isdb_mmt.specs.declared.mpu.MfuHeader.{MfuHeader}
 use Rattle.isdb_mmt.specs.declared.decoder.limits.Limits.{Limits}
 use Rattle.isdb_mmt.proofs.Checks.{media-was, control-was, section-was, count-was}
@@ -39,13 +39,13 @@ use Rattle.isdb_mmt.proofs.PlaceFits.{NumberOk, AssetOk, fresh-ok, asse
 abbrev pub MediaFits : Limits → ℕ → ℕ → Asset → Type 0
 MediaFits l n i a = (i < 4294967296) × AssetOk (l .«mfu_area») n a
 
-abbrev pub LineFits : Limits → ℕ → ControlState → Type 0
-LineFits l i c = (i < 4294967296) × ControlOk (l .«message_area») (l .«table_area») c
+abbrev pub ReassemblyFits : Limits → ℕ → ControlState → Type 0
+ReassemblyFits l i c = (i < 4294967296) × ControlOk (l .«message_area») (l .«table_area») c
 
 -- `n` is the most of a count
 pub record Storable (l : Limits) (n : ℕ) (s : State) : Type 0 where
   pub assets : Every (MediaFits l n) (s .assets)
-  pub controls : Every (LineFits l) (s .controls)
+  pub controls : Every (ReassemblyFits l) (s .controls)
   pub store : StoreOk (l .«table_area») n (s .store)
   pub time : TimeOk (s .time)
   pub counters : CountersFit n n n (s .counters)
@@ -93,9 +93,9 @@ module _ (l : Limits) (n : ℕ) (s : State) (h : Storable l n s) where
   unfolding assetOf
   asset-of i q = every-found (MediaFits l n) fresh i (q, fresh-ok (l .«mfu_area») n) (s .assets) (h .assets)
 
-  pub control-of : (i : ℕ) → i < 4294967296 → LineFits l i (controlOf i s)
+  pub control-of : (i : ℕ) → i < 4294967296 → ReassemblyFits l i (controlOf i s)
   unfolding controlOf
-  control-of i q = every-found (LineFits l) idleControl i (q, idle-ok (l .«message_area») (l .«table_area»)) (s .controls) (h .controls)
+  control-of i q = every-found (ReassemblyFits l) idleControl i (q, idle-ok (l .«message_area») (l .«table_area»)) (s .controls) (h .controls)
 
   pub asset-next : (m : MpuPacket) → MediaOk m → Plain (media m) → needs s (media m) .object ≤ l .«mfu_area»
       → MediaFits l (n + mostAdded) (m .id) (assetAfter (assetOf (m .id) s) m)
@@ -110,7 +110,7 @@ module _ (l : Limits) (n : ℕ) (s : State) (h : Storable l n s) where
       given-cut (messageCompleted (reassemblyOf (c .id) s) c)
       (gives-fits (l .«message_area») (reassemblyOf (c .id) s) c (control-of (c .id) (omega (arith, o .0)) .1 .joins) (q .0) (q .1))
 
-  pub control-next : (c : MessagePacket) → PacketOk (message c) → Plain (message c) → HasAreas l s (message c) → LineFits l (c .id) (controlAfter s c)
+  pub control-next : (c : MessagePacket) → PacketOk (message c) → Plain (message c) → HasAreas l s (message c) → ReassemblyFits l (c .id) (controlAfter s c)
   unfolding needs tablesGiven reassemblyAfter
   control-next c o q a =
       let i : c .id < 4294967296 = omega (arith, o .0) in
@@ -197,7 +197,7 @@ module _ (l : Limits) (n : ℕ) (s : State) (h : Storable l n s) where
       let many = length-map bs in
       record {
         assets = others-fit;
-        controls = every-put (LineFits l) (c .id) _ (control-next c o q a) (s .controls) (h .controls);
+        controls = every-put (ReassemblyFits l) (c .id) _ (control-next c o q a) (s .controls) (h .controls);
         store =
             store-ok-more (l .«table_area») (n + length (map tableRead bs)) (n + mostAdded) _ (omega (arith, many, g .many))
             (stores-ok (l .«table_area») (map tableRead bs) n (s .store) (h .store) (tables-ok bs (g .octets)) (a .table));
@@ -341,7 +341,7 @@ module _ (l : Limits) (s : Session) (h : Lent s) where
       )
 
   control-view : (i : ℕ) (p : Bytes) → Octets p → controlSound l (controlPlaceOf p) ≡ true
-      → LineFits l (controlEntry l s i (controlPlaceOf p) .0) (controlEntry l s i (controlPlaceOf p) .1)
+      → ReassemblyFits l (controlEntry l s i (controlPlaceOf p) .0) (controlEntry l s i (controlPlaceOf p) .1)
   unfolding controlPlaceOf controlStateOf
   control-view i p o e =
       let c = controlPlaceOf p in
@@ -385,7 +385,7 @@ storable-view s q h =
           places-all mediaPlaceOf (assetEntry l s) (mediaSound l) (MediaFits l mostCount) mediaSize (s .state) (h .state) (media-view l s h)
           (u .«media_ids») mediaPlaces 0 (q .objects);
       controls =
-          places-all controlPlaceOf (controlEntry l s) (controlSound l) (LineFits l) controlSize (s .state) (h .state) (control-view l s h)
+          places-all controlPlaceOf (controlEntry l s) (controlSound l) (ReassemblyFits l) controlSize (s .state) (h .state) (control-view l s h)
           (u .«control_ids») controlPlaces 0 (q .messages);
       store =
           record {

@@ -19,7 +19,7 @@ use Rattle.isdb_tlv.specs.declared.ip.IpResult.{IpResult}
 use Rattle.isdb_tlv.specs.declared.ip.IpResult.the-variants.{Err}
 use Rattle.isdb_mmt.specs.declared.desc.Descriptor.{Descriptor}
 use Rattle.isdb_mmt.specs.declared.desc.Descriptor.the-variants.{StreamIdentifier, Other}
-use Rattle.isdb_mmt.specs.Part.{part, partOf}
+use Rattle.isdb_mmt.specs.Part.{partAt, partOf}
 use Rattle.isdb_mmt.specs.Desc.{lengthWidth, stepAt, splitFrom, splitOf, streamIdentifier, descriptorOf, descriptorsOf}
 use Rattle.isdb_mmt.specs.Mpu.{fragmentType, indicator, payloadHeader, unitIn, unitAt, unitStep, unitsFrom, unitsOf, follows, lostFrom}
 use Rattle.isdb_mmt.specs.Section.{longSectionOf, entryAt, entriesFrom, entriesTold}
@@ -30,7 +30,7 @@ use Rattle.isdb_mmt.specs.Message.{divisionOf, paTables, sectionTable, c
 use Rattle.isdb_mmt.specs.Packet.{Bytes, mediaOf, clear, readable, classify}
 use Rattle.isdb_mmt.specs.Maps.{find, put, orElse, isSome}
 use Rattle.isdb_mmt.specs.Objects.{Asset, Rec, fresh, gap, lostBy, grown, continued, effectOf, afterUnit, objectOf, unitEffect, afterUnits, deliveredBy, newMpu, jumped, mpuAfter, rangeAfter, malformedPayload, afterHeaders, assetAfter, tagged, passes, mediaGives}
-use Rattle.isdb_mmt.specs.Joins.{PartialMessage, idle, partBefore, joinedOn, partAfter, wholeOf, reassemblyAfter, messageCompleted, orphan, oversize, tablesOf, tablesOfAll, messagesOf, cutOf, cutOfAll}
+use Rattle.isdb_mmt.specs.Reassembly.{PartialMessage, idle, partBefore, joinedOn, partAfter, wholeOf, reassemblyAfter, messageCompleted, orphan, oversize, tablesOf, tablesOfAll, messagesOf, cutOf, cutOfAll}
 use Rattle.isdb_mmt.specs.Kept.{bodyRead, sectionOf, otherVersion, keepIf, keep, keepAll, zeros, tableCounted, sectionIncrements, tableById, tableRead, tableIncrements, mptAfter, mptAfterAll, stored, storedAll, countedAll}
 use Rattle.isdb_mmt.specs.GivenTables.{tablesGiven}
 use Rattle.isdb_mmt.specs.Model.{State, Control, opened, idleControl, assetOf, controlOf, packetCounted, messageCounted, reassemblyCounted, timeAfter, pushed, gives}
@@ -40,7 +40,7 @@ use Rattle.isdb_mmt.specs.declared.maybe.MaybeU32.the-variants.{None as 
 use Rattle.isdb_mmt.specs.declared.mpu.MfuHeader.{MfuHeader}
 use Rattle.isdb_mmt.specs.declared.mpu.MaybeMfu.{MaybeMfu}
 use Rattle.isdb_mmt.specs.declared.mpu.MaybeMfu.the-variants.{None as noMfu, Some as someMfu}
-use Rattle.isdb_mmt.specs.Demand.{Feed, packetsOf, pushAll, giveAll, bytesOf as heldBytes}
+use Rattle.isdb_mmt.specs.Demand.{Feed, packetsOf, pushAll, giveAll, heldBytes}
 
 -- what a feed leaves of the media id F100h: packets, lost, scrambled, MPUs, malformed, objects delivered, dropped, the held one
 pub record Left : Type 0 where
@@ -226,7 +226,7 @@ cases =
     ∷ (widthOf 0xEFFF ⇒ width 1)
     ∷ (widthOf 0xF000 ⇒ width 2)
     ∷ (decodedOf (0x80 ∷ 0x11 ∷ 0x02 ∷ 0x00 ∷ 0x10 ∷ []) ⇒ decoded (StreamIdentifier 16 ∷ []))
-    ∷ (decodedOf (0x80 ∷ 0x11 ∷ 0x01 ∷ 0x00 ∷ []) ⇒ decoded (Other 0x8011 (part 0 1) ∷ []))
+    ∷ (decodedOf (0x80 ∷ 0x11 ∷ 0x01 ∷ 0x00 ∷ []) ⇒ decoded (Other 0x8011 (partAt 0 1) ∷ []))
     ∷ (bodiesOf (0x80 ∷ 0x11 ∷ 0x01 ∷ 0x00 ∷ []) ⇒ bodies ((0x00 ∷ []) ∷ []))
     -- a header type that is not known
     ∷ (readAs (0x00 ∷ 0x10 ∷ 0x62 ∷ []) ⇒ ip (Err (HeaderType 0x62)))

@@ -21,12 +21,12 @@ unfoldable pub giveAll : State → List Packet → List Rec
 giveAll s [] = []
 giveAll s (p ∷ ps) = gives s p ++ giveAll (pushed s p) ps
 
-unfoldable pub bytesOf : Option Mfu → Option Bytes
-bytesOf none = none
-bytesOf (some h) = some (h .bytes)
+unfoldable pub heldBytes : Option Mfu → Option Bytes
+heldBytes none = none
+heldBytes (some h) = some (h .bytes)
 
 abbrev pub heldOf : ℕ → State → Option Bytes
-heldOf i s = bytesOf (assetOf i s .held)
+heldOf i s = heldBytes (assetOf i s .held)
 
 abbrev pub droppedOf : ℕ → State → ℕ
 droppedOf i s = assetOf i s .dropped

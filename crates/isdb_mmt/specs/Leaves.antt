@@ -9,7 +9,7 @@ use lib.ListN.{length}
 use Rattle.isdb_tlv.specs.Fields.{written}
 use Rattle.isdb_mmt.specs.declared.decoder.counts.Counters.{Counters}
 use Rattle.isdb_mmt.specs.Packet.{Bytes, MessagePacket, Packet, ipError, ntp, nonMmtp, media, message, control, other}
-use Rattle.isdb_mmt.specs.Joins.{PartialMessage}
+use Rattle.isdb_mmt.specs.Reassembly.{PartialMessage}
 use Rattle.isdb_mmt.specs.Kept.{Kept, KeptTables}
 use Rattle.isdb_mmt.specs.Model.{State, Control as ControlState, controlOf, pushed}
 use Rattle.isdb_mmt.specs.Lent.{over, namesFrom, placeForName}
@@ -17,7 +17,7 @@ use Rattle.isdb_mmt.specs.Layout.{latestPlace, timePlace, countersPlace,
 use Rattle.isdb_mmt.specs.Session.{Session, limitsOf, usedOf, latestFields, timeFields, countersFields, controlFields, sectionFields}
 use Rattle.isdb_mmt.specs.View.{view}
 use Rattle.isdb_mmt.specs.Opening.{lent}
-use Rattle.isdb_mmt.specs.Placing.{controlFor, sectionFor, latestFor}
+use Rattle.isdb_mmt.specs.PlacesOf.{controlFor, sectionFor, latestFor}
 use Rattle.isdb_mmt.specs.MediaPush.{withUsed, mediaLeaves}
 use Rattle.isdb_mmt.specs.declared.decoder.place.PlaceFor.{PlaceFor}
 use Rattle.isdb_mmt.specs.declared.decoder.place.PlaceFor.the-variants.{Own, Free, NoneFree}

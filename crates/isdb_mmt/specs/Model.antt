@@ -9,7 +9,7 @@ use Rattle.isdb_mmt.specs.declared.decoder.counts.Counters.{Counters}
 use Rattle.isdb_mmt.specs.Packet.{Bytes, MessagePacket, Packet, ipError, ntp, nonMmtp, media, message, control, other}
 use Rattle.isdb_mmt.specs.Maps.{find, put, orElse, one}
 use Rattle.isdb_mmt.specs.Objects.{fresh, assetAfter, mediaGives, Asset, Rec}
-use Rattle.isdb_mmt.specs.Joins.{idle, reassemblyAfter, messageCompleted, orphan, oversize, cutOfAll, short, Reassembly}
+use Rattle.isdb_mmt.specs.Reassembly.{idle, reassemblyAfter, messageCompleted, orphan, oversize, cutOfAll, short, Reassembly}
 use Rattle.isdb_mmt.specs.Kept.{zeros, mptAfterAll, storedAll, countedAll, KeptTables}
 use Rattle.isdb_mmt.specs.GivenTables.{tablesGiven, controlTables}
 

@@ -10,14 +10,14 @@ use Rattle.isdb_mmt.specs.Packet.{Bytes}
 use Rattle.isdb_mmt.specs.Part.{partOf}
 use Rattle.isdb_mmt.specs.Maps.{find}
 use Rattle.isdb_mmt.specs.Objects.{Mfu, Asset}
-use Rattle.isdb_mmt.specs.Joins.{PartialMessage}
+use Rattle.isdb_mmt.specs.Reassembly.{PartialMessage}
 use Rattle.isdb_mmt.specs.Model.{Control as ControlLine}
 use Rattle.isdb_mmt.specs.Lent.{among}
 use Rattle.isdb_mmt.specs.Octets.{Octets}
 use Rattle.isdb_mmt.specs.Session.{Session}
 use Rattle.isdb_mmt.specs.Check.{sound}
 use Rattle.isdb_mmt.specs.View.{view}
-use Rattle.isdb_mmt.specs.Placing.{statsFor}
+use Rattle.isdb_mmt.specs.PlacesOf.{statsFor}
 use Rattle.isdb_mmt.specs.Readings.{mediaNames, controlNames, keysIn, countersRead, timeRead, countRead, mostName, ascending, nextMediaRead, nextControlRead, nextKeyRead, mediaRead, heldRead, controlRead}
 use Rattle.isdb_mmt.specs.declared.maybe.MaybeU32.{MaybeU32}
 use Rattle.isdb_mmt.specs.declared.maybe.MaybeU32.the-variants.{None as noU32, Some as someU32}
