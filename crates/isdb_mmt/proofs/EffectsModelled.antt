@@ -129,8 +129,8 @@ module _ (t : MediaEffect) (u : DataUnit) (g : Mfu) (mpu : ℕ) (rap : Bool) (eg
 pub record Told (m : MpuPacket) (t : MediaEffect) (a : Asset) (r : MediaEffect) (us : List PayloadUnit) : Type 0 where
   pub held : r .held ≡ isSome (afterUnits m a us .held)
   pub object : r .object ≡ heldFor (afterUnits m a us .held)
-  pub drops : a .dropped + r .drops ≡ t .drops + afterUnits m a us .dropped
-  pub mfus : a .mfus + r .records ≡ t .records + afterUnits m a us .mfus
+  pub drops : a .stats .«mfus_dropped» + r .drops ≡ t .drops + afterUnits m a us .stats .«mfus_dropped»
+  pub mfus : a .stats .mfus + r .records ≡ t .records + afterUnits m a us .stats .mfus
   pub records : r .records ≡ t .records + length (deliveredBy m a us)
   pub bytes : r .bytes ≡ t .bytes + bytesIn (deliveredBy m a us)
   pub longest : r .longest ≡ max (t .longest) (unitsNeed m a us)
@@ -154,11 +154,11 @@ module _ (m : MpuPacket) (h : PayloadHeader) (q : List ℕ) where
   unfolding afterUnit
   held-did a d = refl
 
-  dropped-is : (a : Asset) (d : UnitEffect) → afterUnit a d .dropped ≡ a .dropped + d .drops
+  dropped-is : (a : Asset) (d : UnitEffect) → afterUnit a d .stats .«mfus_dropped» ≡ a .stats .«mfus_dropped» + d .drops
   unfolding afterUnit
   dropped-is a d = refl
 
-  mfus-is : (a : Asset) (d : UnitEffect) → afterUnit a d .mfus ≡ a .mfus + length (d .outs)
+  mfus-is : (a : Asset) (d : UnitEffect) → afterUnit a d .stats .mfus ≡ a .stats .mfus + length (d .outs)
   unfolding afterUnit
   mfus-is a d = refl
 
@@ -175,8 +175,8 @@ module _ (m : MpuPacket) (h : PayloadHeader) (q : List ℕ) where
       let a1 : Asset = afterUnit a d in
       let r : MediaEffect = withEachUnit (h .fragmentation) (mpuNumber (m .header)) (m .rap) q t1 us in
       let w : Told m t1 a1 r (map (payloadUnit h q) us) = effect-told us t1 a1 (s .held ∙ held-did a d) (s .object ∙ ap heldFor (held-is a d)) in
-      let da : a1 .dropped ≡ a .dropped + d .drops = dropped-is a d in
-      let ma : a1 .mfus ≡ a .mfus + length (d .outs) = mfus-is a d in
+      let da : a1 .stats .«mfus_dropped» ≡ a .stats .«mfus_dropped» + d .drops = dropped-is a d in
+      let ma : a1 .stats .mfus ≡ a .stats .mfus + length (d .outs) = mfus-is a d in
       record {
         held = w .held;
         object = w .object;

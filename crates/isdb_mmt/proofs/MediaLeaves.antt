@@ -204,15 +204,7 @@ place-back id a b t e =
       mpu = given-back (a .mpu) i;
       held = held-back (a .held) b e i;
       range = er i;
-      packets = a .packets;
-      lost = a .lost;
-      scrambled = a .scrambled;
-      mfus = a .mfus;
-      scrambledMfus = a .scrambledMfus;
-      dropped = a .dropped;
-      mpus = a .mpus;
-      jumps = a .jumps;
-      malformed = a .malformed;
+      stats = a .stats;
     }
 
 -- of a place without an object, the bytes do not matter

@@ -18,7 +18,7 @@ use Rattle.isdb_mmt.specs.Layout.{mostCount}
 use Rattle.isdb_mmt.specs.View.{assetOfPlace}
 use Rattle.isdb_mmt.specs.MediaPush.{noObject, heldFor, placeFor}
 use Rattle.isdb_mmt.specs.MediaEffect.{withEachUnit, unitsEffect, Roomy, Ready}
-use Rattle.isdb_mmt.specs.MediaPlace.{gapIn, lostIn, normalObject, begun, startOf, newIn, jumpIn, completesIn, addsOf, placeAfter, Steps}
+use Rattle.isdb_mmt.specs.MediaPlace.{gapIn, lostIn, normalObject, begun, startOf, newIn, jumpIn, completesIn, addsOf, placeAfter, StatsWithin}
 use Rattle.isdb_mmt.specs.MediaOutcome.{outcomeWith, outcomeOfUnits, unitsOutcome, outcomeBy, mediaOutcome, CanReadUnits}
 use Rattle.isdb_mmt.specs.MediaCommit.{Small}
 use Rattle.isdb_mmt.specs.declared.mpu.FragmentType.{FragmentType}
@@ -145,7 +145,7 @@ outcome-small p n scrambled rap b r can e =
     let w : Roomy (r .units) 65537 = subst (λ (x : MediaOutcome). Roomy (x .units) 65537) (sym e) s in
     record { drops = omega (arith, w .drops); records = w .records; bytes = omega (arith, w .bytes) }
 
-pub sum-fits : (n x : ℕ) → n ≤ mostCount → x < 4294967296 → Fits w64 (n + x)
+pub sum-fits : (n x : ℕ) → n ≤ mostCount → x ≤ 4294967295 → Fits w64 (n + x)
 sum-fits n x h k = record { fits = omega arith }
 
 pub adds-made : (p : Media) (n : ℕ) (scrambled bad : Bool) (h : MaybeHeader) (t : MediaEffect) (l o1 o2 o3 o4 o5 : ℕ) (b1 b2 b3 b4 : Bool)
@@ -167,18 +167,18 @@ adds-made p n scrambled bad h t l o1 o2 o3 o4 o5 b1 b2 b3 b4 el e1 eb1 eb2 e2 eb
     rw (el, e1, e2, eb2, eb1, e3, eb3, e4, eb4, e5)
 
 pub adds-small : (p : Media) (n : ℕ) (scrambled bad : Bool) (h : MaybeHeader) (t : MediaEffect) (d : AssetStats) → d ≡ addsOf p n scrambled h bad t
-    → t .records < 4294967296 → t .drops < 4294967296 → Steps d
+    → t .records < 4294967296 → t .drops < 4294967296 → StatsWithin 4294967295 d
 unfolding addsOf lostIn lostFrom
 adds-small p n scrambled bad h t d e r o =
     let l : lostIn p n ≤ 1048576 = either (gapIn p n) (λ x. rw x (omega arith)) (λ x. rw x (omega arith)) in
-    subst (λ (s : AssetStats). Steps s) (sym e)
+    subst (λ (s : AssetStats). StatsWithin 4294967295 s) (sym e)
     (record {
       packets = omega arith;
       lost = omega arith;
       scrambled = omega (arith, one-le scrambled);
-      mfus = r;
+      mfus = omega (arith, r);
       scrambledMfus = omega (arith, one-le (scrambled && completesIn h));
-      dropped = o;
+      dropped = omega (arith, o);
       mpus = omega (arith, one-le (newIn p h));
       jumps = omega (arith, one-le (jumpIn p h));
       malformed = omega (arith, one-le bad);

@@ -20,7 +20,7 @@ use Rattle.isdb_mmt.specs.Mpu.{payloadHeader}
 use Rattle.isdb_mmt.specs.Objects.{Asset, Rec, fresh, afterHeaders, assetAfter, passes, mediaGives}
 use Rattle.isdb_mmt.specs.Model.{assetOf, gives}
 use Rattle.isdb_mmt.specs.Needs.{dataOf, needs}
-use Rattle.isdb_mmt.specs.Layout.{mostMediaIds, mostMfuArea, mediaPlaces, mediaSize}
+use Rattle.isdb_mmt.specs.Layout.{mostCount, mostMediaIds, mostMfuArea, mediaPlaces, mediaSize}
 use Rattle.isdb_mmt.specs.Lent.{part, over, placesFrom, namesFrom, foundFrom, every}
 use Rattle.isdb_mmt.specs.Session.{Session, limitsOf, usedOf, countersOf, mediaPlaceOf, mediaAt}
 use Rattle.isdb_mmt.specs.Check.{mediaIn, mediaSound, countFits, statsCounts, packetCounts, lengthsOf, Sound}
@@ -28,7 +28,7 @@ use Rattle.isdb_mmt.specs.View.{assetOfPlace, assetEntry, viewBy, view}
 use Rattle.isdb_mmt.specs.Opening.{lent}
 use Rattle.isdb_mmt.specs.Records.{rowSize, rowsFrom, dataFrom}
 use Rattle.isdb_mmt.specs.MediaPush.{placeFor, heldOver, mediaPlaceFor, assetNext, leavesAt, mediaLeaves, mediaAsks, MediaPushed}
-use Rattle.isdb_mmt.specs.MediaPlace.{startOf, placeAfter, Modest}
+use Rattle.isdb_mmt.specs.MediaPlace.{startOf, placeAfter, StatsWithin}
 use Rattle.isdb_mmt.specs.MediaOutcome.{mediaOutcome, CanReadUnits}
 use Rattle.isdb_mmt.specs.MediaCommit.{CanTakePlace, blank, placeIn, indexOf, passesOn, recordsHanded, bytesHanded, fitsNumber, numberOf, refused, accepted, answerBy, answerOf, Small, startsFrom, givesFrom, CanCommit, Committed, stateAfter, CanCommitAll, CommittedAll, CanPushMedia}
 use Rattle.isdb_mmt.specs.declared.decoder.place.Found.the-variants.{At, Nothing}
@@ -70,7 +70,7 @@ module _ (l : Limits) (place-for : PlaceFor) (p : Media) (r : MediaOutcome) (h :
     all-done objects′ rows′ bytes′ w m em state′ es =
         record { commit = rw ei at w; store = es ∙ ap (λ (x : Media). stateAfter state x place-for) em }
 
-  pub all-steps : Modest (p .stats) × ((r .units .records < 4294967296) × (r .units .drops < 4294967296))
+  pub all-steps : StatsWithin mostCount (p .stats) × ((r .units .records < 4294967296) × (r .units .drops < 4294967296))
   all-steps =
       let s = outcome-small p (h .sequence) (h .«scramble_info») (h .rap) b r (can .commit .can) (can .commit .look) in
       (can .modest, (omega (arith, s .records), omega (arith, s .drops)))
@@ -86,7 +86,7 @@ place-at f (suc n) size at l (suc i) d h =
     let z : at + size * suc i ≡ at + size + size * i = rw mul-suc (omega arith) in
     rw z (place-at f n size (at + size) l i d (omega arith))
 
-pub modest-was : (s : AssetStats) → every countFits (statsCounts s) ≡ true → Modest s
+pub modest-was : (s : AssetStats) → every countFits (statsCounts s) ≡ true → StatsWithin mostCount s
 modest-was s e =
     record {
       packets = count-was (statsCounts s) 0 e;
@@ -108,7 +108,7 @@ blank-fresh b = refl
 pub record Begins (s : Session) (id : ℕ) (place-for : PlaceFor) (p : Media) : Type 0 where
   pub is : assetOf id (view s) ≡ startsFrom (indexOf place-for * limitsOf (s .state) .«mfu_area») p (s .objects)
   pub held : p .held ≡ true → p .object .length ≤ limitsOf (s .state) .«mfu_area»
-  pub modest : Modest (p .stats)
+  pub modest : StatsWithin mostCount (p .stats)
 
 module _ (s : Session) (ok : Sound (s .state) (s .others) (lengthsOf s)) (id : ℕ) where
   abbrev names : List ℕ

@@ -143,18 +143,18 @@ asset-place area n id a w c i h =
       ),
     ) in
     let stats : Fit (statsFields (p .stats)) = (
-      omega (arith, k .packets),
+      omega (arith, k .counts .packets),
       (
-        omega (arith, k .lost),
+        omega (arith, k .counts .lost),
         (
-          omega (arith, k .scrambled),
+          omega (arith, k .counts .scrambled),
           (
-            omega (arith, k .mfus),
+            omega (arith, k .counts .mfus),
             (
-              omega (arith, k .scrambledMfus),
+              omega (arith, k .counts .scrambledMfus),
               (
-                omega (arith, k .dropped),
-                (omega (arith, k .mpus), (omega (arith, k .jumps), (omega (arith, k .malformed), tt))),
+                omega (arith, k .counts .dropped),
+                (omega (arith, k .counts .mpus), (omega (arith, k .counts .jumps), (omega (arith, k .counts .malformed), tt))),
               ),
             ),
           ),

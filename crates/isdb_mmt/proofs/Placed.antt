@@ -43,19 +43,22 @@ withUnits a h mfus dropped =
       mpu = a .mpu;
       held = h;
       range = a .range;
-      packets = a .packets;
-      lost = a .lost;
-      scrambled = a .scrambled;
-      mfus = mfus;
-      scrambledMfus = a .scrambledMfus;
-      dropped = dropped;
-      mpus = a .mpus;
-      jumps = a .jumps;
-      malformed = a .malformed;
+      stats =
+          record {
+            packets = a .stats .packets;
+            «packets_lost» = a .stats .«packets_lost»;
+            «scrambled_packets» = a .stats .«scrambled_packets»;
+            mfus = mfus;
+            «scrambled_mfus» = a .stats .«scrambled_mfus»;
+            «mfus_dropped» = dropped;
+            mpus = a .stats .mpus;
+            «mpu_sequence_jumps» = a .stats .«mpu_sequence_jumps»;
+            malformed = a .stats .malformed;
+          };
     }
 
 pub units-keep : (m : MpuPacket) (us : List PayloadUnit) (a : Asset)
-    → afterUnits m a us ≡ withUnits a (afterUnits m a us .held) (afterUnits m a us .mfus) (afterUnits m a us .dropped)
+    → afterUnits m a us ≡ withUnits a (afterUnits m a us .held) (afterUnits m a us .stats .mfus) (afterUnits m a us .stats .«mfus_dropped»)
 unfolding afterUnits afterUnit
 units-keep m [] a = refl
 units-keep m (u ∷ us) a = units-keep m us (afterUnit a (unitEffect m a u))
@@ -133,7 +136,7 @@ module _ (p : Media) (b : Bytes) (m : MpuPacket) (long : p .held ≡ true → le
   pub start-object : startOf p (m .number) .object ≡ heldFor (afterHeaders asset m .held)
   start-object = starts .1 .0
 
-  start-drops : startOf p (m .number) .drops + asset .dropped ≡ afterHeaders asset m .dropped
+  start-drops : startOf p (m .number) .drops + asset .stats .«mfus_dropped» ≡ afterHeaders asset m .stats .«mfus_dropped»
   unfolding afterHeaders
   start-drops = rw (starts .1 .1) (omega arith)
 
@@ -196,11 +199,11 @@ completes-is : (h : MaybeHeader) → completesIn h ≡ completes (headerIn h)
 completes-is noPayload = refl
 completes-is (payload h) = refl
 
-dropped-of : (p : Media) (b : Bytes) → assetOfPlace p b .dropped ≡ p .stats .«mfus_dropped»
+dropped-of : (p : Media) (b : Bytes) → assetOfPlace p b .stats .«mfus_dropped» ≡ p .stats .«mfus_dropped»
 unfolding assetOfPlace
 dropped-of p b = refl
 
-after-dropped : (a : Asset) (m : MpuPacket) → assetAfter a m .dropped ≡ afterUnits m (afterHeaders a m) (readable m) .dropped
+after-dropped : (a : Asset) (m : MpuPacket) → assetAfter a m .stats .«mfus_dropped» ≡ afterUnits m (afterHeaders a m) (readable m) .stats .«mfus_dropped»
 unfolding assetAfter
 after-dropped a m = refl
 
@@ -224,15 +227,15 @@ module _ (id : ℕ) (p : Media) (b : Bytes) (m : MpuPacket) (long : p .held ≡ 
 
   module _ (bad : Bool) (eb : bad ≡ malformedPayload m) (t : MediaEffect)
       (w : Told m (startOf p (m .number)) (afterHeaders before m) t (readable m)) where
-    mfus-after : p .stats .mfus + t .records ≡ assetAfter before m .mfus
+    mfus-after : p .stats .mfus + t .records ≡ assetAfter before m .stats .mfus
     unfolding assetAfter afterHeaders assetOfPlace
     mfus-after = let z = start-zero p b m long .0 in omega (arith, w .mfus, z)
 
-    dropped-after : p .stats .«mfus_dropped» + t .drops ≡ assetAfter before m .dropped
+    dropped-after : p .stats .«mfus_dropped» + t .drops ≡ assetAfter before m .stats .«mfus_dropped»
     dropped-after =
         let d = start-drops p b m long in
-        let e : before .dropped ≡ p .stats .«mfus_dropped» = dropped-of p b in
-        let x : assetAfter before m .dropped ≡ afterUnits m (afterHeaders before m) (readable m) .dropped = after-dropped before m in
+        let e : before .stats .«mfus_dropped» ≡ p .stats .«mfus_dropped» = dropped-of p b in
+        let x : assetAfter before m .stats .«mfus_dropped» ≡ afterUnits m (afterHeaders before m) (readable m) .stats .«mfus_dropped» = after-dropped before m in
         omega (arith, w .drops, d, e, x)
 
     pub place-told : placeAfter id p (m .number) (m .scrambled) h bad t ≡ placeFor id (assetAfter before m)

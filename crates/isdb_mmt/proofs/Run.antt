@@ -31,7 +31,7 @@ data-append [] ys = refl
 data-append (x ∷ xs) ys = rw (data-append xs ys)
 
 abbrev bookOf : Asset → List Bytes → Book
-bookOf a os = record { number = a .number; held = heldBytes (a .held); dropped = a .dropped; lost = a .lost; delivered = os }
+bookOf a os = record { number = a .number; held = heldBytes (a .held); dropped = a .stats .«mfus_dropped»; lost = a .stats .«packets_lost»; delivered = os }
 
 -- a book by its parts
 abbrev pub at : ℕ → Option ℕ → Option Bytes → ℕ → List Bytes → Book
@@ -70,7 +70,7 @@ units-written : (m : MpuPacket) (a : Asset) (os : List Bytes) (n : ℕ) (us : Li
 unfolding enteredAll unitsReceived afterUnits deliveredBy afterUnit unitEffect objectOf
 units-written m a os n [] = rw append-nil
 units-written m a os n (u ∷ us) =
-    ap (λ (b : Book). enteredAll b (unitsReceived n us)) (unit-parts (a .lost) (a .number) (a .held) (a .dropped) os n (u .fragment) (objectOf m u))
+    ap (λ (b : Book). enteredAll b (unitsReceived n us)) (unit-parts (a .stats .«packets_lost») (a .number) (a .held) (a .stats .«mfus_dropped») os n (u .fragment) (objectOf m u))
     ∙ units-written m (afterUnit a (unitEffect m a u)) (os ++ dataOf (unitEffect m a u .outs)) n us
     ∙ rw (data-append, append-assoc)
 
@@ -98,7 +98,7 @@ media-written : (a : Asset) (os : List Bytes) (m : MpuPacket)
     ≡ bookOf (assetAfter a m) (os ++ dataOf (deliveredBy m (afterHeaders a m) (readable m)))
 unfolding enteredAll assetAfter afterHeaders
 media-written a os m =
-    ap (λ (b : Book). enteredAll b (unitsReceived (m .number) (readable m))) (seen-parts (a .lost) (a .number) (a .held) (a .dropped) os (m .number))
+    ap (λ (b : Book). enteredAll b (unitsReceived (m .number) (readable m))) (seen-parts (a .stats .«packets_lost») (a .number) (a .held) (a .stats .«mfus_dropped») os (m .number))
     ∙ units-written m (afterHeaders a m) os (m .number) (readable m)
 
 -- ---- what a push hands out for an id

@@ -94,23 +94,23 @@ module _ (s : Session) where
 
   -- ---- of a media id
 
-  of-dropped : (p : Found) → droppedAt s p ≡ orElse fresh (mediaEntry p) .dropped
+  of-dropped : (p : Found) → droppedAt s p ≡ orElse fresh (mediaEntry p) .stats .«mfus_dropped»
   unfolding orElse fresh assetOfPlace
   of-dropped Nothing = refl
   of-dropped (At i) = refl
 
   pub dropped-said : (i : ℕ) → droppedIn s i ≡ droppedOf i (view s)
   unfolding droppedIn assetOf
-  dropped-said i = of-dropped (mediaFound s i) ∙ sym (ap (λ (o : Option Asset). orElse fresh o .dropped) (media-found i))
+  dropped-said i = of-dropped (mediaFound s i) ∙ sym (ap (λ (o : Option Asset). orElse fresh o .stats .«mfus_dropped») (media-found i))
 
-  of-lost : (p : Found) → lostAt s p ≡ orElse fresh (mediaEntry p) .lost
+  of-lost : (p : Found) → lostAt s p ≡ orElse fresh (mediaEntry p) .stats .«packets_lost»
   unfolding orElse fresh assetOfPlace
   of-lost Nothing = refl
   of-lost (At i) = refl
 
   pub lost-said : (i : ℕ) → lostIn s i ≡ lostOf i (view s)
   unfolding lostIn assetOf
-  lost-said i = of-lost (mediaFound s i) ∙ sym (ap (λ (o : Option Asset). orElse fresh o .lost) (media-found i))
+  lost-said i = of-lost (mediaFound s i) ∙ sym (ap (λ (o : Option Asset). orElse fresh o .stats .«packets_lost») (media-found i))
 
   given-held : (b : Bool) (u : Mfu) → given b (u .bytes) ≡ heldBytes (given b u)
   unfolding heldBytes

@@ -132,15 +132,15 @@ module _ (l : Limits) (s : Session) (n : ℕ) (big : n ≤ mostCount) where
       let k = held-length (m .held) (mfuOf (m .object) (part (i * l .«mfu_area») (m .object .length) (s .objects))) (l .«mfu_area») (h .held) t in
       omega (arith, part-length (i * l .«mfu_area») (m .object .length) (s .objects) (e t)))
       (simp (
-        le-leb (m .stats .packets) mostCount (omega (arith, h .packets)),
-        le-leb (m .stats .«packets_lost») mostCount (omega (arith, h .lost)),
-        le-leb (m .stats .«scrambled_packets») mostCount (omega (arith, h .scrambled)),
-        le-leb (m .stats .mfus) mostCount (omega (arith, h .mfus)),
-        le-leb (m .stats .«scrambled_mfus») mostCount (omega (arith, h .scrambledMfus)),
-        le-leb (m .stats .«mfus_dropped») mostCount (omega (arith, h .dropped)),
-        le-leb (m .stats .mpus) mostCount (omega (arith, h .mpus)),
-        le-leb (m .stats .«mpu_sequence_jumps») mostCount (omega (arith, h .jumps)),
-        le-leb (m .stats .malformed) mostCount (omega (arith, h .malformed)),
+        le-leb (m .stats .packets) mostCount (omega (arith, h .counts .packets)),
+        le-leb (m .stats .«packets_lost») mostCount (omega (arith, h .counts .lost)),
+        le-leb (m .stats .«scrambled_packets») mostCount (omega (arith, h .counts .scrambled)),
+        le-leb (m .stats .mfus) mostCount (omega (arith, h .counts .mfus)),
+        le-leb (m .stats .«scrambled_mfus») mostCount (omega (arith, h .counts .scrambledMfus)),
+        le-leb (m .stats .«mfus_dropped») mostCount (omega (arith, h .counts .dropped)),
+        le-leb (m .stats .mpus) mostCount (omega (arith, h .counts .mpus)),
+        le-leb (m .stats .«mpu_sequence_jumps») mostCount (omega (arith, h .counts .jumps)),
+        le-leb (m .stats .malformed) mostCount (omega (arith, h .counts .malformed)),
       ))
 
   control-sound : (i : ℕ) (c : Control) → ControlFits l (controlEntry l s i c .1) → controlThere l s i c → controlSound l c ≡ true

@@ -59,13 +59,13 @@ id = 0xF100
 abbrev pub leftOf : Bool → Feed → Asset → Left
 leftOf pass f a =
     record {
-      packets = a .packets;
-      lost = a .lost;
-      scrambled = a .scrambled;
-      mpus = a .mpus;
-      malformed = a .malformed;
+      packets = a .stats .packets;
+      lost = a .stats .«packets_lost»;
+      scrambled = a .stats .«scrambled_packets»;
+      mpus = a .stats .mpus;
+      malformed = a .stats .malformed;
       objects = deliveredOf id (giveAll (opened pass) (packetsOf f));
-      dropped = a .dropped;
+      dropped = a .stats .«mfus_dropped»;
       held = heldBytes (a .held);
     }
 

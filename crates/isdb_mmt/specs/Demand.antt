@@ -29,10 +29,10 @@ abbrev pub heldOf : ℕ → State → Option Bytes
 heldOf i s = heldBytes (assetOf i s .held)
 
 abbrev pub droppedOf : ℕ → State → ℕ
-droppedOf i s = assetOf i s .dropped
+droppedOf i s = assetOf i s .stats .«mfus_dropped»
 
 abbrev pub lostOf : ℕ → State → ℕ
-lostOf i s = assetOf i s .lost
+lostOf i s = assetOf i s .stats .«packets_lost»
 
 -- a unit is a part of its packet, which has at most 65,535 bytes
 abbrev pub AllSmall : List PayloadUnit → Type 0

@@ -13,7 +13,7 @@ use Rattle.isdb_mmt.specs.Part.{partOf, partAt}
 use Rattle.isdb_mmt.specs.Packet.{Bytes, mediaOf}
 use Rattle.isdb_mmt.specs.Maps.{one, isSome}
 use Rattle.isdb_mmt.specs.Mpu.{unitsOf}
-use Rattle.isdb_mmt.specs.Objects.{Asset, Rec, assetAfter, mediaGives}
+use Rattle.isdb_mmt.specs.Objects.{noStats, Asset, Rec, assetAfter, mediaGives}
 use Rattle.isdb_mmt.specs.Needs.{dataOf}
 use Rattle.isdb_mmt.specs.Layout.{mostMediaIds, mostMfuArea, mostCount, mediaPlaces, mediaSize, stateSize}
 use Rattle.isdb_mmt.specs.Lent.{part, over}
@@ -22,7 +22,7 @@ use Rattle.isdb_mmt.specs.Check.{lengthsOf, PlacesThere, Sound}
 use Rattle.isdb_mmt.specs.View.{assetOfPlace}
 use Rattle.isdb_mmt.specs.Records.{rowSize, rowFields, rowsFrom, dataFrom}
 use Rattle.isdb_mmt.specs.MediaPush.{noObject, heldOver, oneMore, withUsed, withPackets}
-use Rattle.isdb_mmt.specs.MediaPlace.{placeAfter, Modest}
+use Rattle.isdb_mmt.specs.MediaPlace.{placeAfter, StatsWithin}
 use Rattle.isdb_mmt.specs.MediaOutcome.{mediaOutcome, CanReadUnits}
 use Rattle.isdb_mmt.specs.declared.maybe.MaybeU32.the-variants.{None as noU32}
 use Rattle.isdb_mmt.specs.declared.mpu.MaybeMfu.the-variants.{None as noMfu}
@@ -45,20 +45,6 @@ use Rattle.isdb_mmt.specs.declared.decoder.records.Answer.{Answer}
 pub record CanTakePlace (s : List ℕ) (l : Limits) : Type 0 where
   pub there : PlacesThere s
   pub limits : l ≡ limitsOf s
-
-abbrev pub noStats : AssetStats
-noStats =
-    record {
-      packets = 0;
-      «packets_lost» = 0;
-      «scrambled_packets» = 0;
-      mfus = 0;
-      «scrambled_mfus» = 0;
-      «mfus_dropped» = 0;
-      mpus = 0;
-      «mpu_sequence_jumps» = 0;
-      malformed = 0;
-    }
 
 abbrev pub blank : Media
 blank =
@@ -225,7 +211,7 @@ pub record CanStore (l : List ℕ) (place-for : PlaceFor) : Type 0 where
 pub record CanCommitAll (l : Limits) (place-for : PlaceFor) (p : Media) (r : MediaOutcome) (h : Header) (b state objects rows given : Bytes) : Type 0 where
   pub commit : CanCommit (indexOf place-for * l .«mfu_area») (l .«pass_scrambled») p r h b objects rows given
   pub store : CanStore state place-for
-  pub modest : Modest (p .stats)
+  pub modest : StatsWithin mostCount (p .stats)
   pub area : l .«mfu_area» ≤ mostMfuArea
 
 pub record CommittedAll (l : Limits) (place-for : PlaceFor) (p : Media) (r : MediaOutcome) (h : Header) (b state objects rows given state′ objects′ rows′ given′ : Bytes) : Type 0 where

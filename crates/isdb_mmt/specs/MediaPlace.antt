@@ -5,7 +5,6 @@ use Rattle.isdb_tlv.specs.Guards.{if_then_else_, _=?_}
 use Rattle.isdb_mmt.specs.Part.{partAt}
 use Rattle.isdb_mmt.specs.Maps.{one}
 use Rattle.isdb_mmt.specs.Mpu.{follows, lostFrom, completesOf}
-use Rattle.isdb_mmt.specs.Layout.{mostCount}
 use Rattle.isdb_mmt.specs.Records.{noHeader}
 use Rattle.isdb_mmt.specs.MediaPush.{noObject}
 use Rattle.isdb_mmt.specs.declared.mpu.MfuHeader.{MfuHeader}
@@ -130,26 +129,14 @@ placeAfter id p n scrambled h bad t =
       stats = statsAfter p n scrambled h bad t;
     }
 
--- counts as question 5 has them
-pub record Modest (s : AssetStats) : Type 0 where
-  pub packets : s .packets ≤ mostCount
-  pub lost : s .«packets_lost» ≤ mostCount
-  pub scrambled : s .«scrambled_packets» ≤ mostCount
-  pub mfus : s .mfus ≤ mostCount
-  pub scrambledMfus : s .«scrambled_mfus» ≤ mostCount
-  pub dropped : s .«mfus_dropped» ≤ mostCount
-  pub mpus : s .mpus ≤ mostCount
-  pub jumps : s .«mpu_sequence_jumps» ≤ mostCount
-  pub malformed : s .malformed ≤ mostCount
-
--- what is added at a time
-pub record Steps (s : AssetStats) : Type 0 where
-  pub packets : s .packets < 4294967296
-  pub lost : s .«packets_lost» < 4294967296
-  pub scrambled : s .«scrambled_packets» < 4294967296
-  pub mfus : s .mfus < 4294967296
-  pub scrambledMfus : s .«scrambled_mfus» < 4294967296
-  pub dropped : s .«mfus_dropped» < 4294967296
-  pub mpus : s .mpus < 4294967296
-  pub jumps : s .«mpu_sequence_jumps» < 4294967296
-  pub malformed : s .malformed < 4294967296
+-- no count above n: 2^53 before a packet, as question 5 has it; below 2^32 what a packet adds
+pub record StatsWithin (n : ℕ) (s : AssetStats) : Type 0 where
+  pub packets : s .packets ≤ n
+  pub lost : s .«packets_lost» ≤ n
+  pub scrambled : s .«scrambled_packets» ≤ n
+  pub mfus : s .mfus ≤ n
+  pub scrambledMfus : s .«scrambled_mfus» ≤ n
+  pub dropped : s .«mfus_dropped» ≤ n
+  pub mpus : s .mpus ≤ n
+  pub jumps : s .«mpu_sequence_jumps» ≤ n
+  pub malformed : s .malformed ≤ n

@@ -11,7 +11,6 @@ use Rattle.isdb_mmt.specs.Kept.{Kept, KeptTables}
 use Rattle.isdb_mmt.specs.Model.{Control as ControlState}
 use Rattle.isdb_mmt.specs.Needs.{partialLength}
 use Rattle.isdb_mmt.specs.Records.{noHeader, objectFor}
-use Rattle.isdb_mmt.specs.declared.decoder.counts.AssetStats.{AssetStats}
 use Rattle.isdb_mmt.specs.declared.decoder.head.Latest.{Latest}
 use Rattle.isdb_mmt.specs.declared.decoder.head.Time.{Time}
 use Rattle.isdb_mmt.specs.declared.decoder.media.Object.{Object}
@@ -31,20 +30,6 @@ abbrev pub firstIn : Option (ℕ × ℕ) → ℕ
 firstIn none = 0
 firstIn (some r) = r .0
 
-abbrev pub statsFor : Asset → AssetStats
-statsFor a =
-    record {
-      packets = a .packets;
-      «packets_lost» = a .lost;
-      «scrambled_packets» = a .scrambled;
-      mfus = a .mfus;
-      «scrambled_mfus» = a .scrambledMfus;
-      «mfus_dropped» = a .dropped;
-      mpus = a .mpus;
-      «mpu_sequence_jumps» = a .jumps;
-      malformed = a .malformed;
-    }
-
 unfoldable pub placeFor : ℕ → Asset → Media
 unfolding isSome orElse
 placeFor id a =
@@ -57,7 +42,7 @@ placeFor id a =
       «first_mpu» = firstIn (a .range);
       held = isSome (a .held);
       object = heldFor (a .held);
-      stats = statsFor a;
+      stats = a .stats;
     }
 
 -- the flags of the message that is being joined

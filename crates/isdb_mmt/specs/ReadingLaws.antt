@@ -17,7 +17,6 @@ use Rattle.isdb_mmt.specs.Octets.{Octets}
 use Rattle.isdb_mmt.specs.Session.{Session}
 use Rattle.isdb_mmt.specs.Check.{sound}
 use Rattle.isdb_mmt.specs.View.{view}
-use Rattle.isdb_mmt.specs.PlacesOf.{statsFor}
 use Rattle.isdb_mmt.specs.Readings.{mediaNames, controlNames, keysIn, countersRead, timeRead, countRead, mostName, ascending, nextMediaRead, nextControlRead, nextKeyRead, mediaRead, heldRead, controlRead}
 use Rattle.isdb_mmt.specs.declared.maybe.MaybeU32.{MaybeU32}
 use Rattle.isdb_mmt.specs.declared.maybe.MaybeU32.the-variants.{None as noU32, Some as someU32}
@@ -75,7 +74,7 @@ mediaTold none = noMedia
 mediaTold (some a) =
     theMedia
     (record {
-      stats = statsFor a;
+      stats = a .stats;
       sequence = u32Told (a .number);
       «mpu_range» = rangeTold (a .range);
       held = objectLength (a .held);

@@ -57,15 +57,7 @@ assetOfPlace m b =
       mpu = given (m .«mpu_seen») (m .mpu);
       held = given (m .held) (mfuOf (m .object) b);
       range = given (m .«mpu_seen») (m .«first_mpu», m .mpu);
-      packets = m .stats .packets;
-      lost = m .stats .«packets_lost»;
-      scrambled = m .stats .«scrambled_packets»;
-      mfus = m .stats .mfus;
-      scrambledMfus = m .stats .«scrambled_mfus»;
-      dropped = m .stats .«mfus_dropped»;
-      mpus = m .stats .mpus;
-      jumps = m .stats .«mpu_sequence_jumps»;
-      malformed = m .stats .malformed;
+      stats = m .stats;
     }
 
 -- a control place: the message that is being joined, and the MPT

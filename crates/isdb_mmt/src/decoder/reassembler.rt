@@ -5,10 +5,11 @@ ghost use Prim.Native.Nat.{_+_, _<_, max};
 ghost use lib.ListN.{length};
 ghost use Rattle.isdb_mmt.specs.Maps.{one as oneOf};
 ghost use Rattle.isdb_mmt.specs.Mpu.{unitsOf};
+ghost use Rattle.isdb_mmt.specs.Layout.{mostCount};
 ghost use Rattle.isdb_mmt.specs.Records.{hasHeader, headerOr, hasItem, itemOr};
 ghost use Rattle.isdb_mmt.specs.MediaPush.{noObject};
 ghost use Rattle.isdb_mmt.specs.MediaEffect.{unitObject, withLength, completeUnit, headUnit, droppedUnit, grownTo, grownUnit, withUnit, unitsEffect, Ready, Light};
-ghost use Rattle.isdb_mmt.specs.MediaPlace.{gapAfter, gapIn, lostIn, headerIf, itemIf, normalObject, begun, startOf, newIn, jumpIn, seenMpu, lastMpu, firstMpu, completesIn, addsOf, summed, placeAfter, Modest, Steps};
+ghost use Rattle.isdb_mmt.specs.MediaPlace.{gapAfter, gapIn, lostIn, headerIf, itemIf, normalObject, begun, startOf, newIn, jumpIn, seenMpu, lastMpu, firstMpu, completesIn, addsOf, summed, placeAfter, StatsWithin};
 ghost use Rattle.isdb_mmt.specs.MediaOutcome.{outcomeWith, unitsOutcome, mediaOutcome, CanReadUnits};
 use crate::decoder::counts::AssetStats;
 use crate::decoder::media::Media;
@@ -555,7 +556,7 @@ fn adds_of(
 }
 
 fn add_stats(s: AssetStats, d: AssetStats) -> AssetStats
-    requires { ⌜ Modest s × Steps d ⌝ }
+    requires { ⌜ StatsWithin mostCount s × StatsWithin 4294967295 d ⌝ }
     ensures { λ r. ⌜ r ≡ summed s d ⌝ }
 {
     AssetStats {
@@ -581,7 +582,7 @@ pub(crate) fn place_after(
     bad: bool,
     t: MediaEffect,
 ) -> Media
-    requires { ⌜ Modest (p .stats) × ((t .records < 4294967296) × (t .drops < 4294967296)) ⌝ }
+    requires { ⌜ StatsWithin mostCount (p .stats) × ((t .records < 4294967296) × (t .drops < 4294967296)) ⌝ }
     ensures { λ r. ⌜ r ≡ placeAfter id p n scrambled h bad t ⌝ }
 {
     let object = t.object;
