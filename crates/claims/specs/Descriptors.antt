@@ -11,19 +11,19 @@ use Rattle.isdb_mmt.specs.Ntp.{ntpToUnix}
 use Rattle.isdb_mmt.specs.Timestamp.{timestampAt, mpuAt, mpusFrom, mpusWhole, extendedOf, unitStep}
 use Rattle.isdb_mmt.specs.Desc.{lengthWidth, stepAt, splitFrom, splitOf, counted, streamIdentifier, descriptorOf, isOther, firstOf, serviceAt, genreAt}
 use Rattle.isdb_mmt.specs.declared.maybe.MaybeU16.the-variants.{None as noU16, Some as someU16}
-use Rattle.isdb_mmt.specs.declared.maybe.MaybeU32.the-variants.{None as noU32, Some as someU32}
+use Rattle.isdb_mmt.specs.declared.maybe.MaybeU32.the-variants.{None as noU32}
 use Rattle.isdb_mmt.specs.declared.location.Location.the-variants.{Mpeg2Ts, Url}
 use Rattle.isdb_mmt.specs.declared.location.Located.the-variants.{Some as located}
 use Rattle.isdb_mmt.specs.declared.timestamp.TimestampStep.the-variants.{Timestamp}
 use Rattle.isdb_mmt.specs.declared.timestamp.Extended.{Extended}
-use Rattle.isdb_mmt.specs.declared.timestamp.MaybeExtended.the-variants.{None as notExtended, Some as extended}
+use Rattle.isdb_mmt.specs.declared.timestamp.MaybeExtended.the-variants.{None as notExtended}
 use Rattle.isdb_mmt.specs.declared.timestamp.MpuStep.the-variants.{Mpu}
 use Rattle.isdb_mmt.specs.declared.timestamp.AccessUnitStep.the-variants.{Unit as unit}
 use Rattle.isdb_mmt.specs.declared.desc.Step.the-variants.{Raw}
 use Rattle.isdb_mmt.specs.declared.desc.Descriptor.the-variants.{StreamIdentifier, ServiceList, Other}
-use Rattle.isdb_mmt.specs.declared.desc.Found.the-variants.{None as notFound, Some as found}
-use Rattle.isdb_mmt.specs.declared.desc.ServiceStep.the-variants.{End as noService, Service as service}
-use Rattle.isdb_mmt.specs.declared.desc.GenreStep.the-variants.{End as noGenre, Genre as genre}
+use Rattle.isdb_mmt.specs.declared.desc.Found.the-variants.{Some as found}
+use Rattle.isdb_mmt.specs.declared.desc.ServiceStep.the-variants.{Service as service}
+use Rattle.isdb_mmt.specs.declared.desc.GenreStep.the-variants.{End as noGenre}
 
 -- Location::parse: a URL's place counts from the location's first byte
 -- wrong: part 2 3 => part 0 3 (from the URL's own)

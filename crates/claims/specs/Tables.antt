@@ -20,14 +20,14 @@ use Rattle.isdb_mmt.specs.Amt.{serviceAt, servicesWhole, amtBody, amtOf}
 use Rattle.isdb_mmt.specs.Tot.{totFields, totOf}
 use Rattle.isdb_mmt.specs.Mpt.{declaredLength, assetFields, assetAt, mptAssets, mptTable, mptOf, serviceId, firstPacketId, locationsOf, componentTag}
 use Rattle.isdb_mmt.specs.Plt.{packageAt, deliverySize, deliveryAt, deliveriesWhole, pltDeliveries, pltTable, pltOf}
-use Rattle.isdb_mmt.specs.declared.maybe.MaybeU16.the-variants.{None as noU16, Some as someU16}
+use Rattle.isdb_mmt.specs.declared.maybe.MaybeU16.the-variants.{Some as someU16}
 use Rattle.isdb_mmt.specs.declared.maybe.MaybeU64.the-variants.{Some as someU64}
 use Rattle.isdb_mmt.specs.declared.location.Location.the-variants.{SameFlow}
-use Rattle.isdb_mmt.specs.declared.location.Located.the-variants.{None as notLocated, Some as located}
+use Rattle.isdb_mmt.specs.declared.location.Located.the-variants.{Some as located}
 use Rattle.isdb_mmt.specs.declared.desc.Descriptor.the-variants.{Service, ShortEvent}
 use Rattle.isdb_mmt.specs.declared.desc.Found.the-variants.{Some as found}
 use Rattle.isdb_mmt.specs.declared.table.section.SectionHeader.{SectionHeader}
-use Rattle.isdb_mmt.specs.declared.table.section.SectionError.the-variants.{Truncated, Crc, Malformed}
+use Rattle.isdb_mmt.specs.declared.table.section.SectionError.the-variants.{Truncated, Malformed}
 use Rattle.isdb_mmt.specs.declared.table.section.LongSection.the-variants.{Ok, Err}
 use Rattle.isdb_mmt.specs.declared.table.section.EntryStep.the-variants.{Entry as entry}
 use Rattle.isdb_mmt.specs.declared.table.eit.EitResult.the-variants.{Ok as eitOk, Err as noEit}
@@ -35,20 +35,20 @@ use Rattle.isdb_mmt.specs.declared.table.eit.EventStep.the-variants.{Event as e
 use Rattle.isdb_mmt.specs.declared.table.sdt.SdtResult.the-variants.{Ok as sdtOk, Err as noSdt}
 use Rattle.isdb_mmt.specs.declared.table.sdt.SdtStep.the-variants.{Service as service}
 use Rattle.isdb_mmt.specs.declared.table.bit.BitResult.the-variants.{Ok as bitOk, Err as noBit}
-use Rattle.isdb_mmt.specs.declared.table.bit.BroadcasterStep.the-variants.{End as noBroadcaster, Broadcaster as broadcaster}
+use Rattle.isdb_mmt.specs.declared.table.bit.BroadcasterStep.the-variants.{Broadcaster as broadcaster}
 use Rattle.isdb_mmt.specs.declared.table.nit.NitResult.the-variants.{Ok as nitOk, Err as noNit}
 use Rattle.isdb_mmt.specs.declared.table.nit.StreamStep.the-variants.{Stream as stream}
-use Rattle.isdb_mmt.specs.declared.table.nit.TlvStep.the-variants.{End as noDescriptor, Descriptor as descriptor}
+use Rattle.isdb_mmt.specs.declared.table.nit.TlvStep.the-variants.{End as noDescriptor}
 use Rattle.isdb_mmt.specs.declared.table.nit.MaybePart.the-variants.{None as noPart, Some as somePart}
 use Rattle.isdb_mmt.specs.declared.table.amt.AmtResult.the-variants.{Ok as amtOk, Err as noAmt}
 use Rattle.isdb_mmt.specs.declared.table.amt.AmtStep.the-variants.{Service as flow}
-use Rattle.isdb_mmt.specs.declared.table.tot.TotResult.the-variants.{Ok as totOk, Err as noTot}
+use Rattle.isdb_mmt.specs.declared.table.tot.TotResult.the-variants.{Ok as totOk}
 use Rattle.isdb_mmt.specs.declared.maybe.MaybeUsize.the-variants.{Some as At}
 use Rattle.isdb_mmt.specs.declared.table.mpt.AssetStep.the-variants.{Asset as asset}
-use Rattle.isdb_mmt.specs.declared.table.mpt.MaybeMpt.the-variants.{None as noMpt, Some as someMpt}
+use Rattle.isdb_mmt.specs.declared.table.mpt.MaybeMpt.the-variants.{None as noMpt}
 use Rattle.isdb_mmt.specs.declared.table.plt.PackageStep.the-variants.{Package as package′}
-use Rattle.isdb_mmt.specs.declared.table.plt.DeliveryStep.the-variants.{Malformed as brokenDelivery, Delivery as delivery}
-use Rattle.isdb_mmt.specs.declared.table.plt.MaybePlt.the-variants.{None as noPlt, Some as somePlt}
+use Rattle.isdb_mmt.specs.declared.table.plt.DeliveryStep.the-variants.{Malformed as brokenDelivery}
+use Rattle.isdb_mmt.specs.declared.table.plt.MaybePlt.the-variants.{Some as somePlt}
 
 -- table id, extension, version, section 0 of 0, a body of so many bytes
 abbrev header : ℕ → ℕ → ℕ → ℕ → SectionHeader

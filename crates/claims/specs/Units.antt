@@ -2,7 +2,7 @@
 use Prim.Native.Nat.{ℕ}
 use mathlib.Core.Path.{_≡_, refl}
 use mathlib.Core.Bool.{true, false}
-use mathlib.Core.List.{[], _++_}
+use mathlib.Core.List.{_++_}
 use lib.ListN.{replicate}
 use Rattle.isdb_tlv.specs.Fields.{bytesOf}
 use Rattle.isdb_tlv.specs.Bytes.{be}
@@ -10,17 +10,17 @@ use Rattle.isdb_mmt.specs.Part.{partAt}
 use Rattle.isdb_mmt.specs.Mpu.{fragmentCode, fragmentType, indicatorCode, indicator, completesOf, payloadHeader, declaredOf, unitIn, unitAt, unitStep, unitsFrom, unitsOf, counted, follows, lostFrom}
 use Rattle.isdb_mmt.specs.Message.{divisionOf, fragmentOf, aggregatedAt, paTables, contentOf, tableAt}
 use Rattle.isdb_mmt.specs.declared.maybe.MaybeU32.the-variants.{Some as someU32}
-use Rattle.isdb_mmt.specs.declared.mpu.FragmentType.the-variants.{MovieFragmentMetadata, Mfu, Reserved}
+use Rattle.isdb_mmt.specs.declared.mpu.FragmentType.the-variants.{Mfu, Reserved}
 use Rattle.isdb_mmt.specs.declared.mpu.FragmentationIndicator.the-variants.{Complete, Head, Middle, Last}
 use Rattle.isdb_mmt.specs.declared.mpu.PayloadHeader.{PayloadHeader}
-use Rattle.isdb_mmt.specs.declared.mpu.MaybeHeader.the-variants.{None, Some}
+use Rattle.isdb_mmt.specs.declared.mpu.MaybeHeader.the-variants.{Some}
 use Rattle.isdb_mmt.specs.declared.mpu.MaybeMfu.the-variants.{None as noMfu}
 use Rattle.isdb_mmt.specs.declared.mpu.UnitStep.the-variants.{Unit as unit}
-use Rattle.isdb_mmt.specs.declared.mpu.UnitCount.the-variants.{Malformed as notWhole, Count}
-use Rattle.isdb_mmt.specs.declared.message.Division.the-variants.{First as first, Middle as middle, Last as last}
-use Rattle.isdb_mmt.specs.declared.message.MessageStep.the-variants.{End as noMore, Malformed as pastEnd, Message}
+use Rattle.isdb_mmt.specs.declared.mpu.UnitCount.the-variants.{Malformed as notWhole}
+use Rattle.isdb_mmt.specs.declared.message.Division.the-variants.{Last as last}
+use Rattle.isdb_mmt.specs.declared.message.MessageStep.the-variants.{End as noMore, Message}
 use Rattle.isdb_mmt.specs.declared.message.Content.the-variants.{Tables}
-use Rattle.isdb_mmt.specs.declared.message.TableStep.the-variants.{End as noTable, Malformed as badTable, Table as table}
+use Rattle.isdb_mmt.specs.declared.message.TableStep.the-variants.{Malformed as badTable}
 
 -- FragmentType::from_code: the low four bits
 -- wrong: Mfu => Reserved 0x12 (all eight)

@@ -31,7 +31,6 @@ use Rattle.isdb_mmt.specs.declared.location.Located.{Located}
 use Rattle.isdb_mmt.specs.declared.location.Located.the-variants.{None as notLocated, Some as located}
 use Rattle.isdb_mmt.specs.declared.message.MessageStep.{MessageStep}
 use Rattle.isdb_mmt.specs.declared.message.TableStep.{TableStep}
-use Rattle.isdb_mmt.specs.declared.message.TableStep.the-variants.{Table as table}
 use Rattle.isdb_mmt.specs.declared.message.Content.{Content}
 use Rattle.isdb_mmt.specs.declared.message.Content.the-variants.{Malformed as badMessage, Nothing, Table as oneTable, Tables}
 use Rattle.isdb_mmt.specs.declared.mpu.Unit.{Unit as DataUnit}

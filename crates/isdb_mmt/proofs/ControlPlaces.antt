@@ -15,7 +15,7 @@ use Rattle.isdb_mmt.specs.Check.{Sound, lengthsOf, controlsIn, controlSo
 use Rattle.isdb_mmt.specs.Leaves.{withSections, keptOver, latestOver, messageIn, messageAt, messageLeaves, packetLeaves, controlPlaceFor, joinedIn, bytesOver, usedFor}
 use Rattle.isdb_mmt.specs.Fragments.{laidBy, areaBy, fragmentOutcome, joinedBy, controlWith}
 use Rattle.isdb_mmt.specs.FragmentPush.{blankPlace, withReassembly, withCounts}
-use Rattle.isdb_mmt.specs.Maps.{put, orElse, isSome, one}
+use Rattle.isdb_mmt.specs.Maps.{put, orElse, isSome}
 use Rattle.isdb_mmt.specs.Reassembly.{idle, reassemblyAfter}
 use Rattle.isdb_mmt.specs.Model.{State, Control as ControlState, controlOf, idleControl, reassemblyOf, pushed, gives}
 use Rattle.isdb_mmt.specs.View.{given, controlStateOf, controlEntry, keptTableAt, viewBy, view, assetEntry, sectionEntry}
@@ -160,10 +160,10 @@ module _ (s : Session) (ok : Sound (s .state) (s .others) (lengthsOf s)) (x : Me
   pub does : Does (reassemblyOf (x .id) v) x c m f
   does =
       let e = outcome-does c m t (λ j. part-length (i * lim .«message_area») (c .length) (s .messages) (at .joins j)) x in
-      subst (λ (y : ControlState). Does (y .line) x c m f) (sym (at .is)) (subst (Does (controlStateOf c m t .line) x c m) (sym ef) e)
+      subst (λ (y : ControlState). Does (y .reassembly) x c m f) (sym (at .is)) (subst (Does (controlStateOf c m t .reassembly) x c m) (sym ef) e)
 
   pub own : controlOf (x .id) n
-      ≡ record { line = reassemblyAfter (reassemblyOf (x .id) v) x; mpt = mptAfterAll (controlOf (x .id) v .mpt) (tablesGiven (reassemblyOf (x .id) v) x) }
+      ≡ record { reassembly = reassemblyAfter (reassemblyOf (x .id) v) x; mpt = mptAfterAll (controlOf (x .id) v .mpt) (tablesGiven (reassemblyOf (x .id) v) x) }
   unfolding pushed controlOf orElse
   own = ap (orElse idleControl) (find-put (x .id) _ (v .controls))
 
@@ -199,10 +199,10 @@ module _ (s : Session) (ok : Sound (s .state) (s .others) (lengthsOf s)) (x : Me
   controls-more = at .more _ ∙ ap (λ y. y + k) (length-all s ok (x .id))
 
   pub messages-are : areaBy f c b ≤ lim .«message_area»
-      → bytesOver (i * lim .«message_area») (joinedIn (controlOf (x .id) n .line .part)) (s .messages) ≡ laidBy f (i * lim .«message_area») c b (s .messages)
+      → bytesOver (i * lim .«message_area») (joinedIn (controlOf (x .id) n .reassembly .partial)) (s .messages) ≡ laidBy f (i * lim .«message_area») c b (s .messages)
   unfolding reassemblyAfter
   messages-are h =
-      ap (λ (y : ControlState). bytesOver (i * lim .«message_area») (joinedIn (y .line .part)) (s .messages)) own
+      ap (λ (y : ControlState). bytesOver (i * lim .«message_area») (joinedIn (y .reassembly .partial)) (s .messages)) own
       ∙ does .bytes (i * lim .«message_area») (s .messages) (λ j. refl)
       (in-buffer s ok (x .id) i (areaBy f c b) (lim .«message_area») (length (s .messages)) (lim .«control_ids») h (at .free)
       (passed lim (lengthsOf s) (ok .limits) .messages))

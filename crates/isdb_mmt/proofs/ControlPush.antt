@@ -1,7 +1,7 @@
 -- A control packet: what is asked and left is the model's. Assumes nothing.
 use Prim.Native.Nat.{ℕ, _+_, _-_, _*_, _≤_, _<_, max}
 use mathlib.Core.Path.{_≡_, refl, sym, ap, _∙_, subst}
-use mathlib.Core.Bool.{true, false, not}
+use mathlib.Core.Bool.{true, false}
 use mathlib.Core.Option.{none}
 use mathlib.Core.List.{List, [], _++_, map}
 use native.Mathlib.Omega.{arith}
@@ -17,7 +17,7 @@ use Rattle.isdb_tlv.specs.Si.{sectionsOf}
 use Rattle.isdb_tlv.specs.declared.si.Section.{Section as Found}
 use Rattle.isdb_tlv.proofs.Guards.{either}
 use Rattle.isdb_mmt.specs.Layout.{mostSections, tableIds, countersPlace, sectionPlaces, sectionSize}
-use Rattle.isdb_mmt.specs.Packet.{Bytes, Packet, control}
+use Rattle.isdb_mmt.specs.Packet.{Bytes, Packet}
 use Rattle.isdb_mmt.specs.Kept.{Kept, KeptTables, Table, storedAll, countedAll}
 use Rattle.isdb_mmt.specs.GivenTables.{controlTables}
 use Rattle.isdb_mmt.specs.Model.{State, packetCounted, pushed, gives}
@@ -29,7 +29,6 @@ use Rattle.isdb_mmt.specs.Session.{Session, limitsOf, usedOf, countersOf
 use Rattle.isdb_mmt.specs.Check.{mediaIn, controlsIn, sectionsIn, packetCounts, tableCounts, lengthsOf, Sound}
 use Rattle.isdb_mmt.specs.View.{assetEntry, controlEntry, sectionEntry, viewBy, view}
 use Rattle.isdb_mmt.specs.Opening.{lent}
-use Rattle.isdb_mmt.specs.PlacesOf.{}
 use Rattle.isdb_mmt.specs.MediaPush.{withUsed}
 use Rattle.isdb_mmt.specs.Leaves.{usedFor, sectionRows, stateOfTables, keptOver, controlLeaves, packetLeaves}
 use Rattle.isdb_mmt.specs.Counted.{Countable}

@@ -9,7 +9,7 @@ use lib.Dec.{leb}
 use lib.ListN.{length, length-append}
 use Rattle.isdb_mmt.specs.Part.{partOf}
 use Rattle.isdb_mmt.specs.Packet.{PayloadUnit, MpuPacket, payloadUnit}
-use Rattle.isdb_mmt.specs.Maps.{one, isSome}
+use Rattle.isdb_mmt.specs.Maps.{isSome}
 use Rattle.isdb_mmt.specs.Objects.{Mfu, Asset, UnitEffect, mostObject, mpuNumber, grown, continued, effectOf, afterUnit, objectOf, unitEffect, afterUnits, deliveredBy, tagged}
 use Rattle.isdb_mmt.specs.Needs.{unitArea, unitsNeed, dataOf}
 use Rattle.isdb_mmt.specs.Records.{objectFor}

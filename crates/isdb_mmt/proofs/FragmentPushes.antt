@@ -1,7 +1,7 @@
 -- A message packet with which no message is whole: what is asked and stored is what the model asks and leaves. Assumes nothing.
 use Prim.Native.Nat.{ℕ, _+_, _*_, _≤_, _<_}
 use mathlib.Core.Path.{_≡_, refl, sym, ap, subst, _∙_}
-use mathlib.Core.Bool.{false, Bool}
+use mathlib.Core.Bool.{false}
 use mathlib.Core.Option.{Option}
 use mathlib.Core.List.{List, [], map}
 use mathlib.Core.Logic.{inr}
@@ -21,7 +21,7 @@ use Rattle.isdb_mmt.specs.Session.{Session, limitsOf, usedOf, usedFields
 use Rattle.isdb_mmt.specs.Check.{PlacesThere, packetCounts, tableCounts, Sound, lengthsOf}
 use Rattle.isdb_mmt.specs.Leaves.{controlPlaceFor, usedFor, withControl, withSections, withLatest, withCounters, stateOfTables, bytesOver, keptOver, latestOver, messageIn, messageAt, messageLeaves, packetLeaves}
 use Rattle.isdb_mmt.specs.Fragments.{laidBy, areaBy, fragmentCounted, CanCount, fragmentOutcome, completes, joinedBy, controlWith, faultsOf}
-use Rattle.isdb_mmt.specs.FragmentPush.{blankPlace, placeIn, PlaceForThere, normalLatest, withMore, withReassembly, withCounts, placeNext, stateNext, CanStoreReassembly, CanJoinAt, JoinedAt, CanJoin, lengthIf, receivedFragment, CanReceive}
+use Rattle.isdb_mmt.specs.FragmentPush.{blankPlace, placeIn, PlaceForThere, normalLatest, withMore, withReassembly, withCounts, placeNext, stateNext, CanStoreReassembly, CanJoinAt, JoinedAt, CanJoin, lengthIf, receivedFragment}
 use Rattle.isdb_mmt.specs.Maps.{isSome, one}
 use Rattle.isdb_mmt.specs.Reassembly.{PartialMessage, cutOfAll, short, messageCompleted}
 use Rattle.isdb_mmt.specs.Model.{State, Control as ControlState, controlOf, reassemblyOf, pushed, packetCounted, messageCounted, reassemblyCounted, gives}
@@ -33,7 +33,7 @@ use Rattle.isdb_mmt.specs.Needs.{needs, tablesNeed}
 use Rattle.isdb_mmt.specs.Octets.{Octets}
 use Rattle.isdb_mmt.specs.Opening.{lent}
 use Rattle.isdb_mmt.specs.MediaPush.{withUsed}
-use Rattle.isdb_mmt.specs.Push.{asksOf, QuietPushed, mostBytes}
+use Rattle.isdb_mmt.specs.Push.{asksOf, QuietPushed}
 use Rattle.isdb_mmt.specs.declared.decoder.counts.Counters.{Counters}
 use Rattle.isdb_mmt.specs.declared.decoder.limits.Limits.{Limits}
 use Rattle.isdb_mmt.specs.declared.decoder.head.Used.{Used}
@@ -85,9 +85,9 @@ full-place l t r e k = rw e k
 
 -- ---- the calls: stores one behind the other
 
-pub line-stored : (l m m′ : List ℕ) (i : ℕ) (c : Control) (u : Used) → m ≡ over (controlPlaces + controlSize * i) (written (controlFields c)) l
+pub reassembly-stored : (l m m′ : List ℕ) (i : ℕ) (c : Control) (u : Used) → m ≡ over (controlPlaces + controlSize * i) (written (controlFields c)) l
     → m′ ≡ over usedPlace (written (usedFields u)) m → m′ ≡ withReassembly i c u l
-line-stored l m m′ i c u e f = f ∙ ap (λ (y : List ℕ). over usedPlace (written (usedFields u)) y) e
+reassembly-stored l m m′ i c u e f = f ∙ ap (λ (y : List ℕ). over usedPlace (written (usedFields u)) y) e
 
 pub counts-stored : (l m m′ : List ℕ) (k : Counters) (x : Latest) → m ≡ over countersPlace (written (countersFields k)) l
     → m′ ≡ over latestPlace (written (latestFields x)) m → m′ ≡ withCounts k x l
@@ -187,13 +187,13 @@ module _ (s : Session) (ok : Sound (s .state) (s .others) (lengthsOf s)) (x : Me
   unfolding pushed countedAll reassemblyCounted messageCounted packetCounted cutOfAll view viewBy
   counters-are =
       let a : Counters = countersOf (s .state) in
-      let line = reassemblyOf (x .id) v in
-      let bad : a .«message_malformed» + (one (short x) + cutOfAll (messageCompleted line x) .malformed) ≡ a .«message_malformed» + one (faultsOf f .malformed) =
+      let reassembly = reassemblyOf (x .id) v in
+      let bad : a .«message_malformed» + (one (short x) + cutOfAll (messageCompleted reassembly x) .malformed) ≡ a .«message_malformed» + one (faultsOf f .malformed) =
       ap (λ (o : Option PartialMessage). a .«message_malformed» + (one (short x) + cutOfAll o .malformed)) (done .whole ∙ none-whole f c m b part-only)
       ∙ ap (λ y. a .«message_malformed» + (one y + 0)) (done .shorts) ∙ ap (λ y. a .«message_malformed» + y) (add-zero (one (faultsOf f .malformed))) in
       let «orphan_fragments» = ap (λ y. a .«orphan_fragments» + one y) (done .«orphan_fragments») in
       let oversize = ap (λ y. a .oversize + one y) (done .oversize) in
-      let e : (reassemblyCounted (packetCounted (v .counters) 0 0 0) line x) ≡ fragmentCounted f a =
+      let e : (reassemblyCounted (packetCounted (v .counters) 0 0 0) reassembly x) ≡ fragmentCounted f a =
       λ j.
       record {
         «tlv_packets» = a .«tlv_packets» + 1;
@@ -209,7 +209,7 @@ module _ (s : Session) (ok : Sound (s .state) (s .others) (lengthsOf s)) (x : Me
         «message_malformed» = bad j;
         «split_errors» = a .«split_errors»;
       } in
-      ap (λ (ts : List Table). (countedAll (controlOf (x .id) v .mpt) (v .store) (reassemblyCounted (packetCounted (v .counters) 0 0 0) line x) ts)) none-given
+      ap (λ (ts : List Table). (countedAll (controlOf (x .id) v .mpt) (v .store) (reassemblyCounted (packetCounted (v .counters) 0 0 0) reassembly x) ts)) none-given
       ∙ e
 
   place-is : controlFor (x .id) (controlOf (x .id) n) ≡ placeNext (x .id) (x .number) c f b
@@ -338,13 +338,6 @@ received-is l id n b t c f et ec ef =
     let p : c ≡ placeIn l (controlPlaceFor l id) = ec ∙ ap (placeIn l) et in
     let q : f ≡ fragmentOutcome (placeIn l (controlPlaceFor l id)) n b = ef ∙ ap (λ (z : Control). fragmentOutcome z n b) p in
     λ j. record { «place_for» = et j; place = p j; outcome = q j }
-
-pub can-receive : (s : Session) (b : Bytes) → Sound (s .state) (s .others) (lengthsOf s) → length b ≤ mostBytes → CanReceive (s .state) b
-can-receive s b ok h = record { there = ok .there; short = h }
-
-pub can-join : (s : Session) (x : MessagePacket) (y : ReceivedFragment) (r : Bool) → Sound (s .state) (s .others) (lengthsOf s) → length (x .payload) ≤ mostBytes
-    → y ≡ receivedFragment (s .state) x → r ≡ completes (y .outcome) → r ≡ false → CanJoin s x y
-can-join s x y r ok h e f g = record { session = ok; short = h; received = e; divided = sym f ∙ g }
 
 -- ---- the calls: a packet, by its place
 

@@ -73,18 +73,18 @@ taken-away false false a = refl
 -- ---- all that the model does with a message packet, by what becomes of the fragment
 
 pub record Does (l : Reassembly) (x : MessagePacket) (c : Control) (m : Bytes) (f : FragmentOutcome) : Type 0 where
-  pub joined : joinedAs (reassemblyAfter l x .part) ≡ joinedBy f c (x .payload)
+  pub joined : joinedAs (reassemblyAfter l x .partial) ≡ joinedBy f c (x .payload)
   pub area : reassemblyNeeds l x ≡ areaBy f c (x .payload)
   pub «orphan_fragments» : orphan l x ≡ faultsOf f .orphan
   pub oversize : oversize l x ≡ faultsOf f .oversize
   pub shorts : short x ≡ faultsOf f .malformed
   pub whole : messageCompleted l x ≡ wholeBy f c m (x .payload)
   pub bytes : (at : ℕ) (t : Bytes) → (c .joining ≡ true → m ≡ part at (c .length) t) → at + areaBy f c (x .payload) ≤ length t
-      → bytesOver at (joinedIn (reassemblyAfter l x .part)) t ≡ laidBy f at c (x .payload) t
+      → bytesOver at (joinedIn (reassemblyAfter l x .partial)) t ≡ laidBy f at c (x .payload) t
 
 module _ (c : Control) (m mpt : Bytes) (long : c .joining ≡ true → length m ≡ c .length) (x : MessagePacket) where
   abbrev l : Reassembly
-  l = controlStateOf c m mpt .line
+  l = controlStateOf c m mpt .reassembly
 
   abbrev b : Bytes
   b = x .payload
@@ -134,7 +134,7 @@ module _ (c : Control) (m mpt : Bytes) (long : c .joining ≡ true → length m 
 
   module _ (e : short x ≡ false) where
     module _ (d : Division) (f : flagsOf x .division ≡ d) where
-      after-is : reassemblyAfter l x .part ≡ partAfter d (given g now-joined) x
+      after-is : reassemblyAfter l x .partial ≡ partAfter d (given g now-joined) x
       unfolding reassemblyAfter
       after-is = rw (e, f, part-before)
 

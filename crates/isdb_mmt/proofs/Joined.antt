@@ -15,7 +15,7 @@ use Rattle.isdb_tlv.proofs.Guards.{either}
 use Rattle.isdb_mmt.specs.Layout.{mostMessageArea}
 use Rattle.isdb_mmt.specs.Packet.{Bytes}
 use Rattle.isdb_mmt.specs.Part.{partOf}
-use Rattle.isdb_mmt.specs.Lent.{part, over}
+use Rattle.isdb_mmt.specs.Lent.{over}
 use Rattle.isdb_mmt.specs.Kept.{tableRead}
 use Rattle.isdb_mmt.specs.Placed.{behind}
 use Rattle.isdb_mmt.specs.TableOutcome.{tableOutcome, CanDecide}
@@ -94,25 +94,16 @@ empty-is [] e = refl
 empty-is (x ∷ l) e = absurd (omega arith)
 
 module _ (assembled ix : List ℕ) (used : ℕ) (a b : Bytes) (can : CanDecide assembled ix used a b) where
-  pub gather-first : 0 + length a ≤ length assembled
-  gather-first = omega (arith, can .short, can .assembledLong)
-
-  pub gather-adds : Fits w64 (length a + length b)
-  gather-adds = omega (arith, can .short)
-
-  pub gather-second : (s : List ℕ) → length s ≡ length assembled → length a + length b ≤ length s
-  gather-second s e = omega (arith, can .short, can .assembledLong)
-
   module _ (ks : List KeptSection) (m p : Recent) (r : TableOutcome) where
-    pub told-first : length b ≡ 0 → r ≡ tableOutcome ks m p (tableRead a) → r ≡ tableOutcome ks m p (tableRead (a ++ b))
-    told-first e er = er ∙ ap (λ (l : Bytes). tableOutcome ks m p (tableRead l)) (sym (append-nil a) ∙ ap (λ (l : Bytes). a ++ l) (sym (empty-is b e)))
+    pub outcome-first : length b ≡ 0 → r ≡ tableOutcome ks m p (tableRead a) → r ≡ tableOutcome ks m p (tableRead (a ++ b))
+    outcome-first e er = er ∙ ap (λ (l : Bytes). tableOutcome ks m p (tableRead l)) (sym (append-nil a) ∙ ap (λ (l : Bytes). a ++ l) (sym (empty-is b e)))
 
-    pub told-second : length a ≡ 0 → r ≡ tableOutcome ks m p (tableRead b) → r ≡ tableOutcome ks m p (tableRead (a ++ b))
-    told-second e er = er ∙ ap (λ (l : Bytes). tableOutcome ks m p (tableRead (l ++ b))) (sym (empty-is a e))
+    pub outcome-second : length a ≡ 0 → r ≡ tableOutcome ks m p (tableRead b) → r ≡ tableOutcome ks m p (tableRead (a ++ b))
+    outcome-second e er = er ∙ ap (λ (l : Bytes). tableOutcome ks m p (tableRead (l ++ b))) (sym (empty-is a e))
 
-    pub told-both : (s s′ t : List ℕ) → s ≡ over 0 a assembled → s′ ≡ over (length a) b s → t ≡ take (length a + length b) s′
+    pub outcome-both : (s s′ t : List ℕ) → s ≡ over 0 a assembled → s′ ≡ over (length a) b s → t ≡ take (length a + length b) s′
         → r ≡ tableOutcome ks m p (tableRead t) → r ≡ tableOutcome ks m p (tableRead (a ++ b))
-    told-both s s′ t es es′ et er =
+    outcome-both s s′ t es es′ et er =
         let l : length (a ++ b) ≡ length a + length b = length-append a b in
         let w : s′ ≡ over 0 (a ++ b) assembled =
         es′

@@ -167,13 +167,13 @@ abbrev Agree : State → Reassemblies → Type 0
 Agree s ls = (i : ℕ) → reassemblyOf i s ≡ ls i
 
 agree-put : (s : State) (ls : Reassemblies) (c : MessagePacket) (m : Option Bytes) (i : ℕ) → Agree s ls
-    → orElse idleControl (find i (put (c .id) (record { line = reassemblyAfter (reassemblyOf (c .id) s) c; mpt = m }) (s .controls))) .line
+    → orElse idleControl (find i (put (c .id) (record { reassembly = reassemblyAfter (reassemblyOf (c .id) s) c; mpt = m }) (s .controls))) .reassembly
     ≡ cond (eqb i (c .id)) (reassemblyAfter (ls (c .id)) c) (ls i)
 unfolding orElse controlOf
 agree-put s ls c m i h = go (eqb i (c .id)) refl
   where
     go : (b : Bool) → eqb i (c .id) ≡ b
-        → orElse idleControl (find i (put (c .id) (record { line = reassemblyAfter (reassemblyOf (c .id) s) c; mpt = m }) (s .controls))) .line
+        → orElse idleControl (find i (put (c .id) (record { reassembly = reassemblyAfter (reassemblyOf (c .id) s) c; mpt = m }) (s .controls))) .reassembly
         ≡ cond b (reassemblyAfter (ls (c .id)) c) (ls i)
     go true e = rw (eqb-true i (c .id) e, find-put) (ap (λ (l : Reassembly). reassemblyAfter l c) (h (c .id)))
     go false e = rw (find-put-other i (c .id) _ _ e) (h i)

@@ -2,7 +2,7 @@
 use Prim.Native.Nat.{ℕ, _+_, _-_, _*_, _^_, _≤_, _<_, max}
 use mathlib.Core.Path.{_≡_, refl, sym, ap, _∙_, subst}
 use mathlib.Core.Logic.{inl, inr}
-use mathlib.Core.Bool.{Bool, true, false, not}
+use mathlib.Core.Bool.{Bool, true, false}
 use mathlib.Core.Option.{Option, none, some}
 use mathlib.Core.List.{List, [], _∷_, _++_}
 use native.Mathlib.Nat.{add-zero, mul-le-mul-right}
@@ -19,7 +19,7 @@ use Rattle.isdb_mmt.specs.Maps.{find, put, orElse, isSome}
 use Rattle.isdb_mmt.specs.Objects.{newMpu, mpuAfter, rangeAfter, mpuIn, Mfu, Asset, fresh, assetAfter, mostObject, grown, continued, effectOf, unitEffect, afterUnit, objectOf, afterUnits, gap, afterHeaders}
 use Rattle.isdb_mmt.specs.Model.{assetOf, pushed, packetCounted}
 use Rattle.isdb_mmt.specs.Needs.{heldLength, unitArea, unitsNeed, needs}
-use Rattle.isdb_mmt.specs.Lent.{part, over, namesFrom, foundFrom, every, indexed}
+use Rattle.isdb_mmt.specs.Lent.{part, over, namesFrom, foundFrom, indexed}
 use Rattle.isdb_mmt.specs.Session.{Session, limitsOf, usedOf, usedFields, latestOf, timeOf, countersOf, mediaFields}
 use Rattle.isdb_mmt.specs.Check.{mediaIn, controlsIn, sectionsIn, mediaSound, packetCounts, lengthsOf, Sound}
 use Rattle.isdb_mmt.specs.View.{given, headerGiven, itemGiven, mfuOf, assetOfPlace, assetEntry, controlEntry, sectionEntry, keptTableAt, viewBy, view}
@@ -40,7 +40,7 @@ use Rattle.isdb_mmt.specs.declared.decoder.media.Media.{Media}
 use Rattle.isdb_mmt.proofs.Lent.{length-over, part-over, be-apart, length-names}
 use Rattle.isdb_mmt.proofs.Stored.{apart, limits-own, latest-own, time-own, counters-own, used-back, holds-over}
 use Rattle.isdb_mmt.proofs.Sessions.{media, controls, sections, inUse, named, place-set, place-new, place-apart, used-apart}
-use Rattle.isdb_mmt.proofs.Views.{keys, entry, FoundAt, found-at, absent, indexed-set, indexed-snoc, indexed-same, area-apart}
+use Rattle.isdb_mmt.proofs.Views.{keys, FoundAt, found-at, absent, indexed-set, indexed-snoc, indexed-same, area-apart}
 use Rattle.isdb_mmt.proofs.Limits.{passed}
 use Rattle.isdb_mmt.proofs.Checks.{media-was, count-was}
 use lib.Seq.{length-take-le}

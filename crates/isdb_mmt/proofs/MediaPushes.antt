@@ -41,7 +41,6 @@ use Rattle.isdb_mmt.specs.declared.decoder.reassembler.MediaEffect.{Medi
 use Rattle.isdb_mmt.specs.declared.decoder.reassembler.MediaOutcome.{MediaOutcome}
 use Rattle.isdb_mmt.specs.declared.decoder.records.Answer.{Answer}
 use Rattle.isdb_mmt.proofs.Names.{true-not-false}
-use Rattle.isdb_mmt.proofs.Lent.{length-names}
 use Rattle.isdb_mmt.proofs.Views.{keys, FoundAt, found-at, absent}
 use Rattle.isdb_mmt.proofs.Limits.{passed, areas-fit}
 use Rattle.isdb_mmt.proofs.Checks.{media-was, place-was, count-was}
@@ -113,9 +112,6 @@ pub record Begins (s : Session) (id : ℕ) (place-for : PlaceFor) (p : Media) : 
 module _ (s : Session) (ok : Sound (s .state) (s .others) (lengthsOf s)) (id : ℕ) where
   abbrev names : List ℕ
   names = namesFrom (usedOf (s .state) .«media_ids») mediaSize mediaPlaces (s .state)
-
-  names-long : length names ≡ usedOf (s .state) .«media_ids»
-  names-long = length-names mediaSize (usedOf (s .state) .«media_ids») mediaPlaces (s .state)
 
   found-old : (i : ℕ) → mediaPlaceFor (s .state) id ≡ Own i → FoundAt (entries s) id i
   unfolding mediaPlaceFor

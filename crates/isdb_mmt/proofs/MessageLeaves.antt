@@ -120,7 +120,7 @@ control-bytes c a b m t e f =
     let p : given (c .joining) (join (c .«long_length») (c .aggregated) a) ≡ given (c .joining) (join (c .«long_length») (c .aggregated) b) =
     either (c .joining) (λ y. rw (e y)) (λ y. rw y) in
     let q : given (c .mpt) m ≡ given (c .mpt) t = either (c .mpt) (λ y. rw (f y)) (λ y. rw y) in
-    λ i. record { line = record { number = given (c .seen) (c .sequence); part = p i }; mpt = q i }
+    λ i. record { reassembly = record { number = given (c .seen) (c .sequence); partial = p i }; mpt = q i }
 
 join-laid : (o : Option PartialMessage) (area i : ℕ) (l : Bytes) → partialLength o ≤ area → (i + 1) * area ≤ length l
     → given (isSome o) (join (longIn o) (aggregatedIn o) (part (i * area) (partialLength o) (bytesOver (i * area) (joinedIn o) l))) ≡ o
@@ -249,7 +249,7 @@ module _ (s : Session) (ok : Sound (s .state) (s .others) (lengthsOf s)) where
 
   -- ---- a message packet, whose id has or takes the place i
   module _ (n : State) (f : TablesFit l n) (id : ℕ) (c : ControlState) (fits : Fit (controlFields (controlFor id c)))
-      (joins : partialLength (c .line .part) ≤ l .«message_area») (short : tableLength (c .mpt) ≤ area)
+      (joins : partialLength (c .reassembly .partial) ≤ l .«message_area») (short : tableLength (c .mpt) ≤ area)
       (ep : view s .passing ≡ n .passing) (ea : view s .assets ≡ n .assets) (ec : put id c (controlEntries s) ≡ n .controls) (ei : view s .time ≡ n .time)
       (i : ℕ) (free : i < l .«control_ids») where
     abbrev st1 : List ℕ
@@ -259,7 +259,7 @@ module _ (s : Session) (ok : Sound (s .state) (s .others) (lengthsOf s)) where
     st2 = withLatest (n .store) (stateOfTables n st1)
 
     abbrev messages2 : Bytes
-    messages2 = bytesOver (i * l .«message_area») (joinedIn (c .line .part)) (s .messages)
+    messages2 = bytesOver (i * l .«message_area») (joinedIn (c .reassembly .partial)) (s .messages)
 
     abbrev t0 : Bytes
     t0 = keptOver area 0 (n .store .kept) (s .tables)
@@ -398,10 +398,10 @@ module _ (s : Session) (ok : Sound (s .state) (s .others) (lengthsOf s)) where
     unfolding controlFor controlStateOf
     own-entry =
         let z : 0 + i ≡ i = omega arith in
-        let pj = join-laid (c .line .part) (l .«message_area») i (s .messages) joins in-messages in
+        let pj = join-laid (c .reassembly .partial) (l .«message_area») i (s .messages) joins in-messages in
         let pm = laid area (c .mpt) t2 (l .sections + i) short (in2 _ (omega arith)) in
-        let pn = given-back (c .line .number) in
-        rw z (λ k. (id, record { line = record { number = pn k; part = pj k }; mpt = pm k }))
+        let pn = given-back (c .reassembly .number) in
+        rw z (λ k. (id, record { reassembly = record { number = pn k; partial = pj k }; mpt = pm k }))
 
     other-entry : (j : ℕ) → j < length (controlsIn st) → (j ≡ i → ⊥)
         → controlEntry l s2 (0 + j) (getD (controlsIn st) j (controlFor id c)) ≡ controlEntry l s (0 + j) (getD (controlsIn st) j (controlFor id c))
@@ -410,10 +410,10 @@ module _ (s : Session) (ok : Sound (s .state) (s .others) (lengthsOf s)) where
         let z : 0 + j ≡ j = omega arith in
         let k : j < l .«control_ids» = omega (arith, length-controls st, ok .controls) in
         let q = control-was l d (every-at (controlSound l) (controlFor id c) (controlsIn st) j (ok .messages) b) in
-        let g : tableLength (joinedIn (c .line .part)) ≤ l .«message_area» = rw (joined-length (c .line .part)) joins in
+        let g : tableLength (joinedIn (c .reassembly .partial)) ≤ l .«message_area» = rw (joined-length (c .reassembly .partial)) joins in
         let e = control-bytes d (part (j * l .«message_area») (d .length) messages2) (part (j * l .«message_area») (d .length) (s .messages))
         (keptTableAt l s2 (l .sections + j) (d .«mpt_length»)) (keptTableAt l s (l .sections + j) (d .«mpt_length»))
-        (λ t. laid-apart (l .«message_area») (joinedIn (c .line .part)) (s .messages) i g in-messages j (d .length) ne (q .0 t))
+        (λ t. laid-apart (l .«message_area») (joinedIn (c .reassembly .partial)) (s .messages) i g in-messages j (d .length) ne (q .0 t))
         (λ t. past j (d .«mpt_length») k ne (q .1 t)) in
         rw z (λ x. (d .«packet_id», e x))
 

@@ -3,7 +3,7 @@ use Prim.Native.Nat.{ℕ, _+_, _-_, _*_, _≤_, _<_, max}
 use mathlib.Core.Path.{_≡_, refl, sym, ap, _∙_, subst}
 use mathlib.Core.Bool.{Bool, true, false}
 use mathlib.Core.Option.{Option}
-use mathlib.Core.List.{List, [], map}
+use mathlib.Core.List.{List, map}
 use native.Mathlib.Omega.{arith}
 use native.Mathlib.Nat.{zero-add, mul-le-mul-right}
 use lib.ListN.{length, take, drop, replicate, length-replicate, length-drop}
@@ -132,10 +132,6 @@ module _ (s : Session) (ok : Sound (s .state) (s .others) (lengthsOf s)) (i : �
   mpt-is : mptAfterAll (before .mpt) ts ≡ mpt-after
   unfolding committed
   mpt-is = ap (mptAfterAll mpt-before) same-tables
-
-  counters-before : before .counters ≡ c₁
-  unfolding committed
-  counters-before = refl
 
   counted-is : countedAll (before .mpt) (before .store) (before .counters) ts ≡ countedAll mpt-before store-before c₁ given-tables
   unfolding committed

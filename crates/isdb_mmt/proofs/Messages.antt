@@ -231,12 +231,6 @@ module _ (ix log others assembled : List ℕ) (g : WalkState) (a b : Bytes) (fro
       subst (λ (y : Content). Walked tableRead ix log others g (placedIn from m y) (length m + 1) (tablesIn m y .malformed) r ix′ log′ others′)
       (sym e ∙ ec) (walked-more tableRead ix log others g (placedIn from m z) n (tablesIn m z .malformed) r ix′ log′ others′ w (length m + 1) h)
 
-  pub message-short : length m ≤ mostMessageArea
-  message-short = omega (arith, can .short)
-
-  pub message-cut-can : g .«message_malformed» ≤ mostBefore
-  message-cut-can = omega (arith, can .room .bad)
-
   pub message-cut : c ≡ badMessage → (r : WalkState) → r ≡ cutShort g
       → Walked tableRead ix log others g (placedOf from m) (length m + 1) (tablesOf m .malformed) r ix log others
   message-cut e r er = as-placed badMessage e 1 (omega arith) r ix log others (cut-walked tableRead ix log others g (can .copies .used) r er)

@@ -81,12 +81,6 @@ module _ (read : Bytes → Table) (found-at : ReadPlaced read) (ix log others : 
   pub full-above : g .full ≡ false → r .full ≡ true → mostSections < length (storedAll (before .store) given .kept)
   full-above y z = omega (arith, walked .to .over y z, kept-all)
 
-  pub within-else : r .full ≡ false → length (storedAll (before .store) given .kept) ≤ mostSections
-  within-else y =
-      let e : length (pendingWithAll read (pendingOf ix log others g) xs .index) ≡ r .used =
-      ap (λ (d : PendingTables). length (d .index)) (sym (walked .to .now y .1)) ∙ log-length (indexOf (r .used) ix′) log′ ∙ length-index (r .used) ix′ in
-      omega (arith, walked .to .used, kept-all)
-
   module _ (y : r .full ≡ false) (held : AllHeld m (a .area) (g .longest) (pendingOf ix log others g .index)) (fits : r .longest ≤ a .area) where
     abbrev logged-now : List Logged
     logged-now = withLog (indexOf (r .used) ix′) log′

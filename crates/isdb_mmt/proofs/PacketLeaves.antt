@@ -86,7 +86,7 @@ taken s x e =
 
 pub record ControlFits (l : Limits) (id : ℕ) (c : ControlState) : Type 0 where
   pub fields : Fit (controlFields (controlFor id c))
-  pub joins : partialLength (c .line .part) ≤ l .«message_area»
+  pub joins : partialLength (c .reassembly .partial) ≤ l .«message_area»
   pub mpt : tableLength (c .mpt) ≤ l .«table_area»
 
 pub record MessageFits (l : Limits) (id : ℕ) (n : State) : Type 0 where

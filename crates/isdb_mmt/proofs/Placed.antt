@@ -7,7 +7,6 @@ use mathlib.Core.List.{List, [], _∷_}
 use native.Mathlib.Omega.{arith}
 use lib.Dec.{eqb}
 use lib.ListN.{length}
-use borrow.Author.Tests.{eqb-true}
 use Rattle.isdb_tlv.proofs.Guards.{either}
 use Rattle.isdb_mmt.specs.Packet.{Bytes, PayloadUnit, MpuPacket, headerIn, readable}
 use Rattle.isdb_mmt.specs.Maps.{one, isSome, orElse}
@@ -183,18 +182,6 @@ module _ (p : Media) (b : Bytes) where
       (λ t. either (eqb (h .«mpu_sequence_number») (p .mpu)) (λ x. rw (t, x)) (λ x. rw (t, x)))
       (λ f. rw f)
 
-  tied-is : (h : MaybeHeader) → rangeThen h ≡ rangeFor (mpuAfter (assetOfPlace p b .mpu) (mpuIn (headerIn h))) (firstIn (rangeThen h))
-  unfolding mpuAfter newMpu rangeAfter assetOfPlace
-  tied-is noPayload = either (p .«mpu_seen») (λ t. rw t) (λ f. rw f)
-  tied-is (payload h) =
-      either (p .«mpu_seen»)
-      (λ t.
-      either (eqb (h .«mpu_sequence_number») (p .mpu))
-      (λ x. let e : p .mpu ≡ h .«mpu_sequence_number» = sym (eqb-true (h .«mpu_sequence_number») (p .mpu) x) in
-      rw (t, x) (λ i. some (p .«first_mpu», e i)))
-      (λ x. rw (t, x)))
-      (λ f. rw f)
-
 completes-is : (h : MaybeHeader) → completesIn h ≡ completes (headerIn h)
 completes-is noPayload = refl
 completes-is (payload h) = refl
@@ -213,17 +200,6 @@ module _ (id : ℕ) (p : Media) (b : Bytes) (m : MpuPacket) (long : p .held ≡ 
     (h : MaybeHeader) (eh : m .header ≡ headerIn h) where
   abbrev before : Asset
   before = assetOfPlace p b
-
-  pub tied-after : Tied (assetAfter before m)
-  unfolding assetAfter afterHeaders
-  tied-after =
-      let k = units-keep m (readable m) (afterHeaders before m) in
-      subst (λ (x : Asset). Tied x) (sym k)
-      (subst
-      (λ (o : Option PayloadHeader).
-      rangeAfter (newMpu (before .mpu) (mpuIn o)) (before .range) (mpuIn o)
-      ≡ rangeFor (mpuAfter (before .mpu) (mpuIn o)) (firstIn (rangeAfter (newMpu (before .mpu) (mpuIn o)) (before .range) (mpuIn o))))
-      (sym eh) (tied-is p b h))
 
   module _ (bad : Bool) (eb : bad ≡ malformedPayload m) (t : MediaEffect)
       (w : Told m (startOf p (m .number)) (afterHeaders before m) t (readable m)) where

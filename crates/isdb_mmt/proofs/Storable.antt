@@ -30,9 +30,9 @@ use Rattle.isdb_mmt.proofs.Every.{Every, every-put, every-found, every-
 use Rattle.isdb_mmt.proofs.Brief.{octets-drop, octets-take, Plain, plain-of}
 use Rattle.isdb_mmt.proofs.Fits.{mostAdded, asset-more}
 use Rattle.isdb_mmt.proofs.Stores.{breaksIn, breaks-read, breaks-control, CountersFit, counters-more, counted-fit}
-use Rattle.isdb_mmt.proofs.Ready.{JoinFits, line-fits, gives-fits, Given, given-cut, length-map, length-control, packet-fits, line-counts}
+use Rattle.isdb_mmt.proofs.Ready.{JoinFits, reassembly-fits, gives-fits, Given, given-cut, length-map, length-control, packet-fits, reassembly-counts}
 use Rattle.isdb_mmt.proofs.Outs.{be-small, HeaderOk, MfuOk, ItemOk, ObjectOk, HeldOk, MediaOk, TimeOk, PacketOk, packet-ok}
-use Rattle.isdb_mmt.proofs.PlaceFits.{NumberOk, AssetOk, fresh-ok, asset-after, TableOk, KeptOk, StoreOk, store-ok-more, others-counted, tables-ok, control-ok, stores-ok, mpts-ok, ControlOk, idle-ok}
+use Rattle.isdb_mmt.proofs.PlaceFits.{NumberOk, AssetOk, fresh-ok, asset-after, TableOk, KeptOk, StoreOk, store-ok-more, tables-ok, control-ok, stores-ok, mpts-ok, ControlOk, idle-ok}
 
 -- ---- a state
 
@@ -64,7 +64,7 @@ asset-ok-more area n m a l h =
 abbrev pub controlAfter : State → MessagePacket → ControlState
 controlAfter s c =
     record {
-      line = reassemblyAfter (reassemblyOf (c .id) s) c;
+      reassembly = reassemblyAfter (reassemblyOf (c .id) s) c;
       mpt = mptAfterAll (controlOf (c .id) s .mpt) (tablesGiven (reassemblyOf (c .id) s) c);
     }
 
@@ -119,7 +119,7 @@ module _ (l : Limits) (n : ℕ) (s : State) (h : Storable l n s) where
         i,
         record {
           number = o .1;
-          joins = line-fits (l .«message_area») (reassemblyOf (c .id) s) c (old .joins) (q .1) (a .message);
+          joins = reassembly-fits (l .«message_area») (reassemblyOf (c .id) s) c (old .joins) (q .1) (a .message);
           mpt =
               mpts-ok (l .«table_area») (map tableRead bs) (controlOf (c .id) s .mpt) (s .store) (old .mpt)
               (tables-ok bs (tables-given c o q .octets)) (a .table);
@@ -142,14 +142,14 @@ module _ (l : Limits) (n : ℕ) (s : State) (h : Storable l n s) where
       → CountersFit (n + mostAdded) (n + mostAdded) (n + mostAdded) (pushed s (message c) .counters)
   unfolding pushed tablesGiven
   message-counted c o q =
-      let line = reassemblyOf (c .id) s in
+      let reassembly = reassemblyOf (c .id) s in
       let g = tables-given c o q in
-      let bs = cutOfAll (messageCompleted line c) .tables in
+      let bs = cutOfAll (messageCompleted reassembly c) .tables in
       let many = length-map bs in
       counters-more (n + 1 + (mostMessage + 2)) (n + length (map tableRead bs)) (n + breaksIn (map tableRead bs)) (n + mostAdded) (n + mostAdded) (n + mostAdded)
       _ (omega arith) (omega (arith, many, g .many)) (omega (arith, breaks-read bs, g .long))
       (counted-fit (map tableRead bs) (n + 1 + (mostMessage + 2)) n n (controlOf (c .id) s .mpt) (s .store) _
-      (line-counts (n + 1) n n _ line c (g .malformed)
+      (reassembly-counts (n + 1) n n _ reassembly c (g .malformed)
       (packet-fits n n n 0 0 0 (s .counters) (omega arith) (omega arith) (omega arith) (h .counters))))
 
   control-counted : (bs : List Bytes) → Plain (control bs)
@@ -173,27 +173,13 @@ module _ (l : Limits) (n : ℕ) (s : State) (h : Storable l n s) where
   counters-next (control bs) o q = control-counted bs q
   counters-next other o q = counted 0 0 0 (omega arith) (omega arith) (omega arith)
 
-  -- nor do those of table ids
-  pub others-next : (p : Packet) → PacketOk p → Plain p → (i : ℕ) → getD (pushed s p .store .others) i 0 ≤ n + mostAdded
-  unfolding pushed tablesGiven
-  others-next ipError o q i = omega (arith, h .store .others i)
-  others-next (ntp t) o q i = omega (arith, h .store .others i)
-  others-next nonMmtp o q i = omega (arith, h .store .others i)
-  others-next (media m) o q i = omega (arith, h .store .others i)
-  others-next (message c) o q i =
-      let g = tables-given c o q in
-      let bs = cutOfAll (messageCompleted (reassemblyOf (c .id) s) c) .tables in
-      omega (arith, length-map bs, g .many, others-counted (map tableRead bs) n (s .store) (h .store .others) i)
-  others-next (control bs) o q i = omega (arith, length-control bs, q .0, others-counted (controlTables bs) n (s .store) (h .store .others) i)
-  others-next other o q i = omega (arith, h .store .others i)
-
   message-stored : (c : MessagePacket) → PacketOk (message c) → Plain (message c) → HasAreas l s (message c)
       → Storable l (n + mostAdded) (pushed s (message c))
   unfolding pushed needs tablesGiven
   message-stored c o q a =
-      let line = reassemblyOf (c .id) s in
+      let reassembly = reassemblyOf (c .id) s in
       let g = tables-given c o q in
-      let bs = cutOfAll (messageCompleted line c) .tables in
+      let bs = cutOfAll (messageCompleted reassembly c) .tables in
       let many = length-map bs in
       record {
         assets = others-fit;

@@ -208,21 +208,21 @@ module _ (t : Bytes) (h : SectionHeader) (e : longSectionOf t ≡ goodSection h)
       ∙ by-is ks (foundFrom 0 (keysOf ks) (keyOf t)))
 
 module _ (t : Bytes) (ks : List KeptSection) (l : LongSection) (el : l ≡ longSectionOf t) where
-  pub told-good : (h : SectionHeader) → l ≡ goodSection h → (b : Bytes) → b ≡ partOf t (h .body) → (r : TableOutcome) → r ≡ versionFor ks t h b → r ≡ sectionOutcome ks (sectionOf t)
-  told-good h e b eb r er = er ∙ ap (versionFor ks t h) eb ∙ good-told t h (sym el ∙ e) ks
+  pub outcome-good : (h : SectionHeader) → l ≡ goodSection h → (b : Bytes) → b ≡ partOf t (h .body) → (r : TableOutcome) → r ≡ versionFor ks t h b → r ≡ sectionOutcome ks (sectionOf t)
+  outcome-good h e b eb r er = er ∙ ap (versionFor ks t h) eb ∙ good-told t h (sym el ∙ e) ks
 
   module _ (x : SectionError) (e : l ≡ badSection x) (r : TableOutcome) where
-    pub told-crc : x ≡ Crc → r ≡ outcome 1 0 0 0 Nothing → r ≡ sectionOutcome ks (sectionOf t)
+    pub outcome-crc : x ≡ Crc → r ≡ outcome 1 0 0 0 Nothing → r ≡ sectionOutcome ks (sectionOf t)
     unfolding sectionOutcome sectionOf
-    told-crc ex er = er ∙ rw (← el, e, ex)
+    outcome-crc ex er = er ∙ rw (← el, e, ex)
 
-    pub told-short : x ≡ Truncated → r ≡ outcome 0 1 0 0 Nothing → r ≡ sectionOutcome ks (sectionOf t)
+    pub outcome-short : x ≡ Truncated → r ≡ outcome 0 1 0 0 Nothing → r ≡ sectionOutcome ks (sectionOf t)
     unfolding sectionOutcome sectionOf
-    told-short ex er = er ∙ rw (← el, e, ex)
+    outcome-short ex er = er ∙ rw (← el, e, ex)
 
-    pub told-bad : x ≡ Malformed → r ≡ outcome 0 1 0 0 Nothing → r ≡ sectionOutcome ks (sectionOf t)
+    pub outcome-bad : x ≡ Malformed → r ≡ outcome 0 1 0 0 Nothing → r ≡ sectionOutcome ks (sectionOf t)
     unfolding sectionOutcome sectionOf
-    told-bad ex er = er ∙ rw (← el, e, ex)
+    outcome-bad ex er = er ∙ rw (← el, e, ex)
 
 pub long-is : (ks : List KeptSection) (m p : Recent) (b : Bytes) → tableOutcome ks m p (longTable b) ≡ longOutcome ks b
 unfolding tableOutcome longOutcome
@@ -291,10 +291,10 @@ module _ (t : Bytes) (x : TotParsed) (ex : x ≡ totOf t) where
     tot-bad ez r er = er ∙ rw (← ex, e, ez)
 
 module _ (ks : List KeptSection) (m p : Recent) (t : Bytes) (r : TableOutcome) where
-  pub told-empty : length t ≡ 0 → r ≡ outcome 0 0 0 0 Nothing → r ≡ tableOutcome ks m p (tableRead t)
+  pub outcome-empty : length t ≡ 0 → r ≡ outcome 0 0 0 0 Nothing → r ≡ tableOutcome ks m p (tableRead t)
   unfolding tableRead tableOutcome
-  told-empty e er = er ∙ rw (eq-eqb (length t) 0 e)
+  outcome-empty e er = er ∙ rw (eq-eqb (length t) 0 e)
 
-  pub told-by-id : (length t ≡ 0 → ⊥) → (id : ℕ) → id ≡ be 1 t 0 → r ≡ tableOutcome ks m p (tableById id t) → r ≡ tableOutcome ks m p (tableRead t)
+  pub outcome-by-id : (length t ≡ 0 → ⊥) → (id : ℕ) → id ≡ be 1 t 0 → r ≡ tableOutcome ks m p (tableById id t) → r ≡ tableOutcome ks m p (tableRead t)
   unfolding tableRead
-  told-by-id e id ei er = er ∙ rw (ne-eqb (length t) 0 e, ei, byte-at t 0)
+  outcome-by-id e id ei er = er ∙ rw (ne-eqb (length t) 0 e, ei, byte-at t 0)

@@ -24,7 +24,7 @@ use Rattle.isdb_mmt.specs.Session.{Session, limitsOf, usedOf, latestOf, 
 use Rattle.isdb_mmt.specs.Check.{controlsIn, sectionsIn, controlSound, sectionSound, lengthsOf, sound, Sound}
 use Rattle.isdb_mmt.specs.Model.{Control as ControlState}
 use Rattle.isdb_mmt.specs.View.{given, controlStateOf, viewBy, view}
-use Rattle.isdb_mmt.specs.Readings.{areaPart, sectionFound, sectionPart, controlFound, mptAt, mptPart, pltPart, totPart, tableIf, tableRead, tableIdOf, sectionRead, mptRead, pltRead, totRead, controlNames, ascending, firstCarried, carried, assetIn, assetIf, assetAmong, assetRead, nothing, toldBy}
+use Rattle.isdb_mmt.specs.Readings.{areaPart, sectionFound, sectionPart, controlFound, mptAt, mptPart, pltPart, totPart, tableIf, tableRead, tableIdOf, sectionRead, mptRead, pltRead, totRead, controlNames, ascending, firstCarried, carried, assetIn, assetIf, assetAmong, assetRead, toldBy}
 use Rattle.isdb_mmt.specs.ReadingLaws.{namesIn, rises, InOrder}
 use Rattle.isdb_mmt.specs.TableReadingLaws.{saysOf, sectionBytes, mptBytes, Inside, Reads, TablesAreTold, SaysAsset, saysAsset, carriedBy, mptSays, keptSays, carriedAmong, InsideMpt, AssetRead, CarriedAssets, Passes, PassedBelow, AnswerIs, FirstCarriers}
 use Rattle.isdb_mmt.specs.declared.part.Part.{Part}

@@ -10,14 +10,13 @@ use mathlib.Core.List.{List, [], _∷_, _++_, map}
 use native.Mathlib.Omega.{arith}
 use lib.Dec.{eqb, ltb}
 use lib.Arith.{lt-of-le-ne}
-use lib.Seq.{drop-drop, take-add}
-use lib.ListN.{length, getD, set, take, drop}
+use lib.ListN.{length, getD, set}
 use borrow.Author.Tests.{eq-eqb, ne-eqb, eqb-true, eqb-false, ltb-true, ltb-false}
 use Rattle.isdb_tlv.proofs.Guards.{either}
 use Rattle.isdb_mmt.specs.Maps.{find, put}
 use Rattle.isdb_mmt.specs.Lent.{part, over, placesFrom, foundFrom, indexed}
 use Rattle.isdb_mmt.specs.declared.decoder.place.Found.the-variants.{At, Nothing}
-use Rattle.isdb_mmt.proofs.Lent.{places-set, places-snoc, part-apart, part-over}
+use Rattle.isdb_mmt.proofs.Lent.{places-set, places-snoc, part-apart}
 use Rattle.isdb_mmt.proofs.Names.{true-not-false, there, indexIn}
 
 -- ---- a map's entries by their names
@@ -148,12 +147,3 @@ module _ (area : ℕ) (l bs : List ℕ) (i from : ℕ) (h : from + length bs ≤
       let k : (i + 1) * area ≤ j * area = mul-le-mul-right area (omega arith) in
       inr (omega arith)))
       within-area
-
--- what an area has, with more behind it
-pub area-grown : (at n : ℕ) (l bs : List ℕ) → at + n + length bs ≤ length l → part at (n + length bs) (over (at + n) bs l) ≡ part at n l ++ bs
-area-grown at n l bs h =
-    let m : List ℕ = over (at + n) bs l in
-    let e0 : part at n m ≡ part at n l = part-apart at n (at + n) bs l (inl (omega arith)) (omega arith) in
-    let e1 : take (length bs) (drop n (drop at m)) ≡ bs =
-    ap (λ (r : List ℕ). take (length bs) r) (drop-drop n at m) ∙ part-over (at + n) bs l (omega arith) in
-    take-add n (length bs) (drop at m) ∙ ap (λ (r : List ℕ). r ++ take (length bs) (drop n (drop at m))) e0 ∙ ap (λ (r : List ℕ). part at n l ++ r) e1

@@ -3,7 +3,7 @@ use Prim.Native.Nat.{ℕ, zero, suc, _+_, _-_, _*_, _≤_, _<_}
 use mathlib.Core.Path.{_≡_, refl, sym, ap, _∙_, subst}
 use mathlib.Core.Bool.{Bool, true, false, not}
 use mathlib.Core.Option.{Option, some}
-use mathlib.Core.List.{List, [], _++_, map}
+use mathlib.Core.List.{List, _++_, map}
 use native.Mathlib.Omega.{arith}
 use native.Mathlib.Nat.{add-zero, mul-le-mul-right}
 use lib.Dec.{ltb}
@@ -317,19 +317,19 @@ module _ (s : Session) (x : MessagePacket) (y : ReceivedFragment) (i k : ℕ) (i
   abbrev n : State
   n = pushed v (message x)
 
-  abbrev line : Reassembly
-  line = reassemblyOf (x .id) v
+  abbrev reassembly : Reassembly
+  reassembly = reassemblyOf (x .id) v
 
-  done : Does line x c m f
+  done : Does reassembly x c m f
   done = does s ok x i k c at f outcome-met
 
-  gives-is : messageCompleted line x ≡ some j
+  gives-is : messageCompleted reassembly x ≡ some j
   gives-is = done .whole ∙ whole-is f whole c m b
 
   abbrev ts : List Table
   ts = map tableRead (cutOf j .tables)
 
-  given-is : tablesGiven line x ≡ ts
+  given-is : tablesGiven reassembly x ≡ ts
   unfolding tablesGiven cutOfAll
   given-is = ap (λ (o : Option PartialMessage). map tableRead (cutOfAll o .tables)) gives-is
 
@@ -349,12 +349,12 @@ module _ (s : Session) (x : MessagePacket) (y : ReceivedFragment) (i k : ℕ) (i
   abbrev c₁ : Counters
   c₁ = malformedMore c₀ (cutOf j .malformed)
 
-  line-counts : reassemblyCounted (packetCounted (v .counters) 0 0 0) line x ≡ c₁
+  reassembly-counts : reassemblyCounted (packetCounted (v .counters) 0 0 0) reassembly x ≡ c₁
   unfolding reassemblyCounted messageCounted packetCounted view viewBy cutOfAll
-  line-counts =
+  reassembly-counts =
       let «orphan_fragments» = ap (λ z. a₀ .«orphan_fragments» + one z) (done .«orphan_fragments») in
       let oversize = ap (λ z. a₀ .oversize + one z) (done .oversize) in
-      let bad : a₀ .«message_malformed» + (one (short x) + cutOfAll (messageCompleted line x) .malformed) ≡ a₀ .«message_malformed» + one (faultsOf f .malformed) + cutOf j .malformed =
+      let bad : a₀ .«message_malformed» + (one (short x) + cutOfAll (messageCompleted reassembly x) .malformed) ≡ a₀ .«message_malformed» + one (faultsOf f .malformed) + cutOf j .malformed =
       ap (λ (o : Option PartialMessage). a₀ .«message_malformed» + (one (short x) + cutOfAll o .malformed)) gives-is
       ∙ ap (λ z. a₀ .«message_malformed» + (one z + cutOf j .malformed)) (done .shorts)
       ∙ assoc (a₀ .«message_malformed») (one (faultsOf f .malformed)) (cutOf j .malformed) in
@@ -380,8 +380,8 @@ module _ (s : Session) (x : MessagePacket) (y : ReceivedFragment) (i k : ℕ) (i
   counters-is : n .counters ≡ countedAll mptB (v .store) c₁ ts
   unfolding pushed
   counters-is =
-      ap (λ (z : Counters). countedAll (controlOf (x .id) v .mpt) (v .store) z (tablesGiven line x)) line-counts
-      ∙ ap (λ (o : Option Bytes). countedAll o (v .store) c₁ (tablesGiven line x)) (mpt-before s ok x i k c at f outcome-met)
+      ap (λ (z : Counters). countedAll (controlOf (x .id) v .mpt) (v .store) z (tablesGiven reassembly x)) reassembly-counts
+      ∙ ap (λ (o : Option Bytes). countedAll o (v .store) c₁ (tablesGiven reassembly x)) (mpt-before s ok x i k c at f outcome-met)
       ∙ ap (λ (zs : List Table). countedAll mptB (v .store) c₁ zs) given-is
 
   -- ---- after the walk
@@ -409,7 +409,7 @@ module _ (s : Session) (x : MessagePacket) (y : ReceivedFragment) (i k : ℕ) (i
     used-is : r .full ≡ false → r .used ≡ kept-now
     used-is y = message-used s ok i (at .free) (c .mpt) (c .«mpt_length») small j c₀ (length (j .bytes) + 1) r ix₂ log₂ mine₂ w y ∙ kept-is
 
-    longest-is : r .full ≡ false → r .longest ≡ tablesNeed (v .store) (tablesGiven line x)
+    longest-is : r .full ≡ false → r .longest ≡ tablesNeed (v .store) (tablesGiven reassembly x)
     longest-is y =
         message-longest s ok i (at .free) (c .mpt) (c .«mpt_length») small j c₀ (length (j .bytes) + 1) r ix₂ log₂ mine₂ w y
         ∙ ap (tablesNeed (v .store)) (sym given-is)
@@ -426,10 +426,10 @@ module _ (s : Session) (x : MessagePacket) (y : ReceivedFragment) (i k : ℕ) (i
         go
         ∙ sym
         (asks-message s ok x i k c at f outcome-met
-        ∙ ap (λ z. asked-by z (tablesNeed (v .store) (tablesGiven line x))) asked-sections)
+        ∙ ap (λ z. asked-by z (tablesNeed (v .store) (tablesGiven reassembly x))) asked-sections)
       where
-        go : wholeAsk l (areaBy f c b) r ≡ asked-by kept-now (tablesNeed (v .store) (tablesGiven line x))
-        go = whole-cases l (areaBy f c b) r kept-now (tablesNeed (v .store) (tablesGiven line x)) (λ y. omega (arith, full-is y, met .ranges .sections)) used-is longest-is
+        go : wholeAsk l (areaBy f c b) r ≡ asked-by kept-now (tablesNeed (v .store) (tablesGiven reassembly x))
+        go = whole-cases l (areaBy f c b) r kept-now (tablesNeed (v .store) (tablesGiven reassembly x)) (λ y. omega (arith, full-is y, met .ranges .sections)) used-is longest-is
 
     module _ (z : Limits) (ez : z ≡ l) (area : ℕ) (ea : area ≡ areaBy f c b) (q : ℕ) (eq : q ≡ wholeAsk z area r) where
       number-is : q ≡ asksOf s 0 0 (message x)

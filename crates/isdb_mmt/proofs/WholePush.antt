@@ -2,7 +2,7 @@
 use Prim.Native.Nat.{ℕ, _+_, _-_, _*_, _≤_, _<_}
 use mathlib.Core.Path.{_≡_, ap, _∙_}
 use mathlib.Core.Bool.{Bool}
-use mathlib.Core.List.{List, [], _++_}
+use mathlib.Core.List.{List, _++_}
 use native.Mathlib.Omega.{arith}
 use native.Mathlib.Nat.{mul-le-mul-right}
 use lib.ListN.{length, take, drop, replicate, length-take}
@@ -10,10 +10,9 @@ use mir.Syntax.{w32, w64}
 use mir.Val.{Fits}
 use borrow.Author.Tests.{eq-eqb, ne-eqb, lt-ltb, le-ltb}
 use Rattle.isdb_tlv.specs.Fields.{written}
-use Rattle.isdb_tlv.specs.Guards.{if_then_else_}
 use Rattle.isdb_tlv.proofs.Fields.{length-written}
 use Rattle.isdb_mmt.specs.Layout.{mostSections, mostCount, usedPlace, controlPlaces, controlSize, sectionPlaces, sectionSize, stateSize}
-use Rattle.isdb_mmt.specs.Packet.{Bytes, message}
+use Rattle.isdb_mmt.specs.Packet.{Bytes}
 use Rattle.isdb_mmt.specs.Lent.{part, over}
 use Rattle.isdb_mmt.specs.Session.{limitsOf, usedOf, usedFields, controlFields}
 use Rattle.isdb_mmt.specs.FragmentPush.{withReassembly, withCounts}
@@ -55,8 +54,8 @@ module _ (state ix : List ℕ) (i k : ℕ) (g : WalkState) (can : CanLeaveState 
   used-adds = rw eu (omega (arith, can .few, can .new))
 
   module _ (d : Control) (s1 : List ℕ) (e1 : s1 ≡ withReassembly i d (usedWhole u k (g .used)) state) (rows : List ℕ) (er : rows ≡ take (sectionSize * g .used) ix) where
-    line-length : length s1 ≡ length state
-    line-length =
+    reassembly-length : length s1 ≡ length state
+    reassembly-length =
         let a : length (written (controlFields d)) ≡ 21 = length-written (controlFields d) in
         let b : length (written (usedFields (usedWhole u k (g .used)))) ≡ 12 = length-written (usedFields (usedWhole u k (g .used))) in
         let x : List ℕ = over (controlPlaces + controlSize * i) (written (controlFields d)) state in
@@ -67,11 +66,11 @@ module _ (state ix : List ℕ) (i k : ℕ) (g : WalkState) (can : CanLeaveState 
     rows-short = rw er (omega (arith, length-take (sectionSize * g .used) ix, can .long, can .sections))
 
     pub rows-fit : sectionPlaces + length rows ≤ length s1
-    rows-fit = omega (arith, rows-short, line-length)
+    rows-fit = omega (arith, rows-short, reassembly-length)
 
     module _ (s2 : List ℕ) (e2 : s2 ≡ over sectionPlaces rows s1) where
       pub rows-long : stateSize ≤ length s2
-      rows-long = rw e2 (omega (arith, length-over sectionPlaces rows s1 rows-fit, line-length, can .long))
+      rows-long = rw e2 (omega (arith, length-over sectionPlaces rows s1 rows-fit, reassembly-length, can .long))
 
       pub state-done : (cs c : Counters) → c ≡ countersWith cs g → (x : Latest) → x ≡ latestWith g → (s3 : List ℕ) → s3 ≡ withCounts c x s2
           → s3 ≡ stateLeft i k d cs g ix state

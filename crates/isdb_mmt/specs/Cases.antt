@@ -1,12 +1,12 @@
 -- Worked cases, proved as one table by computation: the lengths of descriptors, and feeds from their bytes through `classify` and
 -- `pushed`, with the readings that are easily got wrong. Those of messages and sections are in ControlCases.
-use Prim.Native.Nat.{ℕ, _+_, _-_}
+use Prim.Native.Nat.{ℕ, _+_}
 use mathlib.Core.Path.{refl}
 use mathlib.Core.Bool.{Bool, true, false}
 use mathlib.Core.List.{List, [], _∷_, _++_, map}
 use mathlib.Core.Option.{Option, none, some}
 use Rattle.isdb_mmt.specs.Worked.{Case, _⇒_, Holds}
-use lib.ListN.{length, replicate}
+use lib.ListN.{replicate}
 use Rattle.isdb_tlv.specs.Fields.{bytesOf}
 use Rattle.isdb_tlv.specs.Bytes.{be}
 use Rattle.isdb_tlv.specs.Crc.{feed, feedByte, crcOf}
@@ -114,7 +114,7 @@ joiningIn (some j) = some (j .bytes)
 -- what a state has joined for the control id, `c`
 abbrev joinedIn : State → Control → Told
 joinedIn s c =
-    joined (s .counters .«orphan_fragments») (s .counters .«message_malformed») (c .line .number) (joiningIn (c .line .part)) (c .mpt)
+    joined (s .counters .«orphan_fragments») (s .counters .«message_malformed») (c .reassembly .number) (joiningIn (c .reassembly .partial)) (c .mpt)
 
 unfoldable pub told : Ask → Told
 unfolding bytesOf be feed feedByte crcOf packetType compressedOf fecType payloadType bitsOf entry extensionAt afterFixed mmtpOf isTlvSi sectionAt sectionsFrom sectionsOf lengthWidth stepAt splitFrom splitOf streamIdentifier descriptorOf descriptorsOf fragmentType indicator payloadHeader unitIn unitAt unitStep unitsFrom unitsOf follows lostFrom longSectionOf entryAt entriesFrom entriesTold nitBody nitOf sdtBody sdtOf declaredLength mptAssets mptTable mptOf divisionOf paTables sectionTable contentOf tableAt tablesFrom mediaOf classify find put orElse isSome fresh gap lostBy grown continued effectOf afterUnit objectOf unitEffect afterUnits deliveredBy clear readable newMpu jumped mpuAfter rangeAfter malformedPayload afterHeaders assetAfter tagged passes mediaGives idle partBefore joinedOn partAfter wholeOf reassemblyAfter messageCompleted orphan oversize tablesOf tablesOfAll messagesOf cutOf cutOfAll bodyRead sectionOf otherVersion keepIf keep keepAll zeros tableCounted sectionIncrements tableById tableRead tableIncrements mptAfter mptAfterAll stored storedAll countedAll opened idleControl assetOf controlOf packetCounted messageCounted reassemblyCounted tablesGiven timeAfter pushed gives book nothing enteredAll entered receptionLog logEntries unitsReceived follower dropCounted inOrder missing continuedBy deliveredOf needs unitsNeed reassemblyNeeds tableArea tablesNeed pushAll giveAll heldBytes

@@ -101,7 +101,7 @@ controlLeaves s n =
 unfoldable pub messageIn : Session → State → ℕ → ℕ → Session
 messageIn s n id i =
     lent (withLatest (n .store) (stateOfTables n (withControl i id (controlOf id n) (s .state)))) (n .store .others) (s .objects)
-    (bytesOver (i * limitsOf (s .state) .«message_area») (joinedIn (controlOf id n .line .part)) (s .messages))
+    (bytesOver (i * limitsOf (s .state) .«message_area») (joinedIn (controlOf id n .reassembly .partial)) (s .messages))
     (bytesOver ((limitsOf (s .state) .sections + i) * limitsOf (s .state) .«table_area») (controlOf id n .mpt)
     (latestOver (limitsOf (s .state)) (n .store) (keptOver (limitsOf (s .state) .«table_area») 0 (n .store .kept) (s .tables))))
 

@@ -63,12 +63,12 @@ unfolding isSome orElse
 controlFor id c =
     record {
       «packet_id» = id;
-      seen = isSome (c .line .number);
-      sequence = orElse 0 (c .line .number);
-      joining = isSome (c .line .part);
-      «long_length» = longIn (c .line .part);
-      aggregated = aggregatedIn (c .line .part);
-      length = partialLength (c .line .part);
+      seen = isSome (c .reassembly .number);
+      sequence = orElse 0 (c .reassembly .number);
+      joining = isSome (c .reassembly .partial);
+      «long_length» = longIn (c .reassembly .partial);
+      aggregated = aggregatedIn (c .reassembly .partial);
+      length = partialLength (c .reassembly .partial);
       mpt = isSome (c .mpt);
       «mpt_length» = tableLength (c .mpt);
     }

@@ -106,7 +106,7 @@ HeldTold b r (some a) = HeldIs b r (a .held)
 
 abbrev pub controlTold : Option ControlLine → ControlReading
 controlTold none = noControl
-controlTold (some c) = theControl (record { sequence = u32Told (c .line .number); joined = joinedLength (c .line .part) })
+controlTold (some c) = theControl (record { sequence = u32Told (c .reassembly .number); joined = joinedLength (c .reassembly .partial) })
 
 pub record IdsTold (s : Session) : Type 0 where
   pub media : (id : ℕ) → mediaRead s id ≡ mediaTold (find id (view s .assets))

@@ -31,10 +31,10 @@ pub record PartialMessage : Type 0 where
 
 pub record Reassembly : Type 0 where
   pub number : Option ℕ
-  pub part : Option PartialMessage
+  pub partial : Option PartialMessage
 
 unfoldable pub idle : Reassembly
-idle = record { number = none; part = none }
+idle = record { number = none; partial = none }
 
 abbrev pub short : MessagePacket → Bool
 short c = length (c .payload) <? 2
@@ -49,7 +49,7 @@ started c =
 -- what is joined before the fragment: a gap takes it away
 unfoldable pub partBefore : Reassembly → MessagePacket → Option PartialMessage
 unfolding gap
-partBefore l c = cond (gap (l .number) (c .number)) none (l .part)
+partBefore l c = cond (gap (l .number) (c .number)) none (l .partial)
 
 -- a message continued, where it fits
 unfoldable pub joinedOn : Option PartialMessage → Bytes → Option PartialMessage
@@ -78,7 +78,7 @@ unfolding partBefore partAfter
 reassemblyAfter l c =
     record {
       number = some (c .number);
-      part = cond (short c) (l .part) (partAfter (flagsOf c .division) (partBefore l c) c);
+      partial = cond (short c) (l .partial) (partAfter (flagsOf c .division) (partBefore l c) c);
     }
 
 -- the message that the packet makes whole

@@ -3,7 +3,6 @@ use Prim.Native.Nat.{ℕ, _+_, _*_}
 use mathlib.Core.Path.{_≡_}
 use mathlib.Core.Bool.{Bool, true, false}
 use mathlib.Core.Option.{Option, none, some}
-use mathlib.Core.List.{[]}
 use Rattle.isdb_mmt.specs.Packet.{Bytes}
 use Rattle.isdb_mmt.specs.Objects.{Mfu, Asset}
 use Rattle.isdb_mmt.specs.Kept.{Kept}
@@ -64,10 +63,10 @@ assetOfPlace m b =
 unfoldable pub controlStateOf : Control → Bytes → Bytes → ControlState
 controlStateOf c message mpt =
     record {
-      line =
+      reassembly =
           record {
             number = given (c .seen) (c .sequence);
-            part = given (c .joining) (record { long = c .«long_length»; aggregated = c .aggregated; bytes = message });
+            partial = given (c .joining) (record { long = c .«long_length»; aggregated = c .aggregated; bytes = message });
           };
       mpt = given (c .mpt) mpt;
     }

@@ -1,10 +1,10 @@
-use Rattle.isdb_mmt.proofs.FragmentPushes.{line-stored}
+use Rattle.isdb_mmt.proofs.FragmentPushes.{reassembly-stored}
 use borrow.Author.Needs.{needs}
 use Rattle.isdb_mmt.proofs.decoder.messages.store_reassembly.Statement.{statement}
 use Rattle.isdb_mmt.proofs.decoder.messages.store_reassembly.Tie as tie
 
 returns : tie.Need-returns
-returns c = search (needs, line-stored)
+returns c = search (needs, reassembly-stored)
 
 pub store-reassembly-spec : {M : Type 1} → statement M
 store-reassembly-spec =
