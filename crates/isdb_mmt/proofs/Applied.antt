@@ -191,7 +191,7 @@ module _ (ix log others : List ℕ) (g : WalkState) (t : TableOutcome) (f : ℕ)
       }
 
   module _ (gf : g .full ≡ false) (c : WalkState) (ec : c ≡ countedBy g t) where
-    -- what is noted and not full
+    -- what is applied and not full
     applied-as : (z : TableAction) → t .act ≡ z → (r : WalkState) (ix′ log′ others′ : List ℕ) → r .full ≡ g .full → pendingOf ix′ log′ others′ r ≡ appliedBy d t z f
         → r .used ≤ mostSections → WalkedTo (pendingAfter d t f) g r ix′ log′ others′
     applied-as z ez r ix′ log′ others′ e q u =

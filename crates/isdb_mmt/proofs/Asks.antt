@@ -1,4 +1,4 @@
--- Questions 8 to 10 by the place's place and the survey: what the needs are, and so the number. Assumes nothing.
+-- Questions 8 to 10 by the place of the id and the effect of the units: what the needs are, and so the number. Assumes nothing.
 use Prim.Native.Nat.{ℕ, _+_, _-_, _*_, _≤_, _<_}
 use mathlib.Core.Path.{_≡_, ap, _∙_}
 use mathlib.Core.Bool.{cond}

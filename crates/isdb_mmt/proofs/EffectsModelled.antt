@@ -1,4 +1,4 @@
--- A survey tells what the model does with the same units: what is held, dropped, given out and needed. Assumes nothing.
+-- The effect of units is what the model does with them: what is held, dropped, given out and needed. Assumes nothing.
 use Prim.Native.Nat.{ℕ, suc, _+_, _-_, max}
 use mathlib.Core.Path.{_≡_, refl, sym, ap, _∙_, subst}
 use mathlib.Core.Bool.{Bool, true, false, not, cond}

@@ -34,15 +34,15 @@ asset-more area n m a l h =
       held = h .held;
       counts =
           record {
-          packets = omega (arith, h .counts .packets);
-          lost = omega (arith, h .counts .lost);
-          scrambled = omega (arith, h .counts .scrambled);
-          mfus = omega (arith, h .counts .mfus);
-          scrambledMfus = omega (arith, h .counts .scrambledMfus);
-          dropped = omega (arith, h .counts .dropped);
-          mpus = omega (arith, h .counts .mpus);
-          jumps = omega (arith, h .counts .jumps);
-          malformed = omega (arith, h .counts .malformed);
+            packets = omega (arith, h .counts .packets);
+            lost = omega (arith, h .counts .lost);
+            scrambled = omega (arith, h .counts .scrambled);
+            mfus = omega (arith, h .counts .mfus);
+            scrambledMfus = omega (arith, h .counts .scrambledMfus);
+            dropped = omega (arith, h .counts .dropped);
+            mpus = omega (arith, h .counts .mpus);
+            jumps = omega (arith, h .counts .jumps);
+            malformed = omega (arith, h .counts .malformed);
           };
     }
 
@@ -53,15 +53,15 @@ fresh-fits area n =
       held = omega arith;
       counts =
           record {
-          packets = omega arith;
-          lost = omega arith;
-          scrambled = omega arith;
-          mfus = omega arith;
-          scrambledMfus = omega arith;
-          dropped = omega arith;
-          mpus = omega arith;
-          jumps = omega arith;
-          malformed = omega arith;
+            packets = omega arith;
+            lost = omega arith;
+            scrambled = omega arith;
+            mfus = omega arith;
+            scrambledMfus = omega arith;
+            dropped = omega arith;
+            mpus = omega arith;
+            jumps = omega arith;
+            malformed = omega arith;
           };
     }
 
@@ -100,15 +100,15 @@ units-fit area m (u ∷ us) n a h k =
       held = omega (arith, q .held);
       counts =
           record {
-          packets = omega (arith, h .counts .packets);
-          lost = omega (arith, h .counts .lost);
-          scrambled = omega (arith, h .counts .scrambled);
-          mfus = omega (arith, h .counts .mfus, q .outs);
-          scrambledMfus = omega (arith, h .counts .scrambledMfus);
-          dropped = omega (arith, h .counts .dropped, q .drops);
-          mpus = omega (arith, h .counts .mpus);
-          jumps = omega (arith, h .counts .jumps);
-          malformed = omega (arith, h .counts .malformed);
+            packets = omega (arith, h .counts .packets);
+            lost = omega (arith, h .counts .lost);
+            scrambled = omega (arith, h .counts .scrambled);
+            mfus = omega (arith, h .counts .mfus, q .outs);
+            scrambledMfus = omega (arith, h .counts .scrambledMfus);
+            dropped = omega (arith, h .counts .dropped, q .drops);
+            mpus = omega (arith, h .counts .mpus);
+            jumps = omega (arith, h .counts .jumps);
+            malformed = omega (arith, h .counts .malformed);
           };
     } in
     asset-more area (n + 1 + length us) (n + suc (length us)) (afterUnits m (afterUnit a r) us) (omega arith)
@@ -130,15 +130,15 @@ applied-fits area n a m h =
       held = omega (arith, gone-le (gap (a .number) (m .number)) (a .held), h .held);
       counts =
           record {
-          packets = omega (arith, h .counts .packets);
-          lost = omega (arith, h .counts .lost, lost-le (a .number) (m .number));
-          scrambled = omega (arith, h .counts .scrambled, one-le (m .scrambled));
-          mfus = omega (arith, h .counts .mfus);
-          scrambledMfus = omega (arith, h .counts .scrambledMfus, one-le (m .scrambled && completes (m .header)));
-          dropped = omega (arith, h .counts .dropped, one-le (gap (a .number) (m .number) && isSome (a .held)));
-          mpus = omega (arith, h .counts .mpus, one-le (newMpu (a .mpu) (mpuIn (m .header))));
-          jumps = omega (arith, h .counts .jumps, one-le (jumped (a .mpu) (mpuIn (m .header))));
-          malformed = omega (arith, h .counts .malformed, one-le (malformedPayload m));
+            packets = omega (arith, h .counts .packets);
+            lost = omega (arith, h .counts .lost, lost-le (a .number) (m .number));
+            scrambled = omega (arith, h .counts .scrambled, one-le (m .scrambled));
+            mfus = omega (arith, h .counts .mfus);
+            scrambledMfus = omega (arith, h .counts .scrambledMfus, one-le (m .scrambled && completes (m .header)));
+            dropped = omega (arith, h .counts .dropped, one-le (gap (a .number) (m .number) && isSome (a .held)));
+            mpus = omega (arith, h .counts .mpus, one-le (newMpu (a .mpu) (mpuIn (m .header))));
+            jumps = omega (arith, h .counts .jumps, one-le (jumped (a .mpu) (mpuIn (m .header))));
+            malformed = omega (arith, h .counts .malformed, one-le (malformedPayload m));
           };
     }
 

@@ -316,7 +316,7 @@ module _ (s : Session) (ok : Sound (s .state) (s .others) (lengthsOf s)) (x : Me
               ∙ ap (messageAt s n (x .id)) (sym e);
         }
 
--- ---- the calls: what a packet meets
+-- ---- the calls: a fragment as it is received
 
 pub place-for-place : (l : List ℕ) (id : ℕ) (t : PlaceFor) → PlacesThere l → t ≡ controlPlaceFor l id → PlaceForThere t
 unfolding controlPlaceFor

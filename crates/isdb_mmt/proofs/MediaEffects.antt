@@ -1,4 +1,4 @@
--- The survey of a payload's units: one turn of its walk, and that no sum overflows. Assumes nothing.
+-- The effect of a payload's units: one turn of its walk, and that no sum overflows. Assumes nothing.
 use Prim.Native.Nat.{ℕ, zero, suc, _+_, _-_, _≤_, _<_, max, min}
 use mathlib.Core.Path.{_≡_, refl, sym, ap, _∙_}
 use mathlib.Core.Bool.{Bool, true, false, not, cond}
@@ -116,7 +116,7 @@ module _ (q : List ℕ) (timed aggregated : Bool) (f : FragmentationIndicator) (
           (roomy-next t at next n r (a .0) (a .1 .0) f mpu rap u) o)
           us (rw (units-at q timed aggregated at, d) at e)
 
--- the walk's invariant: what is left to survey gives the whole answer
+-- the walk's invariant: the units that are left give the whole answer
 pub record WalkState (q : List ℕ) (timed aggregated : Bool) (f : FragmentationIndicator) (mpu : ℕ) (rap : Bool) (start : MediaEffect) (at : ℕ) (t : MediaEffect) : Type 0 where
   pub long : length q ≤ 65537
   pub room : Roomy t at

@@ -1,4 +1,4 @@
--- A look at a packet tells what the model does with it; the place after it is that of the model's asset. Assumes nothing.
+-- The outcome of a media packet is what the model does with it; the place after it is that of the model's asset. Assumes nothing.
 use Prim.Native.Nat.{ℕ, _+_, _≤_, _<_, max}
 use mathlib.Core.Path.{_≡_, refl, sym, ap, _∙_, subst}
 use mathlib.Core.Bool.{Bool, true, false, not, cond, _&&_}
@@ -105,7 +105,7 @@ module _ (p : Media) (n : ℕ) (scrambled rap : Bool) (b : Bytes) (t : MediaEffe
         by-header (er ∙ ap (λ y. cond y (outcomeWith false false (payload h) t) (unitsOutcome t h rap b (h .«fragment_type»))) (sym s)
         ∙ ap (λ (y : MaybeHeader). outcomeBy t scrambled rap b y) (sym e))
 
--- so much the survey counts at most
+-- so much the effect of the units counts at most
 module _ (t : MediaEffect) (rap : Bool) (b : Bytes) (r : Roomy t 8) (long : length b ≤ 65535) where
   short : length (declaredOf b) ≤ 65535
   short = omega (arith, length-take (be 2 b 0 + 2) b)
@@ -259,7 +259,7 @@ module _ (x : Header) (b : Bytes) (t : MediaEffect) (a : Asset) (eh : t .held �
       told-unread false = told-empty (packet noPayload) t a eh eo
   outcome-header (payload h) = outcome-either (x .«scramble_info») h
 
--- the look at a packet, and the place made of it, are the model's
+-- the outcome of a packet, and the place after it, are the model's
 module _ (id : ℕ) (p : Media) (b : Bytes) (x : Header) (bytes : Bytes) (long : p .held ≡ true → length b ≡ p .object .length) where
   abbrev arrived : MpuPacket
   arrived = mediaOf x bytes

@@ -171,7 +171,7 @@ module _ (m : MpuPacket) (q : Bytes) (at : ℕ) (l : Bytes) where
       let a1 : Asset = afterUnit a (unitEffect m a (piece Last q u)) in
       ap (λ (o : Option Mfu). heldOver at o l) (last-none us a1 (last-ends (a .held) (objectOf m (piece Last q u))) .1)
 
-  -- `r` is the survey after them
+  -- `r` is the effect after them
   pub record Ended (us : List DataUnit) (a : Asset) (t r : MediaEffect) : Type 0 where
     pub object : Mfu
     pub was : a .held ≡ some object

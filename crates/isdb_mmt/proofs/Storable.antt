@@ -311,15 +311,15 @@ module _ (l : Limits) (s : Session) (h : Lent s) where
                 held = length-given (m .held) (mfuOf (m .object) b) (m .object .length) (l .«mfu_area») (part-le (i * l .«mfu_area») (m .object .length) (s .objects)) (w .0);
                 counts =
                     record {
-                    packets = k 0;
-                    lost = k 1;
-                    scrambled = k 2;
-                    mfus = k 3;
-                    scrambledMfus = k 4;
-                    dropped = k 5;
-                    mpus = k 6;
-                    jumps = k 7;
-                    malformed = k 8;
+                      packets = k 0;
+                      lost = k 1;
+                      scrambled = k 2;
+                      mfus = k 3;
+                      scrambledMfus = k 4;
+                      dropped = k 5;
+                      mpus = k 6;
+                      jumps = k 7;
+                      malformed = k 8;
                     };
               };
           number = number-given (m .seen) (m .sequence) (be-small p o 4 5);

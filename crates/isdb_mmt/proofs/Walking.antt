@@ -114,7 +114,7 @@ walked-more read ix log others g xs n k r ix′ log′ others′ w m h =
       bad = w .bad;
     }
 
--- ---- the loop: `rest` is still to be noted, and `left` is cut short in it
+-- ---- the loop: `rest` is still to be applied, and `left` is cut short in it
 
 pub record Goes (read : Bytes → Table) (ix₀ log₀ others₀ : List ℕ) (g₀ : WalkState) (all : List Placed) (bads : ℕ) (ix log others : List ℕ) (g : WalkState) (rest : List Placed) (left n : ℕ) : Type 0 where
   pub copies : Copies ix log others g

@@ -1,5 +1,5 @@
 -- A message packet at the place of its id: which place, and what is asked and left where no message is whole with it. One law says
--- that it is what the model asks and leaves (proofs/Lines).
+-- that it is what the model asks and leaves (proofs/FragmentPushes).
 use Prim.Native.Nat.{ℕ, _+_, _*_, _≤_, _<_}
 use mathlib.Core.Path.{_≡_}
 use mathlib.Core.Bool.{Bool, false}
@@ -104,7 +104,7 @@ pub record JoinedAt (l m : List ℕ) (i k id n : ℕ) (b : Bytes) (c : Control) 
   pub state : r ≡ 0 → l′ ≡ stateNext i k (placeNext id n c f b) f l
   pub messages : r ≡ 0 → m′ ≡ laidBy f (i * limitsOf l .«message_area») c b m
 
--- ---- what a message packet meets: the place of its id, its place, and what becomes of its fragment
+-- ---- a fragment as it is received: which place its id has, what that place holds, what becomes of the fragment
 
 unfoldable pub receivedFragment : List ℕ → MessagePacket → ReceivedFragment
 receivedFragment l x =

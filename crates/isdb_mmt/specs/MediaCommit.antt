@@ -1,4 +1,4 @@
--- How a media packet is answered and committed, by its place and the look at it. Laws say that this is what the model needs, leaves
+-- How a media packet is answered and committed, by its place and its outcome. Laws say that this is what the model needs, leaves
 -- and gives out (proofs/MediaPushes).
 use Prim.Native.Nat.{ℕ, _+_, _-_, _*_, _≤_, _<_}
 use mathlib.Core.Path.{_≡_}
@@ -105,7 +105,7 @@ accepted records bytes = record { number = 0; records = records; bytes = bytes }
 abbrev pub answerBy : ℕ → ℕ → ℕ → Answer
 answerBy n records bytes = if n =? 0 then accepted records bytes else refused n
 
--- from the limits and the look at a payload of n bytes
+-- from the limits and the outcome of a payload of n bytes
 unfoldable pub answerOf : PlaceFor → Limits → Bool → MediaOutcome → ℕ → ℕ → ℕ → Answer
 unfolding passesOn numberOf
 answerOf place-for l scrambled r n rows given =

@@ -1,5 +1,5 @@
 -- What a media packet does to its place, by the place and the lengths of the units alone. One law each says that it is what the
--- model does (proofs/Surveys).
+-- model does (proofs/MediaEffects).
 use Prim.Native.Nat.{ℕ, _+_, _≤_, _<_, max}
 use mathlib.Core.Bool.{Bool, true, false, not}
 use mathlib.Core.Option.{Option, none, some}
@@ -140,7 +140,7 @@ pub record Light (t : MediaEffect) (n : ℕ) : Type 0 where
   pub bytes : t .bytes < 1099511627776
   pub unit : n < 4294967296
 
--- what a survey starts from
+-- what the walk over the units starts from
 pub record Ready (q : List ℕ) (t : MediaEffect) : Type 0 where
   pub long : length q ≤ 65537
   pub room : Roomy t 8

@@ -1,4 +1,4 @@
--- What a media packet makes of its place, from the place, the packet's number and header, and the survey of its units.
+-- What a media packet makes of its place, from the place, the packet's number and header, and the effect of its units.
 use Prim.Native.Nat.{ℕ, _+_, _≤_}
 use mathlib.Core.Bool.{Bool, true, false, not, _&&_}
 use Rattle.isdb_tlv.specs.Guards.{if_then_else_, _=?_}

@@ -366,7 +366,7 @@ pub record CanWalkSections (ix log others : List ℕ) (g : WalkState) (b : Bytes
   pub room : Room g others mostCount
   pub short : length b ≤ mostMessageArea
 
--- a table that is a part of a message, which starts at `from`; `seam` has room for a table in two pieces
+-- a table that is a part of a message, which starts at `from`; `assembled` has room for a table in two pieces
 pub record CanTake (ix log others assembled : List ℕ) (g : WalkState) (m : Bytes) (p : Part) (from : ℕ) : Type 0 where
   pub copies : Copies ix log others g
   pub assembledLong : length assembled ≡ mostTableArea

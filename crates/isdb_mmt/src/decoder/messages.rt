@@ -54,7 +54,7 @@ pub(crate) struct Joined {
     pub length: u32,
 }
 
-// What a message packet meets: the place of its id, its place, and what becomes of its fragment.
+// A fragment as it is received: which place its id has, what that place holds, and what becomes of the fragment.
 pub(crate) struct ReceivedFragment {
     pub place_for: PlaceFor,
     pub place: Control,
@@ -436,8 +436,8 @@ fn join_at(
     0
 }
 
-// A message packet with which no message is whole, from what it meets: 0, or the number of the first question that is answered
-// no, with nothing changed.
+// A message packet with which no message is whole, from the place of its id and what becomes of it: 0, or the number of the
+// first question that is answered no, with nothing changed.
 pub(crate) fn push_fragment(
     state: &mut [u8],
     others: &[u64],

@@ -1,4 +1,4 @@
-// A media packet: its place, the look at it, the number of the question that is answered no, and the commit of what it hands out,
+// A media packet: its place, its outcome, the number of the question that is answered no, and the commit of what it hands out,
 // holds and counts.
 ghost use mathlib.Core.Path.{_≡_};
 ghost use mathlib.Core.Bool.{true, false};
@@ -178,7 +178,7 @@ fn number_of(
     }
 }
 
-// From the limits and the look at a payload of n bytes.
+// From the limits and the outcome of a payload of n bytes.
 fn answer_of(
     place_for: PlaceFor,
     l: Limits,

@@ -252,8 +252,8 @@ fn whole_in(
     )
 }
 
-// A message packet with which a message is whole, from what it meets: 0, or the number of the first question that is answered
-// no, with nothing changed.
+// A message packet with which a message is whole, from the place of its id and what becomes of it: 0, or the number of the
+// first question that is answered no, with nothing changed.
 fn push_whole(
     state: &mut [u8],
     others: &mut [u64],

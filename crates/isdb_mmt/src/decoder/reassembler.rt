@@ -468,7 +468,7 @@ fn both(a: bool, b: bool) -> bool
     false
 }
 
-// What a packet would do: whether its payload is malformed, whether its units are taken, the payload's header, the survey of the
+// What a packet would do: whether its payload is malformed, whether its units are taken, the payload's header, the effect of the
 // units.
 pub(crate) struct MediaOutcome {
     pub bad: bool,
