@@ -15,6 +15,10 @@ def crc(data):
     return z
 
 
+def number(value, width):
+    return (value % 256**width).to_bytes(width, "big")
+
+
 def some_bytes(n):
     return bytes(random.randrange(256) for _ in range(n))
 

@@ -1,14 +1,8 @@
 //! The cases, as `crates/cases` reads and writes them, answered by the Rust.
-#![allow(dead_code)]
-mod desc;
-mod dump;
-mod ip;
-mod mmtp;
-mod si;
-mod table;
-mod tlv;
-
 use dump::hex;
+use isdb_mmt::desc;
+use isdb_mmt::table::{Amt, Bit, Eit, Event, Location, Mpt, Nit, Plt, Sdt, SdtService, SectionError, Tot};
+use isdb_tlv::{ip, mmtp, si, tlv};
 use std::fmt::Write;
 use std::io::Read;
 
@@ -25,6 +19,7 @@ fn datagram(r: Result<ip::Datagram, ip::IpError>) -> String {
         Err(ip::IpError::NotUdp(p)) => return format!(" not_udp {p}"),
         Err(ip::IpError::HeaderType(t)) => return format!(" header_type {t}"),
         Err(ip::IpError::Version(v)) => return format!(" version {v}"),
+        Err(e) => panic!("{e:?}"),
     };
     let mut s = String::new();
     match d.context {
@@ -89,6 +84,38 @@ fn sections(b: &[u8]) -> String {
     s
 }
 
+fn descriptors(b: &[u8]) -> String {
+    let before = desc::split_errors();
+    let l = desc::decode_all(b);
+    let mut s = format!(" descriptors {} broken {}", l.len(), desc::split_errors() - before);
+    dump::descriptors(&mut s, "  ", &l);
+    s
+}
+
+fn section(r: Result<String, SectionError>) -> String {
+    r.unwrap_or_else(|e| match e {
+        SectionError::Truncated => "truncated".into(),
+        SectionError::Crc => "crc".into(),
+        _ => "malformed".into(),
+    })
+}
+
+/// A reading, behind the count of the descriptor loops that broke on the way.
+fn counted(read: impl FnOnce() -> String) -> String {
+    let before = desc::split_errors();
+    let said = read();
+    format!(" breaks {} {said}", desc::split_errors() - before)
+}
+
+fn short_event(e: &Event) -> String {
+    " short_event ".to_string() + &e.short_event().map_or("none".into(), |(n, t)| format!("{} {}", hex(n.as_bytes()), hex(t.as_bytes())))
+}
+
+fn service(e: &SdtService) -> String {
+    let said = |(t, p, n): (u8, &str, &str)| format!("{t} {} {}", hex(p.as_bytes()), hex(n.as_bytes()));
+    " service ".to_string() + &e.service().map_or("none".into(), said)
+}
+
 fn main() {
     let stored = std::fs::read_to_string(std::env::args().nth(1).unwrap()).unwrap();
     let mut input = String::new();
@@ -109,17 +136,16 @@ fn main() {
             "mmtp" => packet(&b),
             "messages" => messages(&b),
             "sections" => sections(&b),
-            "location" => table::Location::parse(&b)
-                .map_or(" none".into(), |(l, n)| format!(" took {n} {}", dump::location(&l))),
-            "descriptors" => dump::loop_of(&b),
-            "mpt" => dump::mpt(&b),
-            "plt" => dump::plt(&b),
-            "eit" => dump::eit(&b),
-            "sdt" => dump::sdt(&b),
-            "tot" => dump::tot(&b),
-            "bit" => dump::bit(&b),
-            "nit" => dump::nit(&b),
-            "amt" => dump::amt(&b),
+            "location" => Location::parse(&b).map_or(" none".into(), |(l, n)| format!(" took {n} {}", dump::location(&l))),
+            "descriptors" => descriptors(&b),
+            "mpt" => counted(|| Mpt::parse(&b).map_or("none".into(), |t| dump::mpt(&t))),
+            "plt" => format!(" {}", Plt::parse(&b).map_or("none".into(), |t| dump::plt(&t))),
+            "eit" => counted(|| section(Eit::parse(&b).map(|t| dump::eit(&t, short_event)))),
+            "sdt" => counted(|| section(Sdt::parse(&b).map(|t| dump::sdt(&t, service)))),
+            "tot" => counted(|| section(Tot::parse(&b).map(|t| dump::tot(&t)))),
+            "bit" => counted(|| section(Bit::parse(&b).map(|t| dump::bit(&t)))),
+            "nit" => format!(" {}", section(Nit::parse(&b).map(|t| dump::nit(&t)))),
+            "amt" => format!(" {}", section(Amt::parse(&b).map(|t| dump::amt(&t)))),
             "ntp" => {
                 let x = desc::ntp_to_unix(u64::from_be_bytes(b[..8].try_into().unwrap()));
                 format!(" unix_bits {:016x}", x.to_bits())

@@ -11,6 +11,7 @@ use isdb_mmt::table::{Amt, Bit, Eit, Mpt, Nit, Plt, Sdt, SectionError, Tot};
 use isdb_tlv::ip::{compressed, ipv4, ipv6};
 use isdb_tlv::mmtp::{self, PayloadType};
 use isdb_tlv::tlv::{Packet, PacketType};
+use push::{counters, counts};
 use std::collections::BTreeMap;
 use std::io::Read;
 
@@ -120,20 +121,9 @@ fn sections<T: PartialEq>(
     kept.iter().map(one).collect()
 }
 
-fn counters(d: &Decoder, splits: u64) -> Vec<u64> {
-    let (c, e) = (&d.counters, &d.counters.message_errors);
-    vec![
-        c.tlv_packets, c.ip_errors, c.non_mmtp, c.ntp, c.tables, c.crc_errors, c.malformed, c.version_changes,
-        e.orphan_fragments, e.oversize, e.malformed, splits,
-    ]
-}
-
 fn asset(s: &AssetStats) -> Vec<u64> {
     let (seen, first, last) = s.mpu_range.map_or((0, 0, 0), |r| (1, r.0.into(), r.1.into()));
-    vec![
-        s.packets, s.packets_lost, s.scrambled_packets, s.mfus, s.scrambled_mfus, s.mfus_dropped, s.mpus,
-        s.mpu_sequence_jumps, s.malformed, seen, first, last,
-    ]
+    counts(s).iter().map(|c| c.1).chain([seen, first, last]).collect()
 }
 
 fn header(h: &MfuHeader) -> Vec<u64> {
@@ -185,7 +175,7 @@ fn answer(feed: &str) -> String {
         d.push(&packet(line), &mut out);
         carried.push(&packet(line));
     }
-    let mut v = counters(&d, isdb_mmt::desc::split_errors() - before);
+    let mut v: Vec<u64> = counters(&d, isdb_mmt::desc::split_errors() - before).iter().map(|c| c.1).collect();
     for id in [0xF100, 0xF101] {
         v.extend(asset(&d.mpu_stats().find(|x| x.0 == id).map(|x| x.1.clone()).unwrap_or_default()));
     }

@@ -1,6 +1,6 @@
-//! Tables as text, a fact a line, as `crates/cases` writes them.
-use crate::desc::Descriptor;
-use crate::table::*;
+//! Tables as text, a fact a line, without a line feed at the end.
+use isdb_mmt::desc::Descriptor;
+use isdb_mmt::table::*;
 use std::fmt::Write;
 
 pub fn hex(b: &[u8]) -> String {
@@ -10,11 +10,11 @@ pub fn hex(b: &[u8]) -> String {
     b.iter().map(|x| format!("{x:02x}")).collect()
 }
 
-fn flag(b: bool) -> u8 {
+pub fn flag(b: bool) -> u8 {
     u8::from(b)
 }
 
-fn maybe<T: std::fmt::Display>(x: Option<T>) -> String {
+pub fn maybe<T: std::fmt::Display>(x: Option<T>) -> String {
     x.map_or("none".into(), |v| v.to_string())
 }
 
@@ -75,18 +75,10 @@ fn descriptor(d: &Descriptor) -> String {
     }
 }
 
-fn descriptors(s: &mut String, pad: &str, l: &[Descriptor]) {
+pub fn descriptors(s: &mut String, pad: &str, l: &[Descriptor]) {
     for d in l {
         write!(s, "\n{pad}descriptor {}", descriptor(d)).unwrap();
     }
-}
-
-pub fn loop_of(b: &[u8]) -> String {
-    let before = crate::desc::split_errors();
-    let l = crate::desc::decode_all(b);
-    let mut s = format!(" descriptors {} broken {}", l.len(), crate::desc::split_errors() - before);
-    descriptors(&mut s, "  ", &l);
-    s
 }
 
 fn header(h: &SectionHeader) -> String {
@@ -101,26 +93,9 @@ fn header(h: &SectionHeader) -> String {
     )
 }
 
-fn failed(e: SectionError) -> &'static str {
-    match e {
-        SectionError::Truncated => "truncated",
-        SectionError::Crc => "crc",
-        _ => "malformed",
-    }
-}
-
-/// A reading, with the descriptor loops that broke on the way.
-fn counted<T>(read: impl FnOnce() -> T) -> (T, u64) {
-    let before = crate::desc::split_errors();
-    let r = read();
-    (r, crate::desc::split_errors() - before)
-}
-
-pub fn mpt(b: &[u8]) -> String {
-    let (r, breaks) = counted(|| Mpt::parse(b));
-    let Some(t) = r else { return format!(" breaks {breaks} none") };
+pub fn mpt(t: &Mpt) -> String {
     let mut s = format!(
-        " breaks {breaks} table_id 0x{:02x} version {} mode {} package_id {} service_id {}",
+        "table_id 0x{:02x} version {} mode {} package_id {} service_id {}",
         t.table_id,
         t.version,
         t.mode,
@@ -149,9 +124,8 @@ pub fn mpt(b: &[u8]) -> String {
     s
 }
 
-pub fn plt(b: &[u8]) -> String {
-    let Some(t) = Plt::parse(b) else { return " none".into() };
-    let mut s = format!(" version {}", t.version);
+pub fn plt(t: &Plt) -> String {
+    let mut s = format!("version {}", t.version);
     for (id, l) in &t.packages {
         write!(s, "\n  package {} location {}", hex(id), location(l)).unwrap();
     }
@@ -161,14 +135,10 @@ pub fn plt(b: &[u8]) -> String {
     s
 }
 
-pub fn eit(b: &[u8]) -> String {
-    let (r, breaks) = counted(|| Eit::parse(b));
-    let t = match r {
-        Ok(t) => t,
-        Err(e) => return format!(" breaks {breaks} {}", failed(e)),
-    };
+/// With more of each event at the end of its line.
+pub fn eit(t: &Eit, more: impl Fn(&Event) -> String) -> String {
     let mut s = format!(
-        " breaks {breaks} {} tlv_stream_id {} original_network_id {} segment_last_section_number {} last_table_id {}",
+        "{} tlv_stream_id {} original_network_id {} segment_last_section_number {} last_table_id {}",
         header(&t.header),
         t.tlv_stream_id,
         t.original_network_id,
@@ -178,13 +148,13 @@ pub fn eit(b: &[u8]) -> String {
     for e in &t.events {
         write!(
             s,
-            "\n  event {} start {:010x} duration {:06x} running_status {} free_ca {} short_event {}",
+            "\n  event {} start {:010x} duration {:06x} running_status {} free_ca {}{}",
             e.event_id,
             e.start.0,
             e.duration.0,
             e.running_status,
             flag(e.free_ca),
-            e.short_event().map_or("none".into(), |(n, t)| format!("{} {}", hex(n.as_bytes()), hex(t.as_bytes())))
+            more(e)
         )
         .unwrap();
         descriptors(&mut s, "    ", &e.descriptors);
@@ -192,24 +162,20 @@ pub fn eit(b: &[u8]) -> String {
     s
 }
 
-pub fn sdt(b: &[u8]) -> String {
-    let (r, breaks) = counted(|| Sdt::parse(b));
-    let t = match r {
-        Ok(t) => t,
-        Err(e) => return format!(" breaks {breaks} {}", failed(e)),
-    };
-    let mut s = format!(" breaks {breaks} {} original_network_id {}", header(&t.header), t.original_network_id);
+/// With more of each service at the end of its line.
+pub fn sdt(t: &Sdt, more: impl Fn(&SdtService) -> String) -> String {
+    let mut s = format!("{} original_network_id {}", header(&t.header), t.original_network_id);
     for e in &t.services {
         write!(
             s,
-            "\n  service {} eit_user_defined_flags {} eit_schedule {} eit_present_following {} running_status {} free_ca {} service {}",
+            "\n  service {} eit_user_defined_flags {} eit_schedule {} eit_present_following {} running_status {} free_ca {}{}",
             e.service_id,
             e.eit_user_defined_flags,
             flag(e.eit_schedule),
             flag(e.eit_present_following),
             e.running_status,
             flag(e.free_ca),
-            e.service().map_or("none".into(), |(t, p, n)| format!("{t} {} {}", hex(p.as_bytes()), hex(n.as_bytes())))
+            more(e)
         )
         .unwrap();
         descriptors(&mut s, "    ", &e.descriptors);
@@ -217,24 +183,14 @@ pub fn sdt(b: &[u8]) -> String {
     s
 }
 
-pub fn tot(b: &[u8]) -> String {
-    let (r, breaks) = counted(|| Tot::parse(b));
-    let t = match r {
-        Ok(t) => t,
-        Err(e) => return format!(" breaks {breaks} {}", failed(e)),
-    };
-    let mut s = format!(" breaks {breaks} jst {:010x}", t.jst.0);
+pub fn tot(t: &Tot) -> String {
+    let mut s = format!("jst {:010x}", t.jst.0);
     descriptors(&mut s, "  ", &t.descriptors);
     s
 }
 
-pub fn bit(b: &[u8]) -> String {
-    let (r, breaks) = counted(|| Bit::parse(b));
-    let t = match r {
-        Ok(t) => t,
-        Err(e) => return format!(" breaks {breaks} {}", failed(e)),
-    };
-    let mut s = format!(" breaks {breaks} {} broadcast_view_propriety {}", header(&t.header), flag(t.broadcast_view_propriety));
+pub fn bit(t: &Bit) -> String {
+    let mut s = format!("{} broadcast_view_propriety {}", header(&t.header), flag(t.broadcast_view_propriety));
     descriptors(&mut s, "  ", &t.descriptors);
     for (id, l) in &t.broadcasters {
         write!(s, "\n  broadcaster {id}").unwrap();
@@ -258,12 +214,8 @@ fn tlv_descriptors(s: &mut String, pad: &str, l: &[TlvDescriptor]) {
     }
 }
 
-pub fn nit(b: &[u8]) -> String {
-    let t = match Nit::parse(b) {
-        Ok(t) => t,
-        Err(e) => return format!(" {}", failed(e)),
-    };
-    let mut s = format!(" {}", header(&t.header));
+pub fn nit(t: &Nit) -> String {
+    let mut s = header(&t.header);
     tlv_descriptors(&mut s, "  ", &t.descriptors);
     for e in &t.streams {
         write!(s, "\n  stream {} original_network_id {}", e.tlv_stream_id, e.original_network_id).unwrap();
@@ -272,12 +224,8 @@ pub fn nit(b: &[u8]) -> String {
     s
 }
 
-pub fn amt(b: &[u8]) -> String {
-    let t = match Amt::parse(b) {
-        Ok(t) => t,
-        Err(e) => return format!(" {}", failed(e)),
-    };
-    let mut s = format!(" {}", header(&t.header));
+pub fn amt(t: &Amt) -> String {
+    let mut s = header(&t.header);
     for e in &t.services {
         write!(s, "\n  service {} src {} mask {} dst {} mask {}", e.service_id, hex(&e.src.0), e.src.1, hex(&e.dst.0), e.dst.1).unwrap();
     }
