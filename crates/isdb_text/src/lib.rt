@@ -1,0 +1,3 @@
+// Text in lent bytes, and what the programs write.
+pub mod fill;
+pub mod text;
