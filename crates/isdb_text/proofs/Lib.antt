@@ -3,3 +3,4 @@ pub mod Written
 pub mod Spelling
 pub mod Filling
 pub mod Examples
+pub mod Cutting

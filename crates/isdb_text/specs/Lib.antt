@@ -1,3 +1,4 @@
 -- The definitions that the contracts cite.
 pub mod Text
 pub mod Fill
+pub mod Cut

@@ -1,3 +1,4 @@
 // Text in lent bytes, and what the programs write.
+pub mod cut;
 pub mod fill;
 pub mod text;

@@ -19,9 +19,12 @@ loop-holds : tie.Need-loop-holds Inv-loop μ-loop
 loop-holds c = (search needs, refl, search left-all)
 
 loop-again : tie.Need-loop-again Inv-loop μ-loop
-loop-again c = let d = c .before .before in
-    (search needs, search needs, pairs-turn _ _ (d .before .before .before .before .before .loop .inv .2)
-      (d .before .before .before .before .loop-test .taken) (d .before .wide .ensures) (d .hex-digits .ensures))
+loop-again c = let d = c .before .before in (
+  search needs,
+  search needs,
+  pairs-turn _ _ (d .before .before .before .before .before .loop .inv .2)
+      (d .before .before .before .before .loop-test .taken) (d .before .wide .ensures) (d .hex-digits .ensures),
+)
 
 returns : tie.Need-returns Inv-loop μ-loop
 returns c = search (needs, pairs-end)
