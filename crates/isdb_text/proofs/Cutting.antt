@@ -16,7 +16,8 @@ use Rattle.isdb_tlv.proofs.Numbers.{be-drop}
 use Rattle.isdb_tlv.proofs.Fields.{be-before}
 use Rattle.isdb_text.specs.declared.cut.Cut.{Cut}
 use Rattle.isdb_text.specs.declared.cut.Cut.the-variants.{Packet, End, Short, Bad}
-use Rattle.isdb_text.specs.Cut.{cutAt, clean, ends, also, item, recordingFrom}
+use Rattle.isdb_text.specs.declared.cut.Stop.the-variants.{Clean}
+use Rattle.isdb_text.specs.Cut.{cutAt, ends, also, item, recordingFrom}
 
 -- two different answers are not one
 differ : {A : Type 0} → _≡_ {A = ℕ} 0 1 → A
@@ -38,7 +39,7 @@ item-ahead s most at =
 pub recording-at : (s : List ℕ) (most at : ℕ)
     → recordingFrom s most at ≡ turn (recordingFrom s most) (item s at (cutAt s most at))
 unfolding recordingFrom
-recording-at s most at = walk-at (λ q. item s q (cutAt s most q)) (ends clean) (length s) (item-ahead s most) at
+recording-at s most at = walk-at (λ q. item s q (cutAt s most q)) (ends Clean) (length s) (item-ahead s most) at
 
 -- the same, `base` places further on
 abbrev pub moved : ℕ → Cut → Cut

@@ -4,3 +4,4 @@ pub mod Spelling
 pub mod Filling
 pub mod Examples
 pub mod Cutting
+pub mod Lists

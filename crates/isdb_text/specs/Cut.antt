@@ -5,6 +5,8 @@ use lib.ListN.{length, take, drop, getD}
 use Rattle.isdb_tlv.specs.Guards.{if_then_else_, _<?_, _≤?_, _≠?_}
 use Rattle.isdb_tlv.specs.Bytes.{be}
 use Rattle.isdb_tlv.specs.Walk.{Next, stop, more, walk}
+use Rattle.isdb_text.specs.declared.cut.Stop.{Stop}
+use Rattle.isdb_text.specs.declared.cut.Stop.the-variants.{Clean, Bad as badAt}
 use Rattle.isdb_text.specs.declared.cut.Cut.{Cut}
 use Rattle.isdb_text.specs.declared.cut.Cut.the-variants.{Packet, End, Short, Bad}
 
@@ -23,12 +25,7 @@ pub record Taken : Type 0 where
   pub kind : ℕ
   pub bytes : List ℕ
 
--- where reading stops: at the end, or at the first byte of what is no packet or not whole
-pub data Stop : Type 0 where
-  clean : Stop
-  bad : ℕ → Stop
-
--- a recording: its packets in order, and where reading stops
+-- a recording: its packets in order, and where reading stops: at its end, or at the first byte of what is no packet or not whole
 pub record Recording : Type 0 where
   pub packets : List Taken
   pub end : Stop
@@ -41,13 +38,13 @@ also p r = record { packets = p ∷ r .packets; end = r .end }
 
 abbrev pub item : List ℕ → ℕ → Cut → Next Recording
 item s at (Packet kind start length next) = more next (also (record { kind = kind; bytes = take length (drop start s) }))
-item s at End = stop (ends clean)
-item s at Short = stop (ends (bad at))
-item s at Bad = stop (ends (bad at))
+item s at End = stop (ends Clean)
+item s at Short = stop (ends (badAt at))
+item s at Bad = stop (ends (badAt at))
 
 -- the recording from a place on
 unfoldable pub recordingFrom : List ℕ → ℕ → ℕ → Recording
-recordingFrom s most at = walk (λ q. item s q (cutAt s most q)) (ends clean) (length s) at
+recordingFrom s most at = walk (λ q. item s q (cutAt s most q)) (ends Clean) (length s) at
 
 unfoldable pub recordingOf : List ℕ → ℕ → Recording
 recordingOf s most = recordingFrom s most 0

@@ -2,3 +2,4 @@
 pub mod Text
 pub mod Fill
 pub mod Cut
+pub mod Listing

@@ -3,6 +3,15 @@ ghost use mathlib.Core.Path.{_≡_};
 ghost use Rattle.isdb_text.specs.Cut.{cutAt};
 use isdb_tlv::bytes;
 
+// Where reading a recording stops: at its end, at the first byte of what is no packet or not whole, or at a packet that is
+// turned down, with the number.
+pub enum Stop {
+    Clean,
+    Bad(u64),
+    Refused(u8),
+}
+
+// What stands at a place.
 pub enum Cut {
     // A packet: its kind, the place and the number of its data, and the place of what follows.
     Packet {

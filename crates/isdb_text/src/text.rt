@@ -3,7 +3,6 @@
 ghost use mathlib.Core.Path.{_≡_};
 ghost use mathlib.Core.List.{[], _∷_};
 ghost use Prim.Native.Nat.{_+_, _<_};
-ghost use lib.ListN.{length};
 ghost use Rattle.isdb_text.specs.Text.{Wrote, digit, decimalOf, hexOf, pairsOf, bytesOf};
 ghost use Rattle.isdb_text.specs.Text.{hexDigit as hexDigitOf};
 
