@@ -32,14 +32,14 @@ fn limits() -> Limits {
 
 // Pushes the packets of a window, one after the other.
 fn pass(
-    state: &mut [u8],
+    state: &mut [u8; 13144],
     others: &mut [u64; 256],
-    objects: &mut [u8],
-    messages: &mut [u8],
-    tables: &mut [u8],
+    objects: &mut [u8; 16384],
+    messages: &mut [u8; 16384],
+    tables: &mut [u8; 20480],
     window: &[u8],
-    rows: &mut [u8],
-    data: &mut [u8],
+    rows: &mut [u8; 36864],
+    data: &mut [u8; 16384],
 ) -> Passed {
     let mut at: usize = 0;
     while at < window.len() {
@@ -76,20 +76,18 @@ fn pass(
 }
 
 // Moves what lies from at to end to the front, and answers how much that is.
-fn to_front(window: &mut [u8], at: usize, end: usize) -> usize {
-    let mut from = at;
+fn to_front(window: &mut [u8; 65536], at: usize, end: usize) -> usize {
+    if end <= at {
+        return 0;
+    }
+    let left = end - at;
     let mut i: usize = 0;
-    while from < end {
-        if from < window.len() {
-            let x = window[from];
-            if i < window.len() {
-                window[i] = x;
-            }
-        }
-        from += 1;
+    while i < left {
+        let x = bytes::get_u8(window, at + i);
+        bytes::put_u8(window, i, x);
         i += 1;
     }
-    i
+    left
 }
 
 // Reads more into a window that holds n bytes, and answers how many it holds then.
@@ -102,14 +100,14 @@ fn read_behind(window: &mut [u8], n: usize) -> usize {
 }
 
 fn read_all(
-    state: &mut [u8],
+    state: &mut [u8; 13144],
     others: &mut [u64; 256],
-    objects: &mut [u8],
-    messages: &mut [u8],
-    tables: &mut [u8],
-    window: &mut [u8],
-    rows: &mut [u8],
-    data: &mut [u8],
+    objects: &mut [u8; 16384],
+    messages: &mut [u8; 16384],
+    tables: &mut [u8; 20480],
+    window: &mut [u8; 65536],
+    rows: &mut [u8; 36864],
+    data: &mut [u8; 16384],
 ) -> Stop {
     let mut base: u64 = 0;
     let mut n: usize = 0;
@@ -144,6 +142,20 @@ fn read_all(
     Stop::Clean
 }
 
+// Writes the list.
+fn report(
+    state: &[u8; 13144],
+    others: &[u64; 256],
+    objects: &[u8; 16384],
+    messages: &[u8; 16384],
+    tables: &[u8; 20480],
+    stop: Stop,
+) {
+    let mut text = [0u8; 4096];
+    let n = listing::listing(state, others, objects, messages, tables, stop, &mut text, 0);
+    io::write_all(1, bytes::part(&text, 0, n));
+}
+
 fn main() {
     let mut state = [0u8; 13144];
     let mut others = [0u64; 256];
@@ -171,16 +183,5 @@ fn main() {
         &mut rows,
         &mut data,
     );
-    let mut text = [0u8; 4096];
-    let n = listing::listing(
-        &state,
-        &others,
-        &objects,
-        &messages,
-        &tables,
-        stop,
-        &mut text,
-        0,
-    );
-    io::write_all(1, bytes::part(&text, 0, n));
+    report(&state, &others, &objects, &messages, &tables, stop);
 }
