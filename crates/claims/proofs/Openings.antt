@@ -1,6 +1,6 @@
 -- What an opening that is turned down leaves.
 use Prim.Native.Nat.{ℕ}
-use mathlib.Core.Path.{_≡_, refl, ap, _∙_, sym}
+use mathlib.Core.Path.{_≡_, refl, ap, _∙_}
 use Rattle.isdb_mmt.specs.Limits.{inRange, placesInRange, asked}
 use Rattle.isdb_mmt.specs.Session.{Session}
 use Rattle.isdb_mmt.specs.Opening.{Opened}

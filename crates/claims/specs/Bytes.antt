@@ -7,7 +7,7 @@ use Rattle.isdb_tlv.specs.Fields.{bytesOf, puts, fourFields}
 use Rattle.isdb_tlv.specs.Bytes.{be, putBe, withBit}
 use Rattle.isdb_tlv.specs.Crc.{feed, feedByte, crcOf}
 use Rattle.isdb_tlv.specs.Tlv.{packetType}
-use Rattle.isdb_tlv.specs.declared.tlv.PacketType.the-variants.{Compressed, Null, Other}
+use Rattle.isdb_tlv.specs.declared.tlv.PacketType.the-variants.{Other}
 
 -- bytes::number, of nine bytes: the low 64 bits
 -- wrong: 0x0203040506070809 => 0x0102030405060708 (the high 64)

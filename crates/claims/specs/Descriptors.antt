@@ -5,30 +5,30 @@ use mathlib.Core.List.{[], _∷_}
 use lib.Ieee.{binary64, ofInt, sub, div, toBits}
 use Rattle.isdb_tlv.specs.Fields.{bytesOf}
 use Rattle.isdb_tlv.specs.Bytes.{be}
-use Rattle.isdb_mmt.specs.Part.{part}
+use Rattle.isdb_mmt.specs.Part.{partAt}
 use Rattle.isdb_mmt.specs.Location.{sized, urlOf, locationOf, packetId}
 use Rattle.isdb_mmt.specs.Ntp.{ntpToUnix}
 use Rattle.isdb_mmt.specs.Timestamp.{timestampAt, mpuAt, mpusFrom, mpusWhole, extendedOf, unitStep}
 use Rattle.isdb_mmt.specs.Desc.{lengthWidth, stepAt, splitFrom, splitOf, counted, streamIdentifier, descriptorOf, isOther, firstOf, serviceAt, genreAt}
 use Rattle.isdb_mmt.specs.declared.maybe.MaybeU16.the-variants.{None as noU16, Some as someU16}
-use Rattle.isdb_mmt.specs.declared.maybe.MaybeU32.the-variants.{None as noU32, Some as someU32}
+use Rattle.isdb_mmt.specs.declared.maybe.MaybeU32.the-variants.{None as noU32}
 use Rattle.isdb_mmt.specs.declared.location.Location.the-variants.{Mpeg2Ts, Url}
 use Rattle.isdb_mmt.specs.declared.location.Located.the-variants.{Some as located}
 use Rattle.isdb_mmt.specs.declared.timestamp.TimestampStep.the-variants.{Timestamp}
 use Rattle.isdb_mmt.specs.declared.timestamp.Extended.{Extended}
-use Rattle.isdb_mmt.specs.declared.timestamp.MaybeExtended.the-variants.{None as notExtended, Some as extended}
+use Rattle.isdb_mmt.specs.declared.timestamp.MaybeExtended.the-variants.{None as notExtended}
 use Rattle.isdb_mmt.specs.declared.timestamp.MpuStep.the-variants.{Mpu}
 use Rattle.isdb_mmt.specs.declared.timestamp.AccessUnitStep.the-variants.{Unit as unit}
 use Rattle.isdb_mmt.specs.declared.desc.Step.the-variants.{Raw}
 use Rattle.isdb_mmt.specs.declared.desc.Descriptor.the-variants.{StreamIdentifier, ServiceList, Other}
-use Rattle.isdb_mmt.specs.declared.desc.Found.the-variants.{None as notFound, Some as found}
-use Rattle.isdb_mmt.specs.declared.desc.ServiceStep.the-variants.{End as noService, Service as service}
-use Rattle.isdb_mmt.specs.declared.desc.GenreStep.the-variants.{End as noGenre, Genre as genre}
+use Rattle.isdb_mmt.specs.declared.desc.Found.the-variants.{Some as found}
+use Rattle.isdb_mmt.specs.declared.desc.ServiceStep.the-variants.{Service as service}
+use Rattle.isdb_mmt.specs.declared.desc.GenreStep.the-variants.{End as noGenre}
 
 -- Location::parse: a URL's place counts from the location's first byte
 -- wrong: part 2 3 => part 0 3 (from the URL's own)
 -- wrong: 5 => 6 (with the byte behind it)
-pub location-parse : locationOf (bytesOf 6 0x0503616263EE) ≡ located (Url (part 2 3)) 5
+pub location-parse : locationOf (bytesOf 6 0x0503616263EE) ≡ located (Url (partAt 2 3)) 5
 unfolding bytesOf sized urlOf locationOf
 location-parse = refl
 
@@ -48,7 +48,7 @@ length-width = refl
 -- desc::next: a length of two bytes behind a tag of F001h
 -- wrong: part 4 1 => part 3 0 (a length of one byte)
 -- wrong: 5 => 4 (the body's start)
-pub desc-next : stepAt (bytesOf 5 0xF00100017A) 0 ≡ Raw 0xF001 (part 4 1) 5
+pub desc-next : stepAt (bytesOf 5 0xF00100017A) 0 ≡ Raw 0xF001 (partAt 4 1) 5
 unfolding bytesOf be lengthWidth stepAt
 desc-next = refl
 
@@ -62,7 +62,7 @@ decode-all = refl
 -- Descriptor::decode: a body too short for its structure
 -- wrong: Other 0x8011 (part 0 1) => StreamIdentifier 0 (the missing byte read as 0)
 -- wrong: part 0 1 => part 0 0 (the body lost)
-pub decode : descriptorOf 0x8011 (0x00 ∷ []) ≡ Other 0x8011 (part 0 1)
+pub decode : descriptorOf 0x8011 (0x00 ∷ []) ≡ Other 0x8011 (partAt 0 1)
 unfolding streamIdentifier descriptorOf
 decode = refl
 
@@ -73,13 +73,13 @@ is-other = refl
 
 -- Descriptor::is_other
 -- wrong: true => false (one that could not be decoded)
-pub is-other-body : isOther (Other 0x8011 (part 0 1)) ≡ true
+pub is-other-body : isOther (Other 0x8011 (partAt 0 1)) ≡ true
 is-other-body = refl
 
 -- desc::first_of: the first that could be decoded
 -- wrong: found (StreamIdentifier 16) (part 7 2) => notFound (the first of the tag could not)
 -- wrong: part 7 2 => part 3 2 (the first's place)
-pub first-of : firstOf 0x8011 (bytesOf 9 0x801101008011020010) 0 ≡ found (StreamIdentifier 16) (part 7 2)
+pub first-of : firstOf 0x8011 (bytesOf 9 0x801101008011020010) 0 ≡ found (StreamIdentifier 16) (partAt 7 2)
 unfolding bytesOf be lengthWidth stepAt splitFrom streamIdentifier descriptorOf firstOf
 first-of = refl
 
@@ -107,7 +107,7 @@ next-timestamp = refl
 -- timestamp::next_mpu: one access unit with a PTS offset of its own
 -- wrong: part 8 4 => part 8 2 (without it)
 -- wrong: 7 1 100 => 7 64 100 (the leap indicator in the low bits)
-pub next-mpu : mpuAt (bytesOf 12 0x000000074000640100010002) true 0 ≡ Mpu 7 1 100 1 (part 8 4) 12
+pub next-mpu : mpuAt (bytesOf 12 0x000000074000640100010002) true 0 ≡ Mpu 7 1 100 1 (partAt 8 4) 12
 unfolding bytesOf be mpuAt
 next-mpu = refl
 

@@ -1,7 +1,7 @@
 -- IP packets and the wire check.
 use Prim.Native.Nat.{ℕ}
 use mathlib.Core.Path.{_≡_, refl}
-use mathlib.Core.List.{List, [], _∷_}
+use mathlib.Core.List.{List, _∷_}
 use lib.ListN.{replicate}
 use Rattle.isdb_tlv.specs.Fields.{bytesOf}
 use Rattle.isdb_tlv.specs.Bytes.{be}
@@ -9,9 +9,9 @@ use Rattle.isdb_tlv.specs.Ip.{ipv4Of, ipv6Of, compressedOf, wireOf, letterOf}
 use Rattle.isdb_tlv.specs.declared.ip.Address.the-variants.{V4, V6}
 use Rattle.isdb_tlv.specs.declared.ip.MaybeFlow.the-variants.{None as noFlow, Some as someFlow}
 use Rattle.isdb_tlv.specs.declared.ip.MaybeContext.the-variants.{None as noContext, Some as someContext}
-use Rattle.isdb_tlv.specs.declared.ip.IpError.the-variants.{Truncated, NotUdp, Version}
+use Rattle.isdb_tlv.specs.declared.ip.IpError.the-variants.{Version}
 use Rattle.isdb_tlv.specs.declared.ip.IpResult.the-variants.{Ok, Err}
-use Rattle.isdb_tlv.specs.declared.ip.Wire.the-variants.{A, B, C, E}
+use Rattle.isdb_tlv.specs.declared.ip.Wire.the-variants.{B, E}
 
 -- 192.0.2.1 to 192.0.2.2, ports 1,000 and 2,000, behind an IHL of 6: four bytes of options, one of data
 abbrev withOptions : List ℕ

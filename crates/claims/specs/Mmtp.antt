@@ -1,20 +1,19 @@
 -- MMTP packets, the messages of a control payload, sections of a control packet.
 use mathlib.Core.Path.{_≡_, refl}
 use mathlib.Core.Bool.{true, false}
-use mathlib.Core.List.{[]}
 use Rattle.isdb_tlv.specs.Fields.{bytesOf}
 use Rattle.isdb_tlv.specs.Bytes.{be, withBit}
 use Rattle.isdb_tlv.specs.Crc.{feed, feedByte, crcOf}
 use Rattle.isdb_tlv.specs.Mmtp.{fecCode, fecType, payloadCode, payloadType, bitsOf, entry, scrambleInfo, scrambleControl, extensionAt, afterFixed, mmtpOf}
 use Rattle.isdb_tlv.specs.Messages.{wordOf, has, insert, setOf, sectionMessage, messageOf, messageIn, prefixedAt, messageAt, messageStep, messagesFrom, messagesOf, counted}
 use Rattle.isdb_tlv.specs.Si.{isTlvSi, sectionAt, sectionsFrom, nextSection}
-use Rattle.isdb_tlv.specs.declared.mmtp.FecType.the-variants.{NotProtected, Source, Repair, Reserved as reservedFec}
-use Rattle.isdb_tlv.specs.declared.mmtp.PayloadType.the-variants.{Mpu, GenericObject, Messages, Reserved}
+use Rattle.isdb_tlv.specs.declared.mmtp.FecType.the-variants.{NotProtected, Repair, Reserved as reservedFec}
+use Rattle.isdb_tlv.specs.declared.mmtp.PayloadType.the-variants.{Mpu, Messages, Reserved}
 use Rattle.isdb_tlv.specs.declared.mmtp.Scramble.the-variants.{NoByte, Bits}
 use Rattle.isdb_tlv.specs.declared.mmtp.MaybeControl.the-variants.{None as noControl, Some as someControl}
 use Rattle.isdb_tlv.specs.declared.mmtp.Parsed.the-variants.{Some as somePacket}
 use Rattle.isdb_tlv.specs.declared.mmtp.MessageStep.the-variants.{Found}
-use Rattle.isdb_tlv.specs.declared.mmtp.MessageCount.the-variants.{Refused as refusedAll, Count}
+use Rattle.isdb_tlv.specs.declared.mmtp.MessageCount.the-variants.{Refused as refusedAll}
 use Rattle.isdb_tlv.specs.declared.si.MaybeSection.the-variants.{Some}
 
 -- FecType::from_code: the low two bits

@@ -1,23 +1,23 @@
 -- Readings of a session: what is answered after some packets.
 use mathlib.Core.Path.{_≡_, refl}
 use mathlib.Core.Bool.{false}
-use mathlib.Core.List.{[], _∷_, _++_}
-use Rattle.isdb_mmt.specs.Part.{part}
+use mathlib.Core.List.{[], _∷_}
+use Rattle.isdb_mmt.specs.Part.{partAt}
 use Rattle.isdb_mmt.specs.Cases.{ab}
-use Rattle.isdb_mmt.specs.ControlCases.{fragment, firstPart, tableMessage, nit1, nitNext, mpt}
+use Rattle.isdb_mmt.specs.ControlCases.{fragment, firstPart, tableMessage, nit1, mpt}
 use Rattle.isdb_mmt.specs.PushCases.{ntp, plt, tot}
 use Rattle.isdb_mmt.specs.Readings.{nothing, refused, these}
-use Rattle.isdb_mmt.specs.ReadingCases.{told, countersIn, timeIn, countIn, mediaFrom, controlFrom, keyFrom, mediaIn, heldIn, controlIn, sectionIn, mptIn, pltIn, totIn, assetIn, feed, timed, counted, name, media, object, control, table, asset, after, damaged, units, nits, mpts, assetMpt, oneUnit, onlyCounted}
-use Rattle.isdb_mmt.specs.declared.maybe.MaybeU16.the-variants.{None as noU16, Some as someU16}
+use Rattle.isdb_mmt.specs.ReadingCases.{told, countersIn, timeIn, countIn, mediaFrom, controlFrom, keyFrom, mediaIn, heldIn, controlIn, sectionIn, mptIn, pltIn, totIn, assetIn, feed, timed, counted, name, media, object, control, table, asset, after, damaged, units, nits, mpts, oneUnit, onlyCounted}
+use Rattle.isdb_mmt.specs.declared.maybe.MaybeU16.the-variants.{Some as someU16}
 use Rattle.isdb_mmt.specs.declared.maybe.MaybeU32.the-variants.{None as noU32, Some as someU32}
-use Rattle.isdb_mmt.specs.declared.mpu.MaybeMfu.the-variants.{None as noMfu, Some as someMfu}
+use Rattle.isdb_mmt.specs.declared.mpu.MaybeMfu.the-variants.{Some as someMfu}
 use Rattle.isdb_mmt.specs.declared.decoder.readings.CountersReading.the-variants.{Counters as theCounters}
-use Rattle.isdb_mmt.specs.declared.decoder.readings.TimeReading.the-variants.{Nothing as noTime, Timestamp}
+use Rattle.isdb_mmt.specs.declared.decoder.readings.TimeReading.the-variants.{Timestamp}
 use Rattle.isdb_mmt.specs.declared.decoder.readings.CountReading.the-variants.{Count}
 use Rattle.isdb_mmt.specs.declared.decoder.readings.NameReading.the-variants.{Nothing as noName, Name}
 use Rattle.isdb_mmt.specs.declared.decoder.readings.MaybeRange.the-variants.{Some as someRange}
 use Rattle.isdb_mmt.specs.declared.decoder.readings.MediaReading.the-variants.{Media as theMedia}
-use Rattle.isdb_mmt.specs.declared.decoder.readings.HeldReading.the-variants.{NoId, Nothing as noObject, Object as theObject}
+use Rattle.isdb_mmt.specs.declared.decoder.readings.HeldReading.the-variants.{NoId, Object as theObject}
 use Rattle.isdb_mmt.specs.declared.decoder.readings.ControlReading.the-variants.{Control as theControl}
 use Rattle.isdb_mmt.specs.declared.decoder.readings.AssetReading.the-variants.{Asset as theAsset}
 
@@ -94,7 +94,7 @@ pub held-object : told (heldIn units 0xF100)
       rap = false;
       mfu = someMfu (record { «movie_fragment_sequence_number» = 0; «sample_number» = 0; offset = 0; priority = 0; «dependency_counter» = 0 });
       «item_id» = noU32;
-      bytes = part 2 2;
+      bytes = partAt 2 2;
     }))
 unfolding told
 held-object = refl
@@ -161,18 +161,18 @@ latest-tot = refl
 pub asset-of : told (assetIn mpts 0xF100)
     ≡ asset (theAsset (record {
       «control_id» = 0x8001;
-      mpt = part 64 29;
+      mpt = partAt 64 29;
       «service_id» = someU16 0x0065;
       asset =
           record {
             «identifier_type» = 0;
             «asset_id_scheme» = 0;
-            «asset_id» = part 17 1;
+            «asset_id» = partAt 17 1;
             «asset_type» = 0x68657631;
             «clock_relation» = false;
             locations = 1;
             «locations_start» = 24;
-            descriptors = part 29 0;
+            descriptors = partAt 29 0;
           };
     }))
 unfolding told

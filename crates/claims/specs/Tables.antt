@@ -8,7 +8,7 @@ use Rattle.isdb_tlv.specs.Fields.{bytesOf}
 use Rattle.isdb_tlv.specs.Bytes.{be}
 use Rattle.isdb_tlv.specs.Crc.{feed, feedByte, crcOf}
 use Rattle.isdb_tlv.specs.declared.ip.Address.the-variants.{V4}
-use Rattle.isdb_mmt.specs.Part.{part}
+use Rattle.isdb_mmt.specs.Part.{partAt}
 use Rattle.isdb_mmt.specs.Location.{sized, locationOf}
 use Rattle.isdb_mmt.specs.Desc.{lengthWidth, stepAt, splitFrom, splitOf, broken, streamIdentifier, serviceText, shortEvent, descriptorOf, firstOf}
 use Rattle.isdb_mmt.specs.Section.{longSectionOf, entryAt, entriesFrom, entriesTold}
@@ -20,14 +20,14 @@ use Rattle.isdb_mmt.specs.Amt.{serviceAt, servicesWhole, amtBody, amtOf}
 use Rattle.isdb_mmt.specs.Tot.{totFields, totOf}
 use Rattle.isdb_mmt.specs.Mpt.{declaredLength, assetFields, assetAt, mptAssets, mptTable, mptOf, serviceId, firstPacketId, locationsOf, componentTag}
 use Rattle.isdb_mmt.specs.Plt.{packageAt, deliverySize, deliveryAt, deliveriesWhole, pltDeliveries, pltTable, pltOf}
-use Rattle.isdb_mmt.specs.declared.maybe.MaybeU16.the-variants.{None as noU16, Some as someU16}
+use Rattle.isdb_mmt.specs.declared.maybe.MaybeU16.the-variants.{Some as someU16}
 use Rattle.isdb_mmt.specs.declared.maybe.MaybeU64.the-variants.{Some as someU64}
 use Rattle.isdb_mmt.specs.declared.location.Location.the-variants.{SameFlow}
-use Rattle.isdb_mmt.specs.declared.location.Located.the-variants.{None as notLocated, Some as located}
+use Rattle.isdb_mmt.specs.declared.location.Located.the-variants.{Some as located}
 use Rattle.isdb_mmt.specs.declared.desc.Descriptor.the-variants.{Service, ShortEvent}
 use Rattle.isdb_mmt.specs.declared.desc.Found.the-variants.{Some as found}
 use Rattle.isdb_mmt.specs.declared.table.section.SectionHeader.{SectionHeader}
-use Rattle.isdb_mmt.specs.declared.table.section.SectionError.the-variants.{Truncated, Crc, Malformed}
+use Rattle.isdb_mmt.specs.declared.table.section.SectionError.the-variants.{Truncated, Malformed}
 use Rattle.isdb_mmt.specs.declared.table.section.LongSection.the-variants.{Ok, Err}
 use Rattle.isdb_mmt.specs.declared.table.section.EntryStep.the-variants.{Entry as entry}
 use Rattle.isdb_mmt.specs.declared.table.eit.EitResult.the-variants.{Ok as eitOk, Err as noEit}
@@ -35,25 +35,25 @@ use Rattle.isdb_mmt.specs.declared.table.eit.EventStep.the-variants.{Event as e
 use Rattle.isdb_mmt.specs.declared.table.sdt.SdtResult.the-variants.{Ok as sdtOk, Err as noSdt}
 use Rattle.isdb_mmt.specs.declared.table.sdt.SdtStep.the-variants.{Service as service}
 use Rattle.isdb_mmt.specs.declared.table.bit.BitResult.the-variants.{Ok as bitOk, Err as noBit}
-use Rattle.isdb_mmt.specs.declared.table.bit.BroadcasterStep.the-variants.{End as noBroadcaster, Broadcaster as broadcaster}
+use Rattle.isdb_mmt.specs.declared.table.bit.BroadcasterStep.the-variants.{Broadcaster as broadcaster}
 use Rattle.isdb_mmt.specs.declared.table.nit.NitResult.the-variants.{Ok as nitOk, Err as noNit}
 use Rattle.isdb_mmt.specs.declared.table.nit.StreamStep.the-variants.{Stream as stream}
-use Rattle.isdb_mmt.specs.declared.table.nit.TlvStep.the-variants.{End as noDescriptor, Descriptor as descriptor}
+use Rattle.isdb_mmt.specs.declared.table.nit.TlvStep.the-variants.{End as noDescriptor}
 use Rattle.isdb_mmt.specs.declared.table.nit.MaybePart.the-variants.{None as noPart, Some as somePart}
 use Rattle.isdb_mmt.specs.declared.table.amt.AmtResult.the-variants.{Ok as amtOk, Err as noAmt}
 use Rattle.isdb_mmt.specs.declared.table.amt.AmtStep.the-variants.{Service as flow}
-use Rattle.isdb_mmt.specs.declared.table.tot.TotResult.the-variants.{Ok as totOk, Err as noTot}
-use Rattle.isdb_mmt.specs.declared.table.mpt.Place.the-variants.{At}
+use Rattle.isdb_mmt.specs.declared.table.tot.TotResult.the-variants.{Ok as totOk}
+use Rattle.isdb_mmt.specs.declared.maybe.MaybeUsize.the-variants.{Some as At}
 use Rattle.isdb_mmt.specs.declared.table.mpt.AssetStep.the-variants.{Asset as asset}
-use Rattle.isdb_mmt.specs.declared.table.mpt.MaybeMpt.the-variants.{None as noMpt, Some as someMpt}
+use Rattle.isdb_mmt.specs.declared.table.mpt.MaybeMpt.the-variants.{None as noMpt}
 use Rattle.isdb_mmt.specs.declared.table.plt.PackageStep.the-variants.{Package as package′}
-use Rattle.isdb_mmt.specs.declared.table.plt.DeliveryStep.the-variants.{Malformed as brokenDelivery, Delivery as delivery}
-use Rattle.isdb_mmt.specs.declared.table.plt.MaybePlt.the-variants.{None as noPlt, Some as somePlt}
+use Rattle.isdb_mmt.specs.declared.table.plt.DeliveryStep.the-variants.{Malformed as brokenDelivery}
+use Rattle.isdb_mmt.specs.declared.table.plt.MaybePlt.the-variants.{Some as somePlt}
 
 -- table id, extension, version, section 0 of 0, a body of so many bytes
 abbrev header : ℕ → ℕ → ℕ → ℕ → SectionHeader
 header id x v n =
-    record { «table_id» = id; extension = x; version = v; current = true; «section_number» = 0; «last_section_number» = 0; body = part 8 n }
+    record { «table_id» = id; extension = x; version = v; current = true; «section_number» = 0; «last_section_number» = 0; body = partAt 8 n }
 
 -- section::long_section: the body ends before the CRC
 -- wrong: header 0x40 4 1 4 => header 0x40 4 1 8 (at the section's end)
@@ -72,7 +72,7 @@ long-section-short = refl
 -- section::next_entry: one byte of fields, a length of 12 bits behind four reserved bits
 -- wrong: part 3 2 => part 2 2 (a length of one byte)
 -- wrong: 5 => 3 (the descriptors' start)
-pub next-entry : entryAt (bytesOf 5 0x01F0027A7A) 1 0 ≡ entry (record { at = 0; descriptors = part 3 2 }) 5
+pub next-entry : entryAt (bytesOf 5 0x01F0027A7A) 1 0 ≡ entry (record { at = 0; descriptors = partAt 3 2 }) 5
 unfolding bytesOf be entryAt
 next-entry = refl
 
@@ -116,7 +116,7 @@ eit-parse = refl
 -- wrong: start = 0xE3B9123456; duration = 0x013000 => start = 0xE3B91234; duration = 0x560130 (a start of 32 bits)
 -- wrong: 21 => 18 (the descriptors' start)
 pub next-event : eventStep (drop 8 eitSection) 6
-    ≡ event (record { «event_id» = 1; start = 0xE3B9123456; duration = 0x013000; «running_status» = 4; «free_ca» = true; descriptors = part 18 3 }) 21
+    ≡ event (record { «event_id» = 1; start = 0xE3B9123456; duration = 0x013000; «running_status» = 4; «free_ca» = true; descriptors = partAt 18 3 }) 21
 unfolding bytesOf be entryAt eventStep
 next-event = refl
 
@@ -124,7 +124,7 @@ next-event = refl
 -- wrong: (part 11 15) => (part 4 3) (the first)
 -- wrong: first = 0x6A; second = 0x70; third = 0x6E => first = 0x6E; second = 0x70; third = 0x6A (backwards)
 pub short-event : firstOf 0xF001 (bytesOf 26 0xF00100036A706EF001000F6A706E05546F64617900046E657773) 0
-    ≡ found (ShortEvent (record { first = 0x6A; second = 0x70; third = 0x6E }) (part 4 5) (part 11 4)) (part 11 15)
+    ≡ found (ShortEvent (record { first = 0x6A; second = 0x70; third = 0x6E }) (partAt 4 5) (partAt 11 4)) (partAt 11 15)
 unfolding bytesOf be lengthWidth stepAt splitFrom shortEvent descriptorOf firstOf
 short-event = refl
 
@@ -147,14 +147,14 @@ sdt-parse = refl
 -- wrong: «eit_schedule» = true; «eit_present_following» = false => «eit_schedule» = false; «eit_present_following» = true (the flags exchanged)
 -- wrong: «running_status» = 1 => «running_status» = 2 (with the bit behind it)
 pub sdt-service : serviceStep (bytesOf 8 0x0004FF0065FE2000) 3
-    ≡ service (record { «service_id» = 101; «eit_user_defined_flags» = 7; «eit_schedule» = true; «eit_present_following» = false; «running_status» = 1; «free_ca» = false; descriptors = part 8 0 }) 8
+    ≡ service (record { «service_id» = 101; «eit_user_defined_flags» = 7; «eit_schedule» = true; «eit_present_following» = false; «running_status» = 1; «free_ca» = false; descriptors = partAt 8 0 }) 8
 unfolding bytesOf be entryAt serviceStep
 sdt-service = refl
 
 -- sdt::service_descriptor: the first that could be decoded
 -- wrong: (part 7 10) => (part 3 1) (the first)
 -- wrong: (part 2 3) (part 6 4) => (part 6 4) (part 2 3) (name and provider exchanged)
-pub service-descriptor : firstOf 0x8019 (bytesOf 17 0x8019010180190A01034E484B044253344B) 0 ≡ found (Service 1 (part 2 3) (part 6 4)) (part 7 10)
+pub service-descriptor : firstOf 0x8019 (bytesOf 17 0x8019010180190A01034E484B044253344B) 0 ≡ found (Service 1 (partAt 2 3) (partAt 6 4)) (partAt 7 10)
 unfolding bytesOf be lengthWidth stepAt splitFrom serviceText descriptorOf firstOf
 service-descriptor = refl
 
@@ -170,7 +170,7 @@ bit-read = refl
 -- wrong: «broadcast_view_propriety» = true => «broadcast_view_propriety» = false (the bit before it)
 pub bit-parse : bitOf (bytesOf 23 0x9DF0140004C30000F00380110901F00380110988268BE4)
     ≡ record {
-      result = bitOk (header 0x9D 4 1 11) (record { «broadcast_view_propriety» = true; descriptors = part 2 3; broadcasters = 1 });
+      result = bitOk (header 0x9D 4 1 11) (record { «broadcast_view_propriety» = true; descriptors = partAt 2 3; broadcasters = 1 });
       breaks = 2;
     }
 unfolding bytesOf be feed feedByte crcOf lengthWidth stepAt splitFrom splitOf longSectionOf entryAt entriesFrom bitBody bitOf
@@ -179,7 +179,7 @@ bit-parse = refl
 -- bit::next_broadcaster
 -- wrong: broadcaster (record { «broadcaster_id» = 2; descriptors = part 3 0 }) 3 => noBroadcaster (an empty loop is none)
 -- wrong: «broadcaster_id» = 2 => «broadcaster_id» = 0xF0 (one byte further)
-pub next-broadcaster : broadcasterStep (bytesOf 3 0x02F000) 0 ≡ broadcaster (record { «broadcaster_id» = 2; descriptors = part 3 0 }) 3
+pub next-broadcaster : broadcasterStep (bytesOf 3 0x02F000) 0 ≡ broadcaster (record { «broadcaster_id» = 2; descriptors = partAt 3 0 }) 3
 unfolding bytesOf be entryAt broadcasterStep
 next-broadcaster = refl
 
@@ -194,7 +194,7 @@ nit-read = refl
 -- wrong: nitOk (header 0x41 4 3 6) (record { descriptors = part 2 0; «loop_part» = part 4 0; streams = 0 }) => noNit Malformed (the loop must end with the body)
 -- wrong: «loop_part» = part 4 0 => «loop_part» = part 4 2 (to the body's end)
 pub nit-parse : nitOf (bytesOf 18 0x41F00F0004C70000F000F0007A7A40613946)
-    ≡ nitOk (header 0x41 4 3 6) (record { descriptors = part 2 0; «loop_part» = part 4 0; streams = 0 })
+    ≡ nitOk (header 0x41 4 3 6) (record { descriptors = partAt 2 0; «loop_part» = partAt 4 0; streams = 0 })
 unfolding bytesOf be feed feedByte crcOf longSectionOf entryAt entriesFrom nitBody nitOf
 nit-parse = refl
 
@@ -202,7 +202,7 @@ nit-parse = refl
 -- wrong: «tlv_stream_id» = 11; «original_network_id» = 4 => «tlv_stream_id» = 4; «original_network_id» = 11 (exchanged)
 -- wrong: part 6 0 => part 4 0 (without the length)
 pub next-stream : streamStep (bytesOf 6 0x000B0004F000) 0
-    ≡ stream (record { «tlv_stream_id» = 11; «original_network_id» = 4; descriptors = part 6 0 }) 6
+    ≡ stream (record { «tlv_stream_id» = 11; «original_network_id» = 4; descriptors = partAt 6 0 }) 6
 unfolding bytesOf be entryAt streamStep
 next-stream = refl
 
@@ -230,7 +230,7 @@ network-name = refl
 -- nit::service_list
 -- wrong: somePart (part 0 6) => noPart (another tag)
 -- wrong: part 0 6 => part 0 2 (how many services)
-pub service-list : serviceList 0x41 (bytesOf 6 0x006501006602) ≡ somePart (part 0 6)
+pub service-list : serviceList 0x41 (bytesOf 6 0x006501006602) ≡ somePart (partAt 0 6)
 unfolding bytesOf wholeBody
 service-list = refl
 
@@ -259,7 +259,7 @@ amt-parse = refl
 -- tot::parse: the descriptors may run into the CRC
 -- wrong: totOk (record { jst = 0xE3B9123456; descriptors = part 10 4 }); breaks = 1 => noTot Malformed; breaks = 0 (they may not)
 -- wrong: breaks = 1 => breaks = 0 (a break in the CRC's bytes not counted)
-pub tot-parse : totOf (bytesOf 14 0xA1700BE3B9123456F004A4B4A880) ≡ record { result = totOk (record { jst = 0xE3B9123456; descriptors = part 10 4 }); breaks = 1 }
+pub tot-parse : totOf (bytesOf 14 0xA1700BE3B9123456F004A4B4A880) ≡ record { result = totOk (record { jst = 0xE3B9123456; descriptors = partAt 10 4 }); breaks = 1 }
 unfolding bytesOf be feed feedByte crcOf lengthWidth stepAt splitFrom splitOf totFields totOf
 tot-parse = refl
 
@@ -281,7 +281,7 @@ location-at = refl
 -- wrong: «asset_id» = part 15 1 => «asset_id» = part 14 1 (with its length)
 -- wrong: «locations_start» = 22 => «locations_start» = 21 (with their number)
 pub asset-at : assetAt (bytesOf 24 0x20030014FE000000010000000000017873747070FE000000) 9
-    ≡ asset (record { «identifier_type» = 0; «asset_id_scheme» = 0; «asset_id» = part 15 1; «asset_type» = 0x73747070; «clock_relation» = false; locations = 0; «locations_start» = 22; descriptors = part 24 0 }) 24
+    ≡ asset (record { «identifier_type» = 0; «asset_id_scheme» = 0; «asset_id» = partAt 15 1; «asset_type» = 0x73747070; «clock_relation» = false; locations = 0; «locations_start» = 22; descriptors = partAt 24 0 }) 24
 unfolding bytesOf be assetFields assetAt
 asset-at = refl
 
@@ -295,7 +295,7 @@ mpt-parse = refl
 -- Mpt::service_id: the last two bytes of the package id
 -- wrong: someU16 0x0065 => someU16 0x7A00 (the first two)
 -- wrong: someU16 0x0065 => someU16 0x6500 (backwards)
-pub service-id : serviceId (bytesOf 4 0x7A7A0065) (part 1 3) ≡ someU16 0x0065
+pub service-id : serviceId (bytesOf 4 0x7A7A0065) (partAt 1 3) ≡ someU16 0x0065
 unfolding bytesOf be serviceId
 service-id = refl
 
@@ -317,7 +317,7 @@ component-tag = refl
 -- wrong: «location_start» = 8 => «location_start» = 5 (with the id)
 -- wrong: 11 => 8 (the location's start)
 pub package-at : packageAt (bytesOf 11 0x7A7A7A7A7A02006500F101) 5
-    ≡ package′ (record { «package_id» = part 6 2; location = SameFlow 0xF101; «location_start» = 8 }) 11
+    ≡ package′ (record { «package_id» = partAt 6 2; location = SameFlow 0xF101; «location_start» = 8 }) 11
 unfolding bytesOf be sized locationOf packageAt
 package-at = refl
 

@@ -2,25 +2,25 @@
 use Prim.Native.Nat.{ℕ}
 use mathlib.Core.Path.{_≡_, refl}
 use mathlib.Core.Bool.{true, false}
-use mathlib.Core.List.{[], _++_}
+use mathlib.Core.List.{_++_}
 use lib.ListN.{replicate}
 use Rattle.isdb_tlv.specs.Fields.{bytesOf}
 use Rattle.isdb_tlv.specs.Bytes.{be}
-use Rattle.isdb_mmt.specs.Part.{part}
+use Rattle.isdb_mmt.specs.Part.{partAt}
 use Rattle.isdb_mmt.specs.Mpu.{fragmentCode, fragmentType, indicatorCode, indicator, completesOf, payloadHeader, declaredOf, unitIn, unitAt, unitStep, unitsFrom, unitsOf, counted, follows, lostFrom}
 use Rattle.isdb_mmt.specs.Message.{divisionOf, fragmentOf, aggregatedAt, paTables, contentOf, tableAt}
 use Rattle.isdb_mmt.specs.declared.maybe.MaybeU32.the-variants.{Some as someU32}
-use Rattle.isdb_mmt.specs.declared.mpu.FragmentType.the-variants.{MovieFragmentMetadata, Mfu, Reserved}
+use Rattle.isdb_mmt.specs.declared.mpu.FragmentType.the-variants.{Mfu, Reserved}
 use Rattle.isdb_mmt.specs.declared.mpu.FragmentationIndicator.the-variants.{Complete, Head, Middle, Last}
 use Rattle.isdb_mmt.specs.declared.mpu.PayloadHeader.{PayloadHeader}
-use Rattle.isdb_mmt.specs.declared.mpu.MaybeHeader.the-variants.{None, Some}
+use Rattle.isdb_mmt.specs.declared.mpu.MaybeHeader.the-variants.{Some}
 use Rattle.isdb_mmt.specs.declared.mpu.MaybeMfu.the-variants.{None as noMfu}
 use Rattle.isdb_mmt.specs.declared.mpu.UnitStep.the-variants.{Unit as unit}
-use Rattle.isdb_mmt.specs.declared.mpu.UnitCount.the-variants.{Malformed as notWhole, Count}
-use Rattle.isdb_mmt.specs.declared.message.Division.the-variants.{First as first, Middle as middle, Last as last}
-use Rattle.isdb_mmt.specs.declared.message.MessageStep.the-variants.{End as noMore, Malformed as pastEnd, Message}
+use Rattle.isdb_mmt.specs.declared.mpu.UnitCount.the-variants.{Malformed as notWhole}
+use Rattle.isdb_mmt.specs.declared.message.Division.the-variants.{Last as last}
+use Rattle.isdb_mmt.specs.declared.message.MessageStep.the-variants.{End as noMore, Message}
 use Rattle.isdb_mmt.specs.declared.message.Content.the-variants.{Tables}
-use Rattle.isdb_mmt.specs.declared.message.TableStep.the-variants.{End as noTable, Malformed as badTable, Table as table}
+use Rattle.isdb_mmt.specs.declared.message.TableStep.the-variants.{Malformed as badTable}
 
 -- FragmentType::from_code: the low four bits
 -- wrong: Mfu => Reserved 0x12 (all eight)
@@ -81,7 +81,7 @@ declared = refl
 -- wrong: part 14 1 => part 10 5 (the item id taken for data)
 -- wrong: 15 => 13 (the length without its own two bytes)
 pub next-unit : unitStep (bytesOf 15 0x000D21000000000700050000000AAA) false true 8
-    ≡ unit (record { mfu = noMfu; «item_id» = someU32 10; «data» = part 14 1 }) 15
+    ≡ unit (record { mfu = noMfu; «item_id» = someU32 10; «data» = partAt 14 1 }) 15
 unfolding bytesOf be unitIn unitAt unitStep
 next-unit = refl
 
@@ -121,7 +121,7 @@ fragment-of = refl
 -- message::next_message: a message of one byte behind a length of two
 -- wrong: part 2 1 => part 0 3 (with its length)
 -- wrong: 3 => 2 (behind the length)
-pub next-message : aggregatedAt (bytesOf 3 0x000190) false 0 ≡ Message (part 2 1) 3
+pub next-message : aggregatedAt (bytesOf 3 0x000190) false 0 ≡ Message (partAt 2 1) 3
 unfolding bytesOf be aggregatedAt
 next-message = refl
 
@@ -134,7 +134,7 @@ next-message-tail = refl
 -- message::content_of: the tables of a PA message stand behind 1 + 4n bytes
 -- wrong: 5 => 4 (without n itself)
 -- wrong: part 7 9 => part 7 255 (as its length says)
-pub content-of : contentOf (bytesOf 16 0x000000000000FF012000000020000000) ≡ Tables (part 7 9) 5
+pub content-of : contentOf (bytesOf 16 0x000000000000FF012000000020000000) ≡ Tables (partAt 7 9) 5
 unfolding bytesOf be paTables contentOf
 content-of = refl
 

@@ -9,10 +9,10 @@ use native.Mathlib.Omega.{arith}
 use lib.ListN.{length}
 use Rattle.isdb_tlv.specs.Fields.{Field, field, written}
 use Rattle.isdb_mmt.specs.Packet.{Bytes, Packet, classify, ipError, ntp, nonMmtp, media, message, control, other}
-use Rattle.isdb_mmt.specs.Joins.{PartialMessage}
+use Rattle.isdb_mmt.specs.Reassembly.{PartialMessage}
 use Rattle.isdb_mmt.specs.Objects.{Mfu, Asset, Rec, assetAfter}
 use Rattle.isdb_mmt.specs.Kept.{Kept}
-use Rattle.isdb_mmt.specs.Model.{State, opened, assetOf, controlOf, pushed, gives}
+use Rattle.isdb_mmt.specs.Model.{State, assetOf, controlOf, pushed, gives}
 use Rattle.isdb_mmt.specs.Needs.{partialLength, needs}
 use Rattle.isdb_mmt.specs.Demand.{pushAll, giveAll}
 use Rattle.isdb_mmt.specs.Layout.{mostCount}
@@ -22,7 +22,7 @@ use Rattle.isdb_mmt.specs.Check.{mediaIn, controlsIn, sectionsIn, length
 use Rattle.isdb_mmt.specs.View.{assetEntry, controlEntry, sectionEntry, viewBy, view}
 use Rattle.isdb_mmt.specs.Opening.{openedSession}
 use Rattle.isdb_mmt.specs.Octets.{Octets, Lent}
-use Rattle.isdb_mmt.specs.Placing.{placeFor, tableLength, controlFor, latestFor}
+use Rattle.isdb_mmt.specs.PlacesOf.{placeFor, tableLength, controlFor, latestFor}
 use Rattle.isdb_mmt.specs.MediaPush.{heldOver, oneMore, mediaPlaceFor, leavesAt, assetNext, mediaLeaves}
 use Rattle.isdb_mmt.specs.Leaves.{joinedIn, keptPlace, usedFor, withControl, sectionRows, withTime, withCounters, stateOfTables, bytesOver, keptOver, controlLeaves, messageIn, controlPlaceFor, messageAt, messageLeaves, packetLeaves}
 use Rattle.isdb_mmt.specs.Push.{Input, packetOf, asks, Fits, Taken, leavesAll, handed, handedAll, AllTaken, AllBytes, packetsOf, Demand2}
@@ -108,7 +108,7 @@ module _ (s : Session) (q : Sound (s .state) (s .others) (lengthsOf s)) (h : Len
       let c = control-of l (mostCount + mostAdded) n next id (omega arith) in
       record {
         fields = control-place (l .«message_area») (l .«table_area») id (controlOf id n) (in-order .ranges .message .1) (in-order .ranges .table .1) (c .0) (c .1);
-        joins = join-short (l .«message_area») (controlOf id n .line .part) (c .1 .joins);
+        joins = join-short (l .«message_area») (controlOf id n .reassembly .partial) (c .1 .joins);
         mpt = table-short (l .«table_area») (controlOf id n .mpt) (c .1 .mpt);
       }
 
@@ -192,7 +192,7 @@ module _ (s : Session) (q : Sound (s .state) (s .others) (lengthsOf s)) (h : Len
             (tables-lent m (withControl i id (controlOf id m) (s .state))
             (octets-over _ _ _ (octets-written (controlFields (controlFor id (controlOf id m)))) (h .state)));
         objects = h .objects;
-        messages = joined-lent (l .«message_area») (i * l .«message_area») (controlOf id m .line .part) (c .joins) (s .messages) (h .messages);
+        messages = joined-lent (l .«message_area») (i * l .«message_area») (controlOf id m .reassembly .partial) (c .joins) (s .messages) (h .messages);
         tables =
             laid-lent (l .«table_area») _ (controlOf id m .mpt) (c .mpt) _
             (laid-lent (l .«table_area») _ (m .store .tot) (k .store .tot) _

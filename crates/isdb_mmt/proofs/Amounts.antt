@@ -13,7 +13,7 @@ use Rattle.isdb_tlv.specs.Bytes.{be}
 use Rattle.isdb_tlv.specs.Crc.{crcOf}
 use Rattle.isdb_tlv.specs.Walk.{Next, stop, more, turn, run}
 use Rattle.isdb_tlv.proofs.Guards.{cond-elim}
-use Rattle.isdb_mmt.specs.Part.{part, partOf}
+use Rattle.isdb_mmt.specs.Part.{partAt, partOf}
 use Rattle.isdb_mmt.specs.Packet.{Bytes}
 use Rattle.isdb_mmt.specs.Mpu.{unitStep, item, also, unitsFrom, unitsOf}
 use Rattle.isdb_mmt.specs.Message.{prefixWidth, aggregatedAt, bodyPart, paTables, sectionTable, contentOf, tableAt, Aggregated, aggregatedItem, aggregatedFrom, tableItem, tablesFrom}
@@ -24,14 +24,13 @@ use Rattle.isdb_mmt.specs.Bit.{bitOf, bitIn, bitBody}
 use Rattle.isdb_mmt.specs.Tot.{totOf, totFields}
 use Rattle.isdb_mmt.specs.Mpt.{mptOf, mptIn, mptTable as mptWhole, mptAssets, declaredLength, locationsEnd, behindLocation, assetFields, assetBehind, assetAt, assetThen, assetsFrom}
 use Rattle.isdb_mmt.specs.Location.{locationOf}
-use Rattle.isdb_mmt.specs.Joins.{PartialMessage, TablesFound, partsOf, tablesIn, tablesOf, tablesOfAll, messagesOf, cutOf}
+use Rattle.isdb_mmt.specs.Reassembly.{PartialMessage, TablesFound, partsOf, tablesIn, tablesOf, tablesOfAll, messagesOf, cutOf}
 use Rattle.isdb_mmt.specs.Kept.{sectionOf, bodyRead, Body, Table, emptyTable, mptTable, pltTable, totTable, truncatedSection, aSection, otherTable, longTable, tableById, tableRead}
 use Rattle.isdb_mmt.specs.declared.part.Part.{Part}
 use Rattle.isdb_mmt.specs.declared.location.Located.{Located}
 use Rattle.isdb_mmt.specs.declared.location.Located.the-variants.{None as notLocated, Some as located}
 use Rattle.isdb_mmt.specs.declared.message.MessageStep.{MessageStep}
 use Rattle.isdb_mmt.specs.declared.message.TableStep.{TableStep}
-use Rattle.isdb_mmt.specs.declared.message.TableStep.the-variants.{Table as table}
 use Rattle.isdb_mmt.specs.declared.message.Content.{Content}
 use Rattle.isdb_mmt.specs.declared.message.Content.the-variants.{Malformed as badMessage, Nothing, Table as oneTable, Tables}
 use Rattle.isdb_mmt.specs.declared.mpu.Unit.{Unit as DataUnit}
@@ -45,8 +44,8 @@ use Rattle.isdb_mmt.specs.declared.table.sdt.SdtParsed.{SdtParsed}
 use Rattle.isdb_mmt.specs.declared.table.bit.BitParsed.{BitParsed}
 use Rattle.isdb_mmt.specs.declared.table.tot.TotParsed.{TotParsed}
 use Rattle.isdb_mmt.specs.declared.table.mpt.MptParsed.{MptParsed}
-use Rattle.isdb_mmt.specs.declared.table.mpt.Place.{Place}
-use Rattle.isdb_mmt.specs.declared.table.mpt.Place.the-variants.{None as nowhere, At}
+use Rattle.isdb_mmt.specs.declared.maybe.MaybeUsize.{MaybeUsize}
+use Rattle.isdb_mmt.specs.declared.maybe.MaybeUsize.the-variants.{None as nowhere, Some as At}
 use Rattle.isdb_mmt.specs.declared.table.mpt.AssetStep.{AssetStep}
 use Rattle.isdb_mmt.specs.declared.table.mpt.AssetStep.the-variants.{Malformed as badAsset, Asset as asset}
 use Rattle.isdb_mmt.proofs.Units.{Inside, unit-inside}
@@ -312,20 +311,20 @@ tot-breaks s =
     cond-elim P (not (eqb (crcOf (take n s)) 0)) (λ e. omega arith) (λ e3.
     cond-elim P (ltb (length (take n s)) (length12 (take n s) 8 + 10)) (λ e. omega arith) (λ e4.
     let a = ltb-false (length s) 3 e in
-    let c = broken-le (partOf (take n s) (part 10 (length12 (take n s) 8))) refl in
+    let c = broken-le (partOf (take n s) (partAt 10 (length12 (take n s) 8))) refl in
     omega (arith, c))))))
 
 -- assets go on ahead
 module _ (s : Bytes) where
-  abbrev Behind : ℕ → Place → Type 0
+  abbrev Behind : ℕ → MaybeUsize → Type 0
   Behind at nowhere = Unit {0}
   Behind at (At p) = at ≤ p
 
-  behind-on : (go : ℕ → Place) → ((p : ℕ) → Behind p (go p)) → (at : ℕ) (d : Located) → Behind at (behindLocation go at d)
+  behind-on : (go : ℕ → MaybeUsize) → ((p : ℕ) → Behind p (go p)) → (at : ℕ) (d : Located) → Behind at (behindLocation go at d)
   behind-on go h at notLocated = tt
   behind-on go h at (located l taken) = further (go (at + taken)) (h (at + taken))
     where
-      further : (p : Place) → Behind (at + taken) p → Behind at p
+      further : (p : MaybeUsize) → Behind (at + taken) p → Behind at p
       further nowhere b = tt
       further (At p) b = omega arith
 
@@ -337,7 +336,7 @@ module _ (s : Bytes) where
   Leads at badAsset = Unit {0}
   Leads at (asset a next) = (at < next) × (next ≤ length s)
 
-  behind-leads : (p q start : ℕ) → p < start → (e : Place) → Behind start e → Leads p (assetBehind s p q e)
+  behind-leads : (p q start : ℕ) → p < start → (e : MaybeUsize) → Behind start e → Leads p (assetBehind s p q e)
   unfolding assetFields
   behind-leads p q start h nowhere b = tt
   behind-leads p q start h (At end) b =
@@ -378,7 +377,7 @@ module _ (s : Bytes) where
       cond-elim P (ltb (length s - k) n) (λ e. omega arith) (λ e2.
       cond-elim P (ltb (length s - (k + n)) 1) (λ e. omega (arith, c)) (λ e3. omega (arith, c, assets-break (getD s (k + n) 0) (k + n + 1))))))
 
-mpt-in : (s : Bytes) (p : Place) → mptIn s p .breaks ≤ length s
+mpt-in : (s : Bytes) (p : MaybeUsize) → mptIn s p .breaks ≤ length s
 mpt-in s nowhere = omega arith
 mpt-in s (At n) = omega (arith, mpt-whole (take n s), length-take n s)
 

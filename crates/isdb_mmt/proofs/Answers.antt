@@ -21,10 +21,10 @@ use Rattle.isdb_mmt.specs.declared.decoder.place.PlaceFor.the-variants.{
 use Rattle.isdb_mmt.specs.declared.decoder.head.Used.{Used}
 use Rattle.isdb_mmt.specs.declared.decoder.limits.Limits.{Limits}
 use Rattle.isdb_mmt.specs.declared.decoder.media.Media.{Media}
-use Rattle.isdb_mmt.specs.declared.decoder.reassembler.Survey.{Survey}
-use Rattle.isdb_mmt.specs.declared.decoder.reassembler.Look.{Look}
+use Rattle.isdb_mmt.specs.declared.decoder.reassembler.MediaEffect.{MediaEffect}
+use Rattle.isdb_mmt.specs.declared.decoder.reassembler.MediaOutcome.{MediaOutcome}
 use Rattle.isdb_mmt.specs.declared.decoder.records.Answer.{Answer}
-use Rattle.isdb_mmt.proofs.Surveys.{one-le}
+use Rattle.isdb_mmt.proofs.MediaEffects.{one-le}
 
 -- ---- the place
 
@@ -148,7 +148,7 @@ module _ (passed : Bool) (n : ℕ) where
       go true = omega arith
       go false = omega arith
 
-  module _ (t : Survey) (s : Small t) (h : n ≤ 65535) where
+  module _ (t : MediaEffect) (s : Small t) (h : n ≤ 65535) where
     pub add-records : (o : ℕ) → o ≡ one passed → Fits w64 (o + t .records)
     add-records o e = record { fits = omega (arith, e, one-le passed, s .records) }
 
@@ -158,7 +158,7 @@ module _ (passed : Bool) (n : ℕ) where
     pub add-bytes : (d : ℕ) → d ≡ cond passed (n - 8) 0 → Fits w64 (d + t .bytes)
     add-bytes d e = record { fits = omega (arith, e, passed-le, s .bytes) }
 
-module _ (place-for : PlaceFor) (l : Limits) (scrambled : Bool) (r : Look) (n rows given : ℕ)
+module _ (place-for : PlaceFor) (l : Limits) (scrambled : Bool) (r : MediaOutcome) (n rows given : ℕ)
     (passed : Bool) (ep : passed ≡ passesOn (l .«pass_scrambled») scrambled (r .header))
     (o d : ℕ) (eo : o ≡ one passed) (ed : d ≡ cond passed (n - 8) 0)
     (k : ℕ) (ek : k ≡ numberOf place-for (l .«mfu_area») (r .units .longest) rows given (o + r .units .records) (d + r .units .bytes)) (a : Answer) where

@@ -18,9 +18,9 @@ use Rattle.isdb_mmt.specs.declared.mpu.Unit.{Unit as DataUnit}
 use Rattle.isdb_mmt.specs.declared.mpu.UnitStep.{UnitStep}
 use Rattle.isdb_mmt.specs.declared.mpu.UnitStep.the-variants.{End, Malformed as notWhole, Unit as found}
 use Rattle.isdb_mmt.proofs.Lent.{length-over, over-next, over-none}
-use Rattle.isdb_mmt.proofs.Names.{clash}
+use Rattle.isdb_mmt.proofs.Names.{true-not-false}
 use Rattle.isdb_mmt.proofs.Units.{units-at}
-use Rattle.isdb_mmt.proofs.Surveys.{data-ahead}
+use Rattle.isdb_mmt.proofs.MediaEffects.{data-ahead}
 
 module _ (q : Bytes) (timed aggregated : Bool) (from : ℕ) (l₀ : Bytes) where
   abbrev dataAt : ℕ → Bytes
@@ -63,7 +63,7 @@ module _ (q : Bytes) (timed aggregated : Bool) (from : ℕ) (l₀ : Bytes) where
     unfolding isSome
     appending-bad e =
         let u : unitsFrom q timed aggregated at ≡ none = rw (units-at q timed aggregated at, ← ex, e) in
-        clash (isSome (unitsFrom q timed aggregated at)) (g .whole) (ap isSome u)
+        true-not-false (isSome (unitsFrom q timed aggregated at)) (g .whole) (ap isSome u)
 
     module _ (u : DataUnit) (next : ℕ) (e : x ≡ found u next) where
       abbrev unitBytes : Bytes
@@ -79,7 +79,7 @@ module _ (q : Bytes) (timed aggregated : Bool) (from : ℕ) (l₀ : Bytes) where
 
       data-cons : (o : Option (List DataUnit)) → isSome (also u o) ≡ true → unitsData q (also u o) ≡ unitBytes ++ unitsData q o
       unfolding isSome unitsData dataIn
-      data-cons none h = clash false h refl
+      data-cons none h = true-not-false false h refl
       data-cons (some us) h = refl
 
       data-next : dataAt at ≡ unitBytes ++ dataAt next

@@ -20,11 +20,11 @@ use Rattle.isdb_mmt.specs.Check.{lengthsOf, Sound}
 use Rattle.isdb_mmt.specs.View.{view, viewBy}
 use Rattle.isdb_mmt.specs.MediaPush.{mediaPlaceFor, mediaAsks}
 use Rattle.isdb_mmt.specs.declared.decoder.place.PlaceFor.the-variants.{Own, Free, NoneFree}
-use Rattle.isdb_mmt.specs.declared.decoder.reassembler.Survey.{Survey}
+use Rattle.isdb_mmt.specs.declared.decoder.reassembler.MediaEffect.{MediaEffect}
 use Rattle.isdb_mmt.proofs.Lent.{length-names}
-use Rattle.isdb_mmt.proofs.Views.{stands, absent}
+use Rattle.isdb_mmt.proofs.Views.{found-at, absent}
 use Rattle.isdb_mmt.proofs.PlacesFor.{entries, entry-names, place-for-was-old, place-for-was-new, place-for-was-full}
-use Rattle.isdb_mmt.proofs.Told.{Told, bytes-tagged, length-tagged}
+use Rattle.isdb_mmt.proofs.EffectsModelled.{Told, bytes-tagged, length-tagged}
 
 data-append : (xs ys : List Rec) → dataOf (xs ++ ys) ≡ dataOf xs + dataOf ys
 data-append [] ys = omega arith
@@ -32,7 +32,7 @@ data-append (x ∷ xs) ys = rw (data-append xs ys) (omega arith)
 
 -- ---- records, data and the longest object
 
-module _ (s : Session) (m : MpuPacket) (start t : Survey) (z1 : start .records ≡ 0) (z2 : start .bytes ≡ 0) (z3 : start .longest ≡ 0)
+module _ (s : Session) (m : MpuPacket) (start t : MediaEffect) (z1 : start .records ≡ 0) (z2 : start .bytes ≡ 0) (z3 : start .longest ≡ 0)
     (w : Told m start (afterHeaders (assetOf (m .id) (view s)) m) t (readable m)) where
   abbrev passedOn : List Rec
   passedOn = passes (view s .passing) m
@@ -76,7 +76,7 @@ module _ (s : Session) (ok : Sound (s .state) (s .others) (lengthsOf s)) (m : Mp
   unfolding mediaPlaceFor needs pushed view viewBy
   old-is i e =
       let d = place-for-was-old names (limitsOf (s .state) .«media_ids») (m .id) i e in
-      let r = stands (entries s) (m .id) 0 i (ap (λ (ns : List ℕ). foundFrom 0 ns (m .id)) (entry-names s) ∙ d) .1 .stored next in
+      let r = found-at (entries s) (m .id) 0 i (ap (λ (ns : List ℕ). foundFrom 0 ns (m .id)) (entry-names s) ∙ d) .1 .stored next in
       let k : length (put (m .id) next (entries s)) ≡ length (entries s) = ap length r ∙ length-set (entries s) (i - 0) (m .id, next) in
       omega (arith, k, ok .media)
 
@@ -98,7 +98,7 @@ module _ (s : Session) (ok : Sound (s .state) (s .others) (lengthsOf s)) (m : Mp
       (cond (ltb rows (rowSize * needs (view s) (media m) .records)) 10 (cond (ltb bytes (needs (view s) (media m) .dataBytes)) 10 0))))
       (lt-ltb (limitsOf (s .state) .«media_ids») (usedOf (s .state) .«media_ids» + needs (view s) (media m) .mediaIds) (full-is e))
 
-  pub number-is : (rows bytes : ℕ) (start t : Survey) → start .records ≡ 0 → start .bytes ≡ 0 → start .longest ≡ 0
+  pub number-is : (rows bytes : ℕ) (start t : MediaEffect) → start .records ≡ 0 → start .bytes ≡ 0 → start .longest ≡ 0
       → Told m start (afterHeaders (assetOf (m .id) (view s)) m) t (readable m)
       → usedOf (s .state) .«media_ids» + needs (view s) (media m) .mediaIds ≤ limitsOf (s .state) .«media_ids»
       → mediaAsks s rows bytes m

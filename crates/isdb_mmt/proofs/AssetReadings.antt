@@ -135,9 +135,9 @@ module _ (p id : ℕ) (m : Part) (b : Bytes) (rest : AssetReading) where
   of-mpt noMpt = refl
   of-mpt (someMpt t) = of-asset (serviceId b (t .«package_id»)) (firstCarried p b (assetsFrom (t .assets) b (t .start) .found))
 
-goes-on : (p id : ℕ) (tables : Bytes) (o : Option Part) (rest : AssetReading) → assetIf p tables id o rest ≡ orNext (assetIf p tables id o noAsset) rest
-goes-on p id tables none rest = refl
-goes-on p id tables (some m) rest = of-mpt p id m (partOf tables m) rest (mptOf (partOf tables m) .mpt)
+in-sequence : (p id : ℕ) (tables : Bytes) (o : Option Part) (rest : AssetReading) → assetIf p tables id o rest ≡ orNext (assetIf p tables id o noAsset) rest
+in-sequence p id tables none rest = refl
+in-sequence p id tables (some m) rest = of-mpt p id m (partOf tables m) rest (mptOf (partOf tables m) .mpt)
 
 -- an MPT's part is the state's alone
 pub mpt-by-state : (s : Session) (id : ℕ) → mptPart s (controlFound s id) ≡ mptPart (stateOnly (s .state)) (controlFound (stateOnly (s .state)) id)
@@ -167,7 +167,7 @@ module _ (state tables : Bytes) (p : ℕ) (names : List ℕ) where
       let rest : AssetReading = assetAmong s p (ascendingFrom n (id + 1) names) in
       rw (e, i)
       (ap (λ (o : Option Part). assetIf p tables id o rest) (mpt-by-state s id)
-      ∙ goes-on p id tables (mptPart (stateOnly state) (controlFound (stateOnly state) id)) rest)
+      ∙ in-sequence p id tables (mptPart (stateOnly state) (controlFound (stateOnly state) id)) rest)
 
   module _ (left from : ℕ) (y : AssetReading) (inv : y ≡ assetAmong s p (ascendingFrom left from names)) where
     pub among-end : left ≤ 0 → noAsset ≡ y

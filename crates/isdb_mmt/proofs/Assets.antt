@@ -26,8 +26,8 @@ use Rattle.isdb_mmt.specs.declared.table.mpt.Asset.{Asset}
 use Rattle.isdb_mmt.specs.declared.table.mpt.AssetStep.{AssetStep}
 use Rattle.isdb_mmt.specs.declared.table.mpt.AssetStep.the-variants.{Malformed, Asset as asset}
 use Rattle.isdb_mmt.specs.declared.table.mpt.AssetLoop.{AssetLoop}
-use Rattle.isdb_mmt.specs.declared.table.mpt.Place.{Place}
-use Rattle.isdb_mmt.specs.declared.table.mpt.Place.the-variants.{None as nowhere, At}
+use Rattle.isdb_mmt.specs.declared.maybe.MaybeUsize.{MaybeUsize}
+use Rattle.isdb_mmt.specs.declared.maybe.MaybeUsize.the-variants.{None as nowhere, Some as At}
 
 module _ (s : List ℕ) (at : ℕ) where
   -- no location stands behind the end
@@ -65,13 +65,13 @@ module _ (s : List ℕ) (at : ℕ) where
   first-on (suc n) h e d = let i : suc n - 1 ≡ n = omega arith in rw (e, d, i)
 
 -- a place within the bytes
-abbrev pub Within : List ℕ → Place → Type 0
+abbrev pub Within : List ℕ → MaybeUsize → Type 0
 Within s nowhere = Unit {0}
 Within s (At p) = p ≤ length s
 
 -- locations from a place within the bytes end within them
 module _ (s : List ℕ) where
-  behind-within : (go : ℕ → Place) → ((p : ℕ) → p ≤ length s → Within s (go p)) → (at : ℕ) (d : Located) → at ≤ length s
+  behind-within : (go : ℕ → MaybeUsize) → ((p : ℕ) → p ≤ length s → Within s (go p)) → (at : ℕ) (d : Located) → at ≤ length s
       → Takes (drop at s) d → Within s (behindLocation go at d)
   behind-within go h at notLocated b t = tt
   behind-within go h at (located l taken) b t = h (at + taken) (omega (arith, length-drop at s))

@@ -14,7 +14,7 @@ use Rattle.isdb_mmt.specs.Maps.{find, orElse}
 use Rattle.isdb_mmt.specs.Objects.{fresh}
 use Rattle.isdb_mmt.specs.Model.{opened, assetOf}
 use Rattle.isdb_mmt.specs.Book.{LogEntry, packetNumber, unitReceived, unitsReceived, logEntries, receptionLog, Book, nothing, dropCounted, inOrder, missing, continuedBy, entered, enteredAll, book, follower, limit, isHeld, begins, begunIn, begunBy, begun, deliveredOf, Unbroken, joined, whole, divided, MadeOf, done, skip, object}
-use Rattle.isdb_mmt.specs.Demand.{pushAll, giveAll, bytesOf, heldOf, droppedOf, lostOf, AllSmall, EverySmall, Bounded, OfId}
+use Rattle.isdb_mmt.specs.Demand.{pushAll, giveAll, heldBytes, heldOf, droppedOf, lostOf, AllSmall, EverySmall, Bounded, OfId}
 use Rattle.isdb_mmt.specs.declared.mpu.FragmentationIndicator.the-variants.{Complete, Head, Middle, Last}
 
 -- ---- the balance
@@ -279,7 +279,7 @@ small-log i (other ∷ ps) h = small-log i ps (h .1)
 
 pub ids : (pass : Bool) (ps : List Packet) → EverySmall ps → (i : ℕ)
     → OfId (droppedOf i (pushAll (opened pass) ps)) (lostOf i (pushAll (opened pass) ps)) (heldOf i (pushAll (opened pass) ps)) (deliveredOf i (giveAll (opened pass) ps)) ps i
-unfolding book nothing opened assetOf find orElse fresh total isHeld bytesOf
+unfolding book nothing opened assetOf find orElse fresh total isHeld heldBytes
 ids pass ps small i =
     let e : book i ps ≡ at (lostOf i (pushAll (opened pass) ps)) (assetOf i (pushAll (opened pass) ps) .number) (heldOf i (pushAll (opened pass) ps)) (droppedOf i (pushAll (opened pass) ps))
     (deliveredOf i (giveAll (opened pass) ps))

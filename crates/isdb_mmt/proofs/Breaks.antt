@@ -11,7 +11,7 @@ use Rattle.isdb_tlv.specs.Guards.{_<?_, _≤?_, _=?_, _≠?_}
 use Rattle.isdb_tlv.specs.Bytes.{be}
 use Rattle.isdb_tlv.specs.Crc.{crcOf}
 use Rattle.isdb_tlv.proofs.Guards.{cond-elim}
-use Rattle.isdb_mmt.specs.Part.{part, partOf}
+use Rattle.isdb_mmt.specs.Part.{partAt, partOf}
 use Rattle.isdb_mmt.specs.declared.part.Part.{Part}
 use Rattle.isdb_mmt.specs.Packet.{Bytes}
 use Rattle.isdb_mmt.specs.Maps.{one}
@@ -31,19 +31,19 @@ use Rattle.isdb_mmt.specs.declared.table.sdt.SdtParsed.{SdtParsed}
 use Rattle.isdb_mmt.specs.declared.table.bit.BitParsed.{BitParsed}
 use Rattle.isdb_mmt.specs.declared.table.tot.TotParsed.{TotParsed}
 use Rattle.isdb_mmt.specs.declared.table.mpt.MptParsed.{MptParsed}
-use Rattle.isdb_mmt.specs.declared.table.mpt.Place.{Place}
-use Rattle.isdb_mmt.specs.declared.table.mpt.Place.the-variants.{None as nowhere, At}
+use Rattle.isdb_mmt.specs.declared.maybe.MaybeUsize.{MaybeUsize}
+use Rattle.isdb_mmt.specs.declared.maybe.MaybeUsize.the-variants.{None as nowhere, Some as At}
 use Rattle.isdb_mmt.specs.declared.decoder.place.Found.{Found}
 use Rattle.isdb_mmt.specs.declared.decoder.place.Found.the-variants.{At as foundAt, Nothing as notFound}
 use Rattle.isdb_mmt.specs.declared.decoder.section.KeptSection.{KeptSection}
 use Rattle.isdb_mmt.proofs.Entries.{breaks-le, broken-le}
 use Rattle.isdb_mmt.proofs.Assets.{breaks-le as assets-le}
-use Rattle.isdb_mmt.specs.declared.decoder.verdict.Recent.{Recent}
-use Rattle.isdb_mmt.specs.declared.decoder.verdict.Told.{Told}
-use Rattle.isdb_mmt.specs.Verdict.{keysOf, noSection, bodyTold, versionTold, sectionTold, toldOf, changesTo}
-use Rattle.isdb_mmt.specs.Dry.{mostAdded, Small, sectionRead}
+use Rattle.isdb_mmt.specs.declared.decoder.table_outcome.Recent.{Recent}
+use Rattle.isdb_mmt.specs.declared.decoder.table_outcome.TableOutcome.{TableOutcome}
+use Rattle.isdb_mmt.specs.TableOutcome.{keysOf, noSection, bodyOutcome, versionOutcome, sectionOutcome, tableOutcome, changesTo}
+use Rattle.isdb_mmt.specs.PendingTables.{mostAdded, Small, sectionRead}
 use Rattle.isdb_mmt.specs.Layout.{mostMessageArea}
-use Rattle.isdb_mmt.proofs.Verdicts.{found-within}
+use Rattle.isdb_mmt.proofs.TableOutcomes.{found-within}
 
 body-short : (b : Bytes) (p : Part) → length (partOf b p) ≤ length b
 body-short b p = omega (arith, length-take (p .length) (drop (p .start) b), length-drop (p .start) b)
@@ -98,7 +98,7 @@ module _ (b : Bytes) where
       cond-elim (λ (r : TotParsed). r .breaks ≤ 1) (crcOf (take (length12 b 1 + 3) b) ≠? 0) (λ e. omega arith) (λ e3.
       let s : Bytes = take (length12 b 1 + 3) b in
       cond-elim (λ (r : TotParsed). r .breaks ≤ 1) (length s <? length12 s 8 + 10) (λ e. omega arith)
-      (λ e4. broken-le (partOf s (part 10 (length12 s 8))) refl)))))
+      (λ e4. broken-le (partOf s (partAt 10 (length12 s 8))) refl)))))
 
 take-bytes : (n : ℕ) (b : Bytes) → ((i : ℕ) → getD b i 0 ≤ 255) → (i : ℕ) → getD (take n b) i 0 ≤ 255
 take-bytes zero b h i = omega arith
@@ -122,7 +122,7 @@ mpt-breaks : (b : Bytes) → ((i : ℕ) → getD b i 0 ≤ 255) → mptOf b .bre
 unfolding mptOf
 mpt-breaks b h = go (declaredLength b)
   where
-    go : (p : Place) → mptIn b p .breaks ≤ 256
+    go : (p : MaybeUsize) → mptIn b p .breaks ≤ 256
     go nowhere = omega arith
     go (At n) = mpt-table (take n b) (take-bytes n b h)
 
@@ -175,32 +175,32 @@ module _ (ks : List KeptSection) (used : ℕ) (eu : length ks ≡ used) where
   length-keys (k ∷ l) = ap suc (length-keys l)
 
   module _ (x : Section) (f : x .breaks ≤ mostAdded) where
-    abbrev Fine : Told → Type 0
+    abbrev Fine : TableOutcome → Type 0
     Fine t = Small t used mostAdded
 
-    small-body : (c i : ℕ) → c ≤ 1 → i ≤ used → Fine (bodyTold x c i)
+    small-body : (c i : ℕ) → c ≤ 1 → i ≤ used → Fine (bodyOutcome x c i)
     small-body c i h w =
         cond-elim Fine (x .bodyOk)
         (λ e. record { «crc_errors» = omega arith; malformed = omega arith; changes = omega arith; breaks = f; within = w })
         (λ e. record { «crc_errors» = omega arith; malformed = omega arith; changes = omega arith; breaks = f; within = tt })
 
-    small-version : (g : Found) → foundFrom 0 (keysOf ks) (x .key) ≡ g → Fine (versionTold ks x g)
+    small-version : (g : Found) → foundFrom 0 (keysOf ks) (x .key) ≡ g → Fine (versionOutcome ks x g)
     small-version notFound e = small-body 0 (length ks) (omega arith) (omega arith)
     small-version (foundAt i) e =
         cond-elim Fine (getD ks i noSection .version =? x .version)
         (λ z. record { «crc_errors» = omega arith; malformed = omega arith; changes = omega arith; breaks = omega arith; within = tt })
         (λ z. small-body 1 i (omega arith) (omega (arith, found-within 0 (keysOf ks) (x .key) i e, length-keys ks)))
 
-    small-section : Fine (sectionTold ks x)
-    unfolding sectionTold
+    small-section : Fine (sectionOutcome ks x)
+    unfolding sectionOutcome
     small-section =
         cond-elim Fine (x .headerAndCrcGood) (λ e. small-version (foundFrom 0 (keysOf ks) (x .key)) refl) (λ e.
         cond-elim Fine (x .crcBad)
         (λ z. record { «crc_errors» = omega arith; malformed = omega arith; changes = omega arith; breaks = omega arith; within = tt })
         (λ z. record { «crc_errors» = omega arith; malformed = omega arith; changes = omega arith; breaks = omega arith; within = tt }))
 
-  small-table : (m p : Recent) (t : Table) → BreaksIn mostAdded t → Small (toldOf ks m p t) used mostAdded
-  unfolding toldOf
+  small-table : (m p : Recent) (t : Table) → BreaksIn mostAdded t → Small (tableOutcome ks m p t) used mostAdded
+  unfolding tableOutcome
   small-table m p emptyTable f = record { «crc_errors» = omega arith; malformed = omega arith; changes = omega arith; breaks = omega arith; within = tt }
   small-table m p (mptTable true n b) f = record { «crc_errors» = omega arith; malformed = omega arith; changes = omega (arith, one-le (changesTo m (getD b 1 0))); breaks = f; within = tt }
   small-table m p (mptTable false n b) f = record { «crc_errors» = omega arith; malformed = omega arith; changes = omega arith; breaks = f; within = tt }
@@ -221,11 +221,11 @@ module _ (ks : List KeptSection) (used : ℕ) (eu : length ks ≡ used) where
   more n k h (aSection x) f = omega arith
   more n k h (otherTable id) f = tt
 
-  pub small-told : (m p : Recent) (b : Bytes) → ((i : ℕ) → Fits w8 (getD b i 0)) → length b ≤ mostMessageArea → Small (toldOf ks m p (tableRead b)) used mostAdded
+  pub small-told : (m p : Recent) (b : Bytes) → ((i : ℕ) → Fits w8 (getD b i 0)) → length b ≤ mostMessageArea → Small (tableOutcome ks m p (tableRead b)) used mostAdded
   small-told m p b h l =
       small-table m p (tableRead b) (more (length b + 256) mostAdded (omega arith) (tableRead b) (read-in b (λ i. omega (arith, h i))))
 
   -- a section of a control signal
-  pub small-section-told : (m p : Recent) (b : Bytes) → length b ≤ mostMessageArea → Small (toldOf ks m p (sectionRead b)) used mostAdded
+  pub small-section-told : (m p : Recent) (b : Bytes) → length b ≤ mostMessageArea → Small (tableOutcome ks m p (sectionRead b)) used mostAdded
   unfolding sectionOf
   small-section-told m p b l = small-table m p (sectionRead b) (omega (arith, section-breaks b (getD b 0 0)))

@@ -13,7 +13,6 @@ use borrow.Author.Tests.{ltb-true, ltb-false}
 use Rattle.isdb_tlv.specs.Guards.{_=?_}
 use Rattle.isdb_tlv.specs.Bytes.{be}
 use Rattle.isdb_tlv.specs.Crc.{crcOf}
-use Rattle.isdb_tlv.specs.Walk.{more}
 use Rattle.isdb_tlv.specs.Tlv.{packetType}
 use Rattle.isdb_tlv.specs.Ip.{ipv4Of, ipv6Of, compressedOf}
 use Rattle.isdb_tlv.specs.Mmtp.{mmtpOf}

@@ -11,7 +11,7 @@ use borrow.Author.Tests.{ltb-false, leb-true, leb-false, le-ltb, lt-leb}
 use Rattle.isdb_tlv.specs.Bytes.{be}
 use Rattle.isdb_tlv.proofs.Guards.{cond-elim, either}
 use Rattle.isdb_tlv.proofs.Fields.{be-before}
-use Rattle.isdb_mmt.specs.Part.{part, partOf}
+use Rattle.isdb_mmt.specs.Part.{partAt, partOf}
 use Rattle.isdb_mmt.specs.Location.{sized, urlOf, ipv4At, ipv6At, locationOf}
 use Rattle.isdb_mmt.specs.Steps.{Stood, atEnd, malformed, element, countedOn, counted, Gives, Counts}
 use Rattle.isdb_mmt.specs.WholeDescriptors.{wholeLocation, urlIn, locationTold, locationSeen, loopIn}
@@ -25,8 +25,8 @@ use Rattle.isdb_mmt.specs.Whole.{wholeAsset, assetTold, assetSeen, whole
 use Rattle.isdb_mmt.specs.WholeSections.{wholeTot}
 use Rattle.isdb_mmt.specs.Walks.{AssetsWalk, LocationsWalk, PltWalks, BehindTheorem}
 use Rattle.isdb_mmt.specs.declared.part.Part.{Part}
-use Rattle.isdb_mmt.specs.declared.table.mpt.Place.{Place}
-use Rattle.isdb_mmt.specs.declared.table.mpt.Place.the-variants.{None as nowhere, At}
+use Rattle.isdb_mmt.specs.declared.maybe.MaybeUsize.{MaybeUsize}
+use Rattle.isdb_mmt.specs.declared.maybe.MaybeUsize.the-variants.{None as nowhere, Some as At}
 use Rattle.isdb_mmt.specs.declared.table.mpt.Mpt.{Mpt}
 use Rattle.isdb_mmt.specs.declared.table.mpt.MaybeMpt.the-variants.{Some as someMpt}
 use Rattle.isdb_mmt.specs.declared.table.plt.Plt.{Plt}
@@ -105,7 +105,7 @@ module _ (s r : List ℕ) where
       cond-elim (λ d. LocatedSame d (urlOf x)) (ltb (length s) 2) (λ e. tt) (λ e.
       let g = ltb-false (length s) 2 e in
       rw (le-ltb (length x) 2 (longer 2 g), List·getD-append s r 0 1 (omega arith))
-      (sized-same (getD s 1 0 + 2) (Url (part 2 (getD s 1 0))) (Url (part 2 (getD s 1 0))) (λ h. refl)))
+      (sized-same (getD s 1 0 + 2) (Url (partAt 2 (getD s 1 0))) (Url (partAt 2 (getD s 1 0))) (λ h. refl)))
 
   ipv4-same : 13 ≤ length s → ipv4At x ≡ ipv4At s
   ipv4-same h =
@@ -157,7 +157,7 @@ module _ (s r : List ℕ) where
   whole-same : (l : Location) → UrlLies s l → wholeLocation x l ≡ wholeLocation s l
   whole-same l h = ap (λ u. record { location = l; url = u }) (url-in-same l h)
 
-abbrev PlaceSame : Place → Place → Type 0
+abbrev PlaceSame : MaybeUsize → MaybeUsize → Type 0
 PlaceSame nowhere d = Unit {0}
 PlaceSame (At e) d = d ≡ At e
 
@@ -237,7 +237,7 @@ module _ (s r : List ℕ) where
         List·getD-append s r 0 (q + 5) (omega arith),
       )))
 
-  asset-behind : (p q : ℕ) → p + 6 ≤ length s → q + 6 ≤ length s → (d d′ : Place) → PlaceSame d d′ → AssetSame (assetBehind s p q d) (assetBehind all p q d′)
+  asset-behind : (p q : ℕ) → p + 6 ≤ length s → q + 6 ≤ length s → (d d′ : MaybeUsize) → PlaceSame d d′ → AssetSame (assetBehind s p q d) (assetBehind all p q d′)
   asset-behind p q hp hq nowhere d′ w = tt
   asset-behind p q hp hq (At end) d′ w = rw w (fields-same p q end hp hq)
 
@@ -291,7 +291,7 @@ module _ (s r : List ℕ) where
       ∙ (λ i.
       element
       (record {
-        packageId = part-same s r (part (at + 1) n) h i;
+        packageId = part-same s r (partAt (at + 1) n) h i;
         location = (ap (λ (b : List ℕ). wholeLocation b l) (drop-append-le q s r h) ∙ whole-same (drop q s) r l w) i;
       })
       (q + k))
@@ -311,7 +311,7 @@ module _ (s r : List ℕ) where
       (package-told at n h (locationOf (drop q s)) (locationOf (drop q all))
       (rw (drop-append-le q s r h) (location-same (drop q s) r)) (parts .locations (drop q s)))))
 
-  delivery-behind : (at : ℕ) → at + 5 ≤ length s → (d d′ : Place) → PlaceSame d d′
+  delivery-behind : (at : ℕ) → at + 5 ≤ length s → (d d′ : MaybeUsize) → PlaceSame d d′
       → Same (deliveryTold (deliveryBehind s at d)) (deliveryTold (deliveryBehind all at d′))
   delivery-behind at h nowhere d′ w = tt
   delivery-behind at h (At n) d′ w =

@@ -30,7 +30,7 @@ use Rattle.isdb_tlv.specs.Guards.{_≤?_, _=?_}
 use Rattle.isdb_tlv.specs.Bytes.{be}
 use Rattle.isdb_tlv.proofs.Numbers.{be-lt, be-add}
 use Rattle.isdb_tlv.proofs.Guards.{either, cond-same}
-use Rattle.isdb_mmt.proofs.Names.{clash}
+use Rattle.isdb_mmt.proofs.Names.{true-not-false}
 use Rattle.isdb_mmt.proofs.Guards.{no, yes, both, not-both, guard-holds, guard-fails, was-both, was-guarded}
 use Rattle.isdb_mmt.proofs.Limits.{passed}
 use Rattle.isdb_mmt.proofs.Stored.{own-front, limits-own, used-own, latest-own, counters-own}
@@ -336,7 +336,7 @@ module _ (s others : List ℕ) (lent : Lengths) where
 -- a length that fits where there is something, and two of them
 was-there : (a : Bool) (n area : ℕ) → lengthFits a n area ≡ true → a ≡ true → n ≤ area
 was-there true n area e t = leb-true n area e
-was-there false n area e t = clash false t refl
+was-there false n area e t = true-not-false false t refl
 
 were-there : (a b : Bool) (n m x y : ℕ) → cond (lengthFits a n x) (lengthFits b m y) false ≡ true → (a ≡ true → n ≤ x) × (b ≡ true → m ≤ y)
 were-there a b n m x y e =

@@ -19,18 +19,18 @@ use Rattle.isdb_mmt.specs.MediaPush.{withUsed}
 use Rattle.isdb_tlv.specs.Fields.{written}
 use Rattle.isdb_tlv.proofs.Fields.{length-written}
 use Rattle.isdb_mmt.specs.declared.decoder.section.KeptSection.{KeptSection}
-use Rattle.isdb_mmt.specs.Verdict.{placeAt, indexOf}
+use Rattle.isdb_mmt.specs.TableOutcome.{placeAt, indexOf}
 use Rattle.isdb_mmt.proofs.Lent.{length-over, over-next}
 use Rattle.isdb_mmt.proofs.Views.{area-apart}
-use Rattle.isdb_mmt.specs.Dry.{Logged, logged, withLog, bytesAt, drawnEntry, drawnRecent}
+use Rattle.isdb_mmt.specs.PendingTables.{Logged, logged, withLog, bytesAt, committedEntry, committedRecent}
 use Rattle.isdb_mmt.specs.Part.{partOf}
 use Rattle.isdb_mmt.specs.Placed.{behind}
 use Rattle.isdb_mmt.specs.Leaves.{bytesOver, keptOver}
 use Rattle.isdb_mmt.specs.declared.part.Part.{Part}
 use Rattle.isdb_mmt.specs.declared.decoder.head.Used.{Used}
 use Rattle.isdb_mmt.specs.declared.decoder.limits.Limits.{Limits}
-use Rattle.isdb_mmt.specs.declared.decoder.verdict.Recent.{Recent}
-use Rattle.isdb_mmt.specs.declared.decoder.walk.Going.{Going}
+use Rattle.isdb_mmt.specs.declared.decoder.table_outcome.Recent.{Recent}
+use Rattle.isdb_mmt.specs.declared.decoder.walk.WalkState.{WalkState}
 use Rattle.isdb_mmt.proofs.Joined.{pieces}
 use Rattle.isdb_mmt.specs.Commit.{putOne, putTables, putRecent, putAreas, EntryFits, AllFit, loggedFrom, CanPut, CanStore, CanStoreOne, CanStoreRecent, CanStoreAreas, CanStoreState}
 
@@ -88,7 +88,7 @@ module _ (area : ℕ) (m : Bytes) where
   -- so the commit lays all that is kept
   pub put-is : (es : List Logged) (i : ℕ) (t₀ t : Bytes) → AllFit area m es → (i + length es) * area ≤ length t
       → ((j n : ℕ) → i ≤ j → n ≤ area → part (j * area) n t ≡ part (j * area) n t₀)
-      → putTables area i es m t ≡ keptOver area i (indexed (drawnEntry m t₀ area) i es) t
+      → putTables area i es m t ≡ keptOver area i (indexed (committedEntry m t₀ area) i es) t
   unfolding putTables keptOver indexed
   put-is [] i t₀ t f w h = refl
   put-is (e ∷ es) i t₀ t f w h =
@@ -99,7 +99,7 @@ module _ (area : ℕ) (m : Bytes) where
       one-laid i e (f .0) t₀ t (r .0) (h i (e .place .length) (omega arith) (f .0 .small)) in
       put-is es (i + 1) t₀ t1 (f .1) (omega (arith, r .1))
       (λ j n a b. one-apart i e (f .0) t (r .0) j n (λ z. absurd (omega arith)) b ∙ h j n (omega arith) b)
-      ∙ ap (λ (z : Bytes). keptOver area (i + 1) (indexed (drawnEntry m t₀ area) (i + 1) es) z) q
+      ∙ ap (λ (z : Bytes). keptOver area (i + 1) (indexed (committedEntry m t₀ area) (i + 1) es) z) q
 
   -- later areas stay
   pub put-length : (es : List Logged) (i : ℕ) (t : Bytes) → AllFit area m es → (i + length es) * area ≤ length t → length (putTables area i es m t) ≡ length t
@@ -146,7 +146,7 @@ module _ (area : ℕ) (m : Bytes) where
   -- an MPT, a PLT or a TOT
   pub recent-is : (i : ℕ) (r : Recent) (t₀ t : Bytes) → (r .there ≡ true → r .length ≤ area) → (i + 1) * area ≤ length t
       → ((n : ℕ) → n ≤ area → part (i * area) n t ≡ part (i * area) n t₀)
-      → putRecent (i * area) r m t ≡ bytesOver (i * area) (drawnRecent m t₀ (i * area) r) t
+      → putRecent (i * area) r m t ≡ bytesOver (i * area) (committedRecent m t₀ (i * area) r) t
   recent-is i r t₀ t f w h =
       either (r .there)
       (λ q.
@@ -285,14 +285,14 @@ all-each area m ix log (suc n) k f (suc i) h =
 
 -- ---- all areas
 
-pub areas-mpt : (t ix log : List ℕ) (g : Going) (l : Limits) (i : ℕ) (m : Bytes) → CanStoreAreas t ix log g l i m → (n k : ℕ) (t3 : List ℕ)
+pub areas-mpt : (t ix log : List ℕ) (g : WalkState) (l : Limits) (i : ℕ) (m : Bytes) → CanStoreAreas t ix log g l i m → (n k : ℕ) (t3 : List ℕ)
     → n ≡ length t → k ≡ n → length t3 ≡ k → CanStoreRecent t3 (g .mpt) (l .sections + i) (l .«table_area») m
 areas-mpt t ix log g l i m can n k t3 e1 e2 e3 =
     let q : (l .sections + i + 1) * l .«table_area» ≤ (l .sections + l .«control_ids» + 2) * l .«table_area» =
     mul-le-mul-right (l .«table_area») (omega (arith, can .place)) in
     record { room = omega (arith, can .room); small = can .mpt }
 
-pub areas-done : (t ix log : List ℕ) (g : Going) (l : Limits) (i : ℕ) (m : Bytes) (t1 t2 t3 t4 : List ℕ)
+pub areas-done : (t ix log : List ℕ) (g : WalkState) (l : Limits) (i : ℕ) (m : Bytes) (t1 t2 t3 t4 : List ℕ)
     → t1 ≡ putTables (l .«table_area») 0 (loggedFrom (g .used) 0 ix log) m t
     → t2 ≡ putRecent ((l .sections + l .«control_ids») * l .«table_area») (g .plt) m t1
     → t3 ≡ putRecent ((l .sections + l .«control_ids» + 1) * l .«table_area») (g .tot) m t2

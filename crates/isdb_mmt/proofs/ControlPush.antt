@@ -1,7 +1,7 @@
 -- A control packet: what is asked and left is the model's. Assumes nothing.
 use Prim.Native.Nat.{ℕ, _+_, _-_, _*_, _≤_, _<_, max}
 use mathlib.Core.Path.{_≡_, refl, sym, ap, _∙_, subst}
-use mathlib.Core.Bool.{true, false, not}
+use mathlib.Core.Bool.{true, false}
 use mathlib.Core.Option.{none}
 use mathlib.Core.List.{List, [], _++_, map}
 use native.Mathlib.Omega.{arith}
@@ -17,7 +17,7 @@ use Rattle.isdb_tlv.specs.Si.{sectionsOf}
 use Rattle.isdb_tlv.specs.declared.si.Section.{Section as Found}
 use Rattle.isdb_tlv.proofs.Guards.{either}
 use Rattle.isdb_mmt.specs.Layout.{mostSections, tableIds, countersPlace, sectionPlaces, sectionSize}
-use Rattle.isdb_mmt.specs.Packet.{Bytes, Packet, control}
+use Rattle.isdb_mmt.specs.Packet.{Bytes, Packet}
 use Rattle.isdb_mmt.specs.Kept.{Kept, KeptTables, Table, storedAll, countedAll}
 use Rattle.isdb_mmt.specs.GivenTables.{controlTables}
 use Rattle.isdb_mmt.specs.Model.{State, packetCounted, pushed, gives}
@@ -29,28 +29,27 @@ use Rattle.isdb_mmt.specs.Session.{Session, limitsOf, usedOf, countersOf
 use Rattle.isdb_mmt.specs.Check.{mediaIn, controlsIn, sectionsIn, packetCounts, tableCounts, lengthsOf, Sound}
 use Rattle.isdb_mmt.specs.View.{assetEntry, controlEntry, sectionEntry, viewBy, view}
 use Rattle.isdb_mmt.specs.Opening.{lent}
-use Rattle.isdb_mmt.specs.Placing.{}
 use Rattle.isdb_mmt.specs.MediaPush.{withUsed}
 use Rattle.isdb_mmt.specs.Leaves.{usedFor, sectionRows, stateOfTables, keptOver, controlLeaves, packetLeaves}
 use Rattle.isdb_mmt.specs.Counted.{Countable}
 use Rattle.isdb_mmt.specs.Push.{CanTakePacket, hasPlaces, hasAreas, asksOf, QuietPushed}
-use Rattle.isdb_mmt.specs.Verdict.{indexSize, indexOf}
-use Rattle.isdb_mmt.specs.Placed.{bytesOf, placedSections}
-use Rattle.isdb_mmt.specs.Tally.{Tally}
-use Rattle.isdb_mmt.specs.Dry.{sectionRead, Logged, withLog, dryOf, Areas, drawn, Versions, Walked, CanWalkSections}
+use Rattle.isdb_mmt.specs.TableOutcome.{indexSize, indexOf}
+use Rattle.isdb_mmt.specs.Placed.{tableBytes, placedSections}
+use Rattle.isdb_mmt.specs.TableState.{TableState}
+use Rattle.isdb_mmt.specs.PendingTables.{sectionRead, Logged, withLog, pendingOf, Areas, committed, Versions, Walked, CanWalkSections}
 use Rattle.isdb_mmt.specs.Commit.{putTables, loggedFrom, AllFit, CanStore}
-use Rattle.isdb_mmt.specs.Start.{noRecent, goingIn, tablesAsk, signalOf, countersWith, withSectionsUsed, CanLeave, SectionsLeft}
+use Rattle.isdb_mmt.specs.Start.{noRecent, walkStart, tablesAsk, signalOf, countersWith, withSectionsUsed, CanLeave, SectionsLeft}
 use Rattle.isdb_mmt.specs.declared.decoder.limits.Limits.{Limits}
 use Rattle.isdb_mmt.specs.declared.decoder.counts.Counters.{Counters}
 use Rattle.isdb_mmt.specs.declared.decoder.head.Used.{Used}
-use Rattle.isdb_mmt.specs.declared.decoder.verdict.Recent.{Recent}
-use Rattle.isdb_mmt.specs.declared.decoder.walk.Going.{Going}
+use Rattle.isdb_mmt.specs.declared.decoder.table_outcome.Recent.{Recent}
+use Rattle.isdb_mmt.specs.declared.decoder.walk.WalkState.{WalkState}
 use Rattle.isdb_mmt.proofs.Checks.{count-was}
 use Rattle.isdb_mmt.proofs.Questions.{asks-zero, asks-places, asks-areas}
 use Rattle.isdb_mmt.proofs.PlacesFor.{length-media, length-indexed}
 use Rattle.isdb_mmt.proofs.MessageLeaves.{length-controls, length-sections}
 use Rattle.isdb_mmt.proofs.Placing.{bytes-sections, sections-placed}
-use Rattle.isdb_mmt.proofs.Drawn.{sections-stand}
+use Rattle.isdb_mmt.proofs.Committed.{sections-located}
 use Rattle.isdb_mmt.proofs.Loaded.{no-log, met, areas, store-view, held-view, versions-view}
 use Rattle.isdb_mmt.proofs.Commits.{logged-all, all-each}
 use Rattle.isdb_mmt.proofs.Leaving.{counters-are}
@@ -90,8 +89,8 @@ module _ (state others objects messages tables : List ℕ) (b : Bytes) (can : Ca
   abbrev log₀ : List ℕ
   log₀ = replicate mostSections 0
 
-  abbrev g₀ : Going
-  g₀ = goingIn state tables c₁ noRecent
+  abbrev g₀ : WalkState
+  g₀ = walkStart state tables c₁ noRecent
 
   control-can : CanWalkSections ix₀ log₀ others g₀ b
   unfolding packetCounted
@@ -120,23 +119,23 @@ module _ (state others objects messages tables : List ℕ) (b : Bytes) (can : Ca
 
   -- the copies are those
   module _ (c : Counters) (ec : c ≡ c₁) (log : List ℕ) (ll : length log ≡ mostSections) (ix log′ mine : List ℕ) (ei : ix ≡ ix₀)
-      (el : log′ ≡ replicate (length log) 0) (em : mine ≡ others) (z : Recent) (ez : z ≡ noRecent) (g : Going) (eg : g ≡ goingIn state tables c z) where
+      (el : log′ ≡ replicate (length log) 0) (em : mine ≡ others) (z : Recent) (ez : z ≡ noRecent) (g : WalkState) (eg : g ≡ walkStart state tables c z) where
     el₀ : log′ ≡ log₀
     el₀ = el ∙ ap (λ n. replicate {A = ℕ} n 0) ll
 
     eg₀ : g ≡ g₀
-    eg₀ = eg ∙ ap (λ (x : Counters). goingIn state tables x z) ec ∙ ap (λ (x : Recent). goingIn state tables c₁ x) ez
+    eg₀ = eg ∙ ap (λ (x : Counters). walkStart state tables x z) ec ∙ ap (λ (x : Recent). walkStart state tables c₁ x) ez
 
     pub copies-can : CanWalkSections ix log′ mine g b
     copies-can = rw (ei, el₀, em, eg₀) control-can
 
-    pub copies-walked : (n k : ℕ) (r : Going) (ix″ log″ mine″ : List ℕ) → Walked sectionRead ix log′ mine g (placedSections b 0) n k r ix″ log″ mine″
+    pub copies-walked : (n k : ℕ) (r : WalkState) (ix″ log″ mine″ : List ℕ) → Walked sectionRead ix log′ mine g (placedSections b 0) n k r ix″ log″ mine″
         → Walked sectionRead ix₀ log₀ others g₀ (placedSections b 0) n k r ix″ log″ mine″
     copies-walked n k r ix″ log″ mine″ w = rw (ei, el₀, em, eg₀) at w
 
   -- ---- after the walk
 
-  module _ (n : ℕ) (r : Going) (ix log mine : List ℕ) (w : Walked sectionRead ix₀ log₀ others g₀ (placedSections b 0) n 0 r ix log mine) where
+  module _ (n : ℕ) (r : WalkState) (ix log mine : List ℕ) (w : Walked sectionRead ix₀ log₀ others g₀ (placedSections b 0) n 0 r ix log mine) where
     abbrev p : Packet
     p = signalOf b
 
@@ -149,11 +148,11 @@ module _ (state others objects messages tables : List ℕ) (b : Bytes) (can : Ca
     abbrev a : Areas
     a = areas s ok b log₀ (no-log mostSections) noRecent 0 c₁ c₁
 
-    abbrev before : Tally
-    before = drawn b a c₁ (dryOf ix₀ log₀ others g₀)
+    abbrev before : TableState
+    before = committed b a c₁ (pendingOf ix₀ log₀ others g₀)
 
     abbrev ts : List Table
-    ts = map sectionRead (bytesOf (placedSections b 0))
+    ts = map sectionRead (tableBytes (placedSections b 0))
 
     same-tables : ts ≡ controlTables bs
     same-tables = ap (map sectionRead) (bytes-sections b)
@@ -166,7 +165,7 @@ module _ (state others objects messages tables : List ℕ) (b : Bytes) (can : Ca
     store-next = ap (λ (x : KeptTables). storedAll x ts) same-store ∙ ap (storedAll (view s .store)) same-tables
 
     counters-next : countedAll (before .mpt) (before .store) (before .counters) ts ≡ next .counters
-    unfolding pushed drawn packetCounted view viewBy
+    unfolding pushed committed packetCounted view viewBy
     counters-next =
         ap (λ (x : KeptTables). countedAll none x c₁ ts) same-store ∙ ap (λ (x : List Table). countedAll none (view s .store) c₁ x) same-tables
 
@@ -174,15 +173,15 @@ module _ (state others objects messages tables : List ℕ) (b : Bytes) (can : Ca
     unfolding needs
     need-next = ap (λ (x : KeptTables). tablesNeed x ts) same-store ∙ ap (tablesNeed (view s .store)) same-tables
 
-    versions : Versions b a (dryOf ix₀ log₀ others g₀)
+    versions : Versions b a (pendingOf ix₀ log₀ others g₀)
     versions = versions-view s ok b log₀ (no-log mostSections) noRecent 0 c₁ c₁ refl
 
-    abbrev after : Tally
-    after = drawn b a c₁ (dryOf ix log mine r)
+    abbrev after : TableState
+    after = committed b a c₁ (pendingOf ix log mine r)
 
     -- where the walk is not full
     is : r .full ≡ false → AsModel before ts after
-    is y = walk-is sectionRead sections-stand ix₀ log₀ others g₀ (placedSections b 0) n 0 r ix log mine w b a c₁ versions (sections-placed b) y
+    is y = walk-is sectionRead sections-located ix₀ log₀ others g₀ (placedSections b 0) n 0 r ix log mine w b a c₁ versions (sections-placed b) y
 
     abbrev kept-now : ℕ
     kept-now = length (next .store .kept)
@@ -207,7 +206,7 @@ module _ (state others objects messages tables : List ℕ) (b : Bytes) (can : Ca
     grows : usedOf state .sections ≤ kept-now
     grows =
         omega
-        (arith, kept-is, kept-grows sectionRead sections-stand ix₀ log₀ others g₀ (placedSections b 0) n 0 r ix log mine w b a c₁ versions (sections-placed b))
+        (arith, kept-is, kept-grows sectionRead sections-located ix₀ log₀ others g₀ (placedSections b 0) n 0 r ix log mine w b a c₁ versions (sections-placed b))
 
     abbrev u : Used
     u = usedOf state
@@ -274,10 +273,10 @@ module _ (state others objects messages tables : List ℕ) (b : Bytes) (can : Ca
 
     used-is : r .full ≡ false → r .used ≡ kept-now
     used-is y =
-        used-after sectionRead sections-stand ix₀ log₀ others g₀ (placedSections b 0) n 0 r ix log mine w b a c₁ versions (sections-placed b) y ∙ kept-is
+        used-after sectionRead sections-located ix₀ log₀ others g₀ (placedSections b 0) n 0 r ix log mine w b a c₁ versions (sections-placed b) y ∙ kept-is
 
     longest-is : r .full ≡ false → r .longest ≡ asked .table
-    unfolding drawn
+    unfolding committed
     longest-is y = is y .longest ∙ zero-max (tablesNeed (before .store) ts) ∙ need-next
       where
         zero-max : (k : ℕ) → max 0 k ≡ k
@@ -290,7 +289,7 @@ module _ (state others objects messages tables : List ℕ) (b : Bytes) (can : Ca
         either (r .full)
         (λ y.
         let h : mostSections < kept-now =
-        omega (arith, kept-is, full-above sectionRead sections-stand ix₀ log₀ others g₀ (placedSections b 0) n 0 r ix log mine w b a c₁ versions (sections-placed b) refl y) in
+        omega (arith, kept-is, full-above sectionRead sections-located ix₀ log₀ others g₀ (placedSections b 0) n 0 r ix log mine w b a c₁ versions (sections-placed b) refl y) in
         rw y (sym (eight (omega (arith, h, met s ok .ranges .sections)))))
         (λ y.
         let e = used-is y in
@@ -337,12 +336,12 @@ module _ (state others objects messages tables : List ℕ) (b : Bytes) (can : Ca
           nine-zero : _≡_ {A = ℕ} 9 0 → ⊥
           nine-zero q = omega arith
 
-      held : AllHeld b (l .«table_area») 0 (dryOf ix₀ log₀ others g₀ .index)
+      held : AllHeld b (l .«table_area») 0 (pendingOf ix₀ log₀ others g₀ .index)
       held = held-view s ok b log₀ (no-log mostSections) noRecent 0 c₁ c₁
 
       all-fit : AllFit (l .«table_area») b (withLog (indexOf (r .used) ix) log)
       all-fit =
-          fits-after sectionRead sections-stand ix₀ log₀ others g₀ (placedSections b 0) n 0 r ix log mine w b a c₁ versions (sections-placed b) not-full held fits
+          fits-after sectionRead sections-located ix₀ log₀ others g₀ (placedSections b 0) n 0 r ix log mine w b a c₁ versions (sections-placed b) not-full held fits
 
       room : r .used * l .«table_area» ≤ length tables
       room =
@@ -378,22 +377,22 @@ module _ (state others objects messages tables : List ℕ) (b : Bytes) (can : Ca
           tables-left =
               left .areas
               ∙ ap (λ (es : List Logged). putTables (l .«table_area») 0 es b tables) (logged-all (r .used) ix log (omega (arith, some-sections)))
-              ∙ committed-kept sectionRead sections-stand ix₀ log₀ others g₀ (placedSections b 0) n 0 r ix log mine w b a c₁ versions (sections-placed b) not-full
+              ∙ committed-kept sectionRead sections-located ix₀ log₀ others g₀ (placedSections b 0) n 0 r ix log mine w b a c₁ versions (sections-placed b) not-full
               held fits room
               ∙ ap (λ (x : KeptTables). keptOver (l .«table_area») 0 (x .kept) tables) store-next
 
           others-left : others′ ≡ next .store .others
-          unfolding drawn
+          unfolding committed
           others-left = left .counts ∙ ap (λ (x : KeptTables). x .others) (is not-full .store ∙ store-next)
 
           rows-left : take (sectionSize * r .used) ix ≡ sectionRows kept
           rows-left =
-              committed-rows sectionRead sections-stand ix₀ log₀ others g₀ (placedSections b 0) n 0 r ix log mine w b a c₁ versions (sections-placed b) not-full held
+              committed-rows sectionRead sections-located ix₀ log₀ others g₀ (placedSections b 0) n 0 r ix log mine w b a c₁ versions (sections-placed b) not-full held
               fits o (omega (arith, some-sections)) room
               ∙ ap (λ (x : KeptTables). sectionRows (x .kept)) store-next
 
           counters-left : countersWith c r ≡ next .counters
-          unfolding drawn packetCounted
+          unfolding committed packetCounted
           counters-left =
               ap (λ (x : Counters). countersWith x r) ec
               ∙ counters-are ix log mine c₁ r (w .bad ∙ add-zero (countersOf state .«message_malformed»))
@@ -426,14 +425,14 @@ module _ (state others objects messages tables : List ℕ) (b : Bytes) (can : Ca
 
   module _ (k : Counters) (ek : k ≡ countersOf state) (c : Counters) (ec : c ≡ (packetCounted k 0 0 0)) (log : List ℕ)
       (ll : length log ≡ mostSections) (ix₁ log₁ mine₁ : List ℕ) (ei : ix₁ ≡ ix₀) (el : log₁ ≡ replicate (length log) 0) (em : mine₁ ≡ others) (z : Recent)
-      (ez : z ≡ noRecent) (g : Going) (eg : g ≡ goingIn state tables c z) where
+      (ez : z ≡ noRecent) (g : WalkState) (eg : g ≡ walkStart state tables c z) where
     counted-is : c ≡ c₁
     counted-is = ec ∙ ap (λ (x : Counters). packetCounted x 0 0 0) ek
 
     pub push-can : CanWalkSections ix₁ log₁ mine₁ g b
     push-can = copies-can c counted-is log ll ix₁ log₁ mine₁ ei el em z ez g eg
 
-    module _ (r : Going) (ix₂ log₂ mine₂ : List ℕ) (w : Walked sectionRead ix₁ log₁ mine₁ g (placedSections b 0) (length b + 1) 0 r ix₂ log₂ mine₂)
+    module _ (r : WalkState) (ix₂ log₂ mine₂ : List ℕ) (w : Walked sectionRead ix₁ log₁ mine₁ g (placedSections b 0) (length b + 1) 0 r ix₂ log₂ mine₂)
         (j : Limits) (ej : j ≡ l) (x : ℕ) (ex : x ≡ tablesAsk j r) where
       w₀ : Walked sectionRead ix₀ log₀ others g₀ (placedSections b 0) (length b + 1) 0 r ix₂ log₂ mine₂
       w₀ = copies-walked c counted-is log ll ix₁ log₁ mine₁ ei el em z ez g eg (length b + 1) 0 r ix₂ log₂ mine₂ w
@@ -455,7 +454,7 @@ module _ (state others objects messages tables : List ℕ) (b : Bytes) (can : Ca
 
 -- ---- the commit
 
-module _ (state others tables ix log mine : List ℕ) (g : Going) (b : Bytes) (can : CanLeave state others tables ix log mine g b) (l : Limits)
+module _ (state others tables ix log mine : List ℕ) (g : WalkState) (b : Bytes) (can : CanLeave state others tables ix log mine g b) (l : Limits)
     (el : l ≡ limitsOf state) (x : Bytes) (ex : x ≡ []) where
   pub leave-areas : CanStore tables ix log (g .used) (l .«table_area») (x ++ b)
   leave-areas = rw (el, ex) (can .areas)

@@ -8,8 +8,6 @@ use Rattle.isdb_mmt.specs.Model.{packetCounted}
 use Rattle.isdb_mmt.specs.Layout.{timePlace, countersPlace}
 use Rattle.isdb_mmt.specs.Lent.{over}
 use Rattle.isdb_mmt.specs.Session.{countersOf, countersFields, timeFields}
-use Rattle.isdb_mmt.specs.View.{}
-use Rattle.isdb_mmt.specs.Placing.{}
 use Rattle.isdb_mmt.specs.Leaves.{withCounters, withTime}
 use Rattle.isdb_mmt.specs.Route.{timeGiven}
 use Rattle.isdb_mmt.specs.Counted.{Countable, StateCountable}

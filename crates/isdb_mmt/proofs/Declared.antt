@@ -29,7 +29,7 @@ use Rattle.isdb_mmt.specs.declared.table.section.SectionError.{SectionEr
 use Rattle.isdb_mmt.specs.declared.table.section.SectionError.the-variants.{Truncated, Crc}
 use Rattle.isdb_mmt.specs.declared.table.section.LongSection.{LongSection}
 use Rattle.isdb_mmt.specs.declared.table.section.LongSection.the-variants.{Ok, Err}
-use Rattle.isdb_mmt.specs.declared.table.mpt.Place.the-variants.{At}
+use Rattle.isdb_mmt.specs.declared.maybe.MaybeUsize.the-variants.{Some as At}
 
 part-take : (k m n : ℕ) (l : Bytes) → k + m ≤ n → take m (drop k (take n l)) ≡ take m (drop k l)
 part-take zero m n l h = take-take m n l (omega arith)

@@ -29,7 +29,7 @@ use Rattle.isdb_mmt.specs.declared.desc.Step.{Step}
 use Rattle.isdb_mmt.specs.declared.desc.Step.the-variants.{End, Broken, Raw}
 use Rattle.isdb_mmt.specs.declared.desc.Descriptor.{Descriptor}
 use Rattle.isdb_mmt.specs.declared.desc.Descriptor.the-variants.{MpuTimestamp, ExtendedTimestamp, AccessControl, Scrambler, StreamIdentifier, Service, ServiceList, ShortEvent, Content, Hevc, BroadcasterName, Other}
-use Rattle.isdb_mmt.proofs.Names.{clash}
+use Rattle.isdb_mmt.proofs.Names.{true-not-false}
 use Rattle.isdb_mmt.proofs.Descriptors.{Inside, step-inside, split-at}
 use Rattle.isdb_mmt.proofs.Timestamps.{Inside as MpuInside, mpu-inside, mpu-lies, whole-end, whole-broken, whole-on}
 use Rattle.isdb_mmt.proofs.Steps.{Leads, counts, whole-by, On, wholeOn, same-found, same-whole, ends, ends-whole}
@@ -177,7 +177,7 @@ module _ (s : List ℕ) where
       cond-elim ExtendedGood (ltb (length s) 1) (λ e. tt) (λ e.
       cond-elim ExtendedGood (ltb (length s) (headEnd f)) (λ e1. tt) (λ e1.
       cond-elim ExtendedGood (not w) (λ e2. tt) (λ e2.
-      mpus-end s _ (headEnd f) (either w (λ d. d) (λ d. clash true refl (rw d at e2))))))
+      mpus-end s _ (headEnd f) (either w (λ d. d) (λ d. true-not-false true refl (rw d at e2))))))
 
   abbrev Good : Descriptor → Type 0
   Good MpuTimestamp = Unit {0}

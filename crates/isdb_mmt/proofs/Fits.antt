@@ -11,6 +11,7 @@ use Rattle.isdb_mmt.specs.Mpu.{follows, lostFrom}
 use Rattle.isdb_mmt.specs.Packet.{PayloadUnit, MpuPacket, readable}
 use Rattle.isdb_mmt.specs.Maps.{one, isSome}
 use Rattle.isdb_mmt.specs.Objects.{Mfu, Asset, fresh, mostObject, gap, lostBy, UnitEffect, grown, continued, effectOf, afterUnit, objectOf, unitEffect, afterUnits, afterHeaders, newMpu, jumped, malformedPayload, assetAfter, mpuIn, completes}
+use Rattle.isdb_mmt.specs.MediaPlace.{StatsWithin}
 use Rattle.isdb_mmt.specs.Needs.{heldLength, unitArea, unitsNeed}
 use Rattle.isdb_mmt.specs.declared.mpu.FragmentationIndicator.{FragmentationIndicator}
 use Rattle.isdb_mmt.specs.declared.mpu.FragmentationIndicator.the-variants.{Complete, Head, Middle, Last}
@@ -25,29 +26,24 @@ one-le false = omega arith
 
 pub record AssetFits (area n : ℕ) (a : Asset) : Type 0 where
   pub held : heldLength (a .held) ≤ area
-  pub packets : a .packets ≤ n
-  pub lost : a .lost ≤ n
-  pub scrambled : a .scrambled ≤ n
-  pub mfus : a .mfus ≤ n
-  pub scrambledMfus : a .scrambledMfus ≤ n
-  pub dropped : a .dropped ≤ n
-  pub mpus : a .mpus ≤ n
-  pub jumps : a .jumps ≤ n
-  pub malformed : a .malformed ≤ n
+  pub counts : StatsWithin n (a .stats)
 
 pub asset-more : (area n m : ℕ) (a : Asset) → n ≤ m → AssetFits area n a → AssetFits area m a
 asset-more area n m a l h =
     record {
       held = h .held;
-      packets = omega (arith, h .packets);
-      lost = omega (arith, h .lost);
-      scrambled = omega (arith, h .scrambled);
-      mfus = omega (arith, h .mfus);
-      scrambledMfus = omega (arith, h .scrambledMfus);
-      dropped = omega (arith, h .dropped);
-      mpus = omega (arith, h .mpus);
-      jumps = omega (arith, h .jumps);
-      malformed = omega (arith, h .malformed);
+      counts =
+          record {
+          packets = omega (arith, h .counts .packets);
+          lost = omega (arith, h .counts .lost);
+          scrambled = omega (arith, h .counts .scrambled);
+          mfus = omega (arith, h .counts .mfus);
+          scrambledMfus = omega (arith, h .counts .scrambledMfus);
+          dropped = omega (arith, h .counts .dropped);
+          mpus = omega (arith, h .counts .mpus);
+          jumps = omega (arith, h .counts .jumps);
+          malformed = omega (arith, h .counts .malformed);
+          };
     }
 
 pub fresh-fits : (area n : ℕ) → AssetFits area n fresh
@@ -55,15 +51,18 @@ unfolding fresh
 fresh-fits area n =
     record {
       held = omega arith;
-      packets = omega arith;
-      lost = omega arith;
-      scrambled = omega arith;
-      mfus = omega arith;
-      scrambledMfus = omega arith;
-      dropped = omega arith;
-      mpus = omega arith;
-      jumps = omega arith;
-      malformed = omega arith;
+      counts =
+          record {
+          packets = omega arith;
+          lost = omega arith;
+          scrambled = omega arith;
+          mfus = omega arith;
+          scrambledMfus = omega arith;
+          dropped = omega arith;
+          mpus = omega arith;
+          jumps = omega arith;
+          malformed = omega arith;
+          };
     }
 
 -- a unit drops one object, delivers one, and holds what its area counts
@@ -99,15 +98,18 @@ units-fit area m (u ∷ us) n a h k =
     let next : AssetFits area (n + 1) (afterUnit a r) =
     record {
       held = omega (arith, q .held);
-      packets = omega (arith, h .packets);
-      lost = omega (arith, h .lost);
-      scrambled = omega (arith, h .scrambled);
-      mfus = omega (arith, h .mfus, q .outs);
-      scrambledMfus = omega (arith, h .scrambledMfus);
-      dropped = omega (arith, h .dropped, q .drops);
-      mpus = omega (arith, h .mpus);
-      jumps = omega (arith, h .jumps);
-      malformed = omega (arith, h .malformed);
+      counts =
+          record {
+          packets = omega (arith, h .counts .packets);
+          lost = omega (arith, h .counts .lost);
+          scrambled = omega (arith, h .counts .scrambled);
+          mfus = omega (arith, h .counts .mfus, q .outs);
+          scrambledMfus = omega (arith, h .counts .scrambledMfus);
+          dropped = omega (arith, h .counts .dropped, q .drops);
+          mpus = omega (arith, h .counts .mpus);
+          jumps = omega (arith, h .counts .jumps);
+          malformed = omega (arith, h .counts .malformed);
+          };
     } in
     asset-more area (n + 1 + length us) (n + suc (length us)) (afterUnits m (afterUnit a r) us) (omega arith)
     (units-fit area m us (n + 1) (afterUnit a r) next (omega arith))
@@ -121,20 +123,23 @@ gone-le : (b : Bool) (h : Option Mfu) → heldLength (cond b none h) ≤ heldLen
 gone-le true h = omega arith
 gone-le false h = omega arith
 
-noted-fits : (area n : ℕ) (a : Asset) (m : MpuPacket) → AssetFits area n a → AssetFits area (n + 1048576) (afterHeaders a m)
+applied-fits : (area n : ℕ) (a : Asset) (m : MpuPacket) → AssetFits area n a → AssetFits area (n + 1048576) (afterHeaders a m)
 unfolding afterHeaders
-noted-fits area n a m h =
+applied-fits area n a m h =
     record {
       held = omega (arith, gone-le (gap (a .number) (m .number)) (a .held), h .held);
-      packets = omega (arith, h .packets);
-      lost = omega (arith, h .lost, lost-le (a .number) (m .number));
-      scrambled = omega (arith, h .scrambled, one-le (m .scrambled));
-      mfus = omega (arith, h .mfus);
-      scrambledMfus = omega (arith, h .scrambledMfus, one-le (m .scrambled && completes (m .header)));
-      dropped = omega (arith, h .dropped, one-le (gap (a .number) (m .number) && isSome (a .held)));
-      mpus = omega (arith, h .mpus, one-le (newMpu (a .mpu) (mpuIn (m .header))));
-      jumps = omega (arith, h .jumps, one-le (jumped (a .mpu) (mpuIn (m .header))));
-      malformed = omega (arith, h .malformed, one-le (malformedPayload m));
+      counts =
+          record {
+          packets = omega (arith, h .counts .packets);
+          lost = omega (arith, h .counts .lost, lost-le (a .number) (m .number));
+          scrambled = omega (arith, h .counts .scrambled, one-le (m .scrambled));
+          mfus = omega (arith, h .counts .mfus);
+          scrambledMfus = omega (arith, h .counts .scrambledMfus, one-le (m .scrambled && completes (m .header)));
+          dropped = omega (arith, h .counts .dropped, one-le (gap (a .number) (m .number) && isSome (a .held)));
+          mpus = omega (arith, h .counts .mpus, one-le (newMpu (a .mpu) (mpuIn (m .header))));
+          jumps = omega (arith, h .counts .jumps, one-le (jumped (a .mpu) (mpuIn (m .header))));
+          malformed = omega (arith, h .counts .malformed, one-le (malformedPayload m));
+          };
     }
 
 pub asset-fits : (area n : ℕ) (a : Asset) (m : MpuPacket) → AssetFits area n a → length (readable m) < 65536
@@ -142,4 +147,4 @@ pub asset-fits : (area n : ℕ) (a : Asset) (m : MpuPacket) → AssetFits area n
 unfolding assetAfter
 asset-fits area n a m h l k =
     asset-more area (n + 1048576 + length (readable m)) (n + mostAdded) (assetAfter a m) (omega arith)
-    (units-fit area m (readable m) (n + 1048576) (afterHeaders a m) (noted-fits area n a m h) k)
+    (units-fit area m (readable m) (n + 1048576) (afterHeaders a m) (applied-fits area n a m h) k)

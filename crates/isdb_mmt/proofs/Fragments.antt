@@ -12,29 +12,29 @@ use Rattle.isdb_tlv.proofs.Guards.{cond-elim}
 use Rattle.isdb_mmt.specs.Packet.{Bytes, MessagePacket}
 use Rattle.isdb_mmt.specs.Maps.{isSome}
 use Rattle.isdb_mmt.specs.Objects.{gap}
-use Rattle.isdb_mmt.specs.Joins.{PartialMessage, Reassembly, short, flagsOf, partBefore, joinedOn, partAfter, wholeOf, reassemblyAfter, messageCompleted, continues, orphan, oversize, mostMessage}
+use Rattle.isdb_mmt.specs.Reassembly.{PartialMessage, Reassembly, short, flagsOf, partBefore, joinedOn, partAfter, wholeOf, reassemblyAfter, messageCompleted, continues, orphan, oversize, mostMessage}
 use Rattle.isdb_mmt.specs.Needs.{partialLength, fragmentArea, reassemblyNeeds}
 use Rattle.isdb_mmt.specs.Lent.{part, over}
 use Rattle.isdb_mmt.specs.View.{given, controlStateOf}
-use Rattle.isdb_mmt.specs.Place.{gapAfter}
+use Rattle.isdb_mmt.specs.MediaPlace.{gapAfter}
 use Rattle.isdb_mmt.specs.Leaves.{joinedIn, bytesOver}
-use Rattle.isdb_mmt.specs.Fragments.{continuedBy, grownLength, continued, byDivision, flagsIn, fateOf, joinedWith, noneJoined, joinedBy, joinedAs, laidBy, areaBy, wholeBy, completes, faultsOf}
+use Rattle.isdb_mmt.specs.Fragments.{inSequence, grownLength, continued, byDivision, flagsIn, fragmentOutcome, joinedWith, noneJoined, joinedBy, joinedAs, laidBy, areaBy, wholeBy, completes, faultsOf}
 use Rattle.isdb_mmt.specs.declared.message.Division.{Division}
 use Rattle.isdb_mmt.specs.declared.message.Division.the-variants.{Undivided as undivided, First as first, Middle as middle, Last as last}
 use Rattle.isdb_mmt.specs.declared.message.Fragment.{Fragment}
 use Rattle.isdb_mmt.specs.declared.decoder.control.Control.{Control}
-use Rattle.isdb_mmt.specs.declared.decoder.messages.Fate.{Fate}
-use Rattle.isdb_mmt.specs.declared.decoder.messages.Fate.the-variants.{Short, Undivided, First, Orphan, Oversize, Grown, Whole}
+use Rattle.isdb_mmt.specs.declared.decoder.messages.FragmentOutcome.{FragmentOutcome}
+use Rattle.isdb_mmt.specs.declared.decoder.messages.FragmentOutcome.the-variants.{Short, Undivided, First, Orphan, Oversize, Grown, Whole}
 use Rattle.isdb_mmt.specs.declared.decoder.messages.Joined.{Joined}
 use Rattle.isdb_mmt.proofs.Lent.{over-next}
-use Rattle.isdb_mmt.proofs.Names.{clash}
+use Rattle.isdb_mmt.proofs.Names.{true-not-false}
 
 -- ---- the code's tests
 
-pub fate-by : (c : Control) (n : ℕ) (b : Bytes) (x : Fragment) (d : Division) (r : Fate) → 2 ≤ length b → x ≡ flagsIn b → x .division ≡ d
-    → r ≡ byDivision d c n b → r ≡ fateOf c n b
-unfolding fateOf
-fate-by c n b x d r h e f g =
+pub outcome-by : (c : Control) (n : ℕ) (b : Bytes) (x : Fragment) (d : Division) (r : FragmentOutcome) → 2 ≤ length b → x ≡ flagsIn b → x .division ≡ d
+    → r ≡ byDivision d c n b → r ≡ fragmentOutcome c n b
+unfolding fragmentOutcome
+outcome-by c n b x d r h e f g =
     g
     ∙ ap (λ (y : Division). byDivision y c n b) (sym f ∙ ap (λ (y : Fragment). y .division) e)
     ∙ sym (ap (λ (t : Bool). cond t Short (byDivision (flagsIn b .division) c n b)) (le-ltb _ _ h))
@@ -72,37 +72,37 @@ taken-away false false a = refl
 
 -- ---- all that the model does with a message packet, by what becomes of the fragment
 
-pub record Does (l : Reassembly) (x : MessagePacket) (c : Control) (m : Bytes) (f : Fate) : Type 0 where
-  pub joined : joinedAs (reassemblyAfter l x .part) ≡ joinedBy f c (x .payload)
+pub record Does (l : Reassembly) (x : MessagePacket) (c : Control) (m : Bytes) (f : FragmentOutcome) : Type 0 where
+  pub joined : joinedAs (reassemblyAfter l x .partial) ≡ joinedBy f c (x .payload)
   pub area : reassemblyNeeds l x ≡ areaBy f c (x .payload)
   pub «orphan_fragments» : orphan l x ≡ faultsOf f .orphan
   pub oversize : oversize l x ≡ faultsOf f .oversize
   pub shorts : short x ≡ faultsOf f .malformed
   pub whole : messageCompleted l x ≡ wholeBy f c m (x .payload)
   pub bytes : (at : ℕ) (t : Bytes) → (c .joining ≡ true → m ≡ part at (c .length) t) → at + areaBy f c (x .payload) ≤ length t
-      → bytesOver at (joinedIn (reassemblyAfter l x .part)) t ≡ laidBy f at c (x .payload) t
+      → bytesOver at (joinedIn (reassemblyAfter l x .partial)) t ≡ laidBy f at c (x .payload) t
 
 module _ (c : Control) (m mpt : Bytes) (long : c .joining ≡ true → length m ≡ c .length) (x : MessagePacket) where
   abbrev l : Reassembly
-  l = controlStateOf c m mpt .line
+  l = controlStateOf c m mpt .reassembly
 
   abbrev b : Bytes
   b = x .payload
 
   abbrev g : Bool
-  g = continuedBy c (x .number)
+  g = inSequence c (x .number)
 
   abbrev now-joined : PartialMessage
   now-joined = record { long = c .«long_length»; aggregated = c .aggregated; bytes = m }
 
   part-before : partBefore l x ≡ given g now-joined
-  unfolding partBefore controlStateOf continuedBy
+  unfolding partBefore controlStateOf inSequence
   part-before =
       ap (λ (y : Bool). cond y none (given (c .joining) now-joined)) (given-gap (c .seen) (c .sequence) (x .number))
       ∙ taken-away (c .joining) (gapAfter (c .seen) (c .sequence) (x .number)) now-joined
 
   was-joining : g ≡ true → c .joining ≡ true
-  unfolding continuedBy
+  unfolding inSequence
   was-joining e = go (c .joining) e
     where
       go : (j : Bool) → cond j (not (gapAfter (c .seen) (c .sequence) (x .number))) false ≡ true → j ≡ true
@@ -134,7 +134,7 @@ module _ (c : Control) (m mpt : Bytes) (long : c .joining ≡ true → length m 
 
   module _ (e : short x ≡ false) where
     module _ (d : Division) (f : flagsOf x .division ≡ d) where
-      after-is : reassemblyAfter l x .part ≡ partAfter d (given g now-joined) x
+      after-is : reassemblyAfter l x .partial ≡ partAfter d (given g now-joined) x
       unfolding reassemblyAfter
       after-is = rw (e, f, part-before)
 
@@ -207,8 +207,8 @@ module _ (c : Control) (m mpt : Bytes) (long : c .joining ≡ true → length m 
           whole = gives-is last f ∙ gone off;
           bytes = λ at t h w. ap (λ (o : Option PartialMessage). bytesOver at (joinedIn o) t) (after-is last f);
         }
-    orphan-does undivided k off f = clash false k refl
-    orphan-does first k off f = clash false k refl
+    orphan-does undivided k off f = true-not-false false k refl
+    orphan-does first k off f = true-not-false false k refl
 
     module _ (yes : g ≡ true) where
       is-long : length m + length (drop 2 b) ≡ grownLength c b
@@ -246,8 +246,8 @@ module _ (c : Control) (m mpt : Bytes) (long : c .joining ≡ true → length m 
               whole = gives-is last f ∙ no-more;
               bytes = λ at t h w. ap (λ (o : Option PartialMessage). bytesOver at (joinedIn o) t) (after-is last f);
             }
-        oversize-does undivided k f = clash false k refl
-        oversize-does first k f = clash false k refl
+        oversize-does undivided k f = true-not-false false k refl
+        oversize-does first k f = true-not-false false k refl
 
       module _ (fits : grownLength c b ≤ mostMessage) where
         abbrev more : PartialMessage
@@ -303,24 +303,24 @@ module _ (c : Control) (m mpt : Bytes) (long : c .joining ≡ true → length m 
     divided-does middle f = continued-does middle refl f false (λ y h. grown-does y h f)
     divided-does last f = continued-does last refl f true (λ y h. whole-does y h f)
 
-  pub fate-does : Does l x c m (fateOf c (x .number) b)
-  unfolding fateOf
-  fate-does = cond-elim (Does l x c m) (ltb (length b) 2) (λ t. short-does t) (λ t. divided-does t (flagsOf x .division) refl)
+  pub outcome-does : Does l x c m (fragmentOutcome c (x .number) b)
+  unfolding fragmentOutcome
+  outcome-does = cond-elim (Does l x c m) (ltb (length b) 2) (λ t. short-does t) (λ t. divided-does t (flagsOf x .division) refl)
 
 -- of the others none is whole
-pub none-whole : (f : Fate) (c : Control) (m b : Bytes) → completes f ≡ false → wholeBy f c m b ≡ none
+pub none-whole : (f : FragmentOutcome) (c : Control) (m b : Bytes) → completes f ≡ false → wholeBy f c m b ≡ none
 unfolding wholeBy
 none-whole Short c m b e = refl
-none-whole Undivided c m b e = clash true refl e
+none-whole Undivided c m b e = true-not-false true refl e
 none-whole First c m b e = refl
 none-whole Orphan c m b e = refl
 none-whole Oversize c m b e = refl
 none-whole Grown c m b e = refl
-none-whole Whole c m b e = clash true refl e
+none-whole Whole c m b e = true-not-false true refl e
 
 -- ---- the data of a fragment, to its area
 
-module _ (i area : ℕ) (c : Control) (b l : Bytes) (f : Fate) where
+module _ (i area : ℕ) (c : Control) (b l : Bytes) (f : FragmentOutcome) where
   pub first-fits : (d : Bytes) → i * area + areaBy f c b ≤ length l → f ≡ First → d ≡ drop 2 b → i * area + 0 + length d ≤ length l
   unfolding areaBy
   first-fits d h e q =
@@ -346,7 +346,7 @@ module _ (i area : ℕ) (c : Control) (b l : Bytes) (f : Fate) where
 pub grown-is : (c : Control) (b d : Bytes) → d ≡ drop 2 b → c .length + length d ≡ grownLength c b
 grown-is c b d q = ap (λ (y : Bytes). c .length + length y) q ∙ ap (λ k. c .length + k) (length-drop 2 b)
 
-module _ (f : Fate) (c : Control) (b : Bytes) where
+module _ (f : FragmentOutcome) (c : Control) (b : Bytes) where
   pub first-area : (d : Bytes) → f ≡ First → d ≡ drop 2 b → length d ≡ areaBy f c b
   unfolding areaBy
   first-area d e q = ap (λ (y : Bytes). length y) q ∙ rw e (length-drop 2 b)
@@ -357,10 +357,10 @@ module _ (f : Fate) (c : Control) (b : Bytes) where
   first-joined x n r e h q k =
       let w : n ≡ length b - 2 = rw e at h in
       k ∙ ap (λ (y : Fragment). joinedWith (y .«long_length») (y .aggregated) n) q
-      ∙ ap (joinedWith (flagsIn b .«long_length») (flagsIn b .aggregated)) w ∙ ap (λ (y : Fate). joinedBy y c b) (sym e)
+      ∙ ap (joinedWith (flagsIn b .«long_length») (flagsIn b .aggregated)) w ∙ ap (λ (y : FragmentOutcome). joinedBy y c b) (sym e)
 
   pub grown-joined : (n : ℕ) (r : Joined) → f ≡ Grown → n ≡ areaBy f c b → r ≡ joinedWith (c .«long_length») (c .aggregated) n → r ≡ joinedBy f c b
   unfolding areaBy joinedBy
   grown-joined n r e h k =
       let w : n ≡ grownLength c b = rw e at h in
-      k ∙ ap (joinedWith (c .«long_length») (c .aggregated)) w ∙ ap (λ (y : Fate). joinedBy y c b) (sym e)
+      k ∙ ap (joinedWith (c .«long_length») (c .aggregated)) w ∙ ap (λ (y : FragmentOutcome). joinedBy y c b) (sym e)

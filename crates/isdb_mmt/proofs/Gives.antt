@@ -18,7 +18,7 @@ use Rattle.isdb_mmt.specs.Objects.{Rec, Asset, mpuNumber, effectOf, unit
 use Rattle.isdb_mmt.specs.Needs.{dataOf}
 use Rattle.isdb_mmt.specs.Lent.{over}
 use Rattle.isdb_mmt.specs.Records.{rowFields, rowOf, rowsFrom, dataFrom}
-use Rattle.isdb_mmt.specs.Survey.{unitObject}
+use Rattle.isdb_mmt.specs.MediaEffect.{unitObject}
 use Rattle.isdb_mmt.specs.MediaCommit.{OneFits, OnePut}
 use Rattle.isdb_mmt.specs.Giving.{unitRec, unitRecs, Outputs, Gave}
 use Rattle.isdb_mmt.specs.declared.mpu.FragmentationIndicator.the-variants.{Complete}
@@ -28,11 +28,11 @@ use Rattle.isdb_mmt.specs.declared.mpu.UnitStep.{UnitStep}
 use Rattle.isdb_mmt.specs.declared.mpu.UnitStep.the-variants.{End, Malformed as notWhole, Unit as found}
 use Rattle.isdb_mmt.specs.declared.decoder.media.Object.{Object}
 use Rattle.isdb_mmt.proofs.Lent.{length-over, over-next, over-none}
-use Rattle.isdb_mmt.proofs.Names.{clash}
+use Rattle.isdb_mmt.proofs.Names.{true-not-false}
 use Rattle.isdb_mmt.proofs.Units.{units-at}
 use Rattle.isdb_mmt.proofs.Stored.{sent}
 use Rattle.isdb_mmt.proofs.RecordRows.{length-row, length-rows, length-data}
-use Rattle.isdb_mmt.proofs.Surveys.{data-ahead}
+use Rattle.isdb_mmt.proofs.MediaEffects.{data-ahead}
 
 -- ---- a row
 
@@ -104,7 +104,7 @@ module _ (q : Bytes) (timed aggregated : Bool) (id mpu : ℕ) (rap : Bool) (rows
     unfolding isSome
     giving-bad e =
         let u : unitsFrom q timed aggregated at ≡ none = rw (units-at q timed aggregated at, ← ex, e) in
-        clash (isSome (unitsFrom q timed aggregated at)) (g .whole) (ap isSome u)
+        true-not-false (isSome (unitsFrom q timed aggregated at)) (g .whole) (ap isSome u)
 
     module _ (u : DataUnit) (next : ℕ) (e : x ≡ found u next) where
       also-is : unitsFrom q timed aggregated at ≡ also u (unitsFrom q timed aggregated next)
@@ -117,7 +117,7 @@ module _ (q : Bytes) (timed aggregated : Bool) (id mpu : ℕ) (rap : Bool) (rows
 
       recs-cons : (o : Option (List DataUnit)) → isSome (also u o) ≡ true → unitRecs id mpu rap q (also u o) ≡ unitRec id mpu rap q u ∷ unitRecs id mpu rap q o
       unfolding isSome unitRecs
-      recs-cons none h = clash false h refl
+      recs-cons none h = true-not-false false h refl
       recs-cons (some us) h = refl
 
       recs-next : recsAt at ≡ unitRec id mpu rap q u ∷ recsAt next

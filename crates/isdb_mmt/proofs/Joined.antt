@@ -15,16 +15,16 @@ use Rattle.isdb_tlv.proofs.Guards.{either}
 use Rattle.isdb_mmt.specs.Layout.{mostMessageArea}
 use Rattle.isdb_mmt.specs.Packet.{Bytes}
 use Rattle.isdb_mmt.specs.Part.{partOf}
-use Rattle.isdb_mmt.specs.Lent.{part, over}
+use Rattle.isdb_mmt.specs.Lent.{over}
 use Rattle.isdb_mmt.specs.Kept.{tableRead}
 use Rattle.isdb_mmt.specs.Placed.{behind}
-use Rattle.isdb_mmt.specs.Verdict.{toldOf, CanTell}
+use Rattle.isdb_mmt.specs.TableOutcome.{tableOutcome, CanDecide}
 use Rattle.isdb_mmt.specs.declared.part.Part.{Part}
 use Rattle.isdb_mmt.specs.declared.decoder.section.KeptSection.{KeptSection}
-use Rattle.isdb_mmt.specs.declared.decoder.verdict.Recent.{Recent}
-use Rattle.isdb_mmt.specs.declared.decoder.verdict.Told.{Told}
+use Rattle.isdb_mmt.specs.declared.decoder.table_outcome.Recent.{Recent}
+use Rattle.isdb_mmt.specs.declared.decoder.table_outcome.TableOutcome.{TableOutcome}
 use Rattle.isdb_mmt.proofs.Lent.{part-over, over-next}
-use Rattle.isdb_mmt.proofs.Verdicts.{byte-at}
+use Rattle.isdb_mmt.proofs.TableOutcomes.{byte-at}
 
 module _ (a b : Bytes) where
   pub size-fits : length (a ++ b) ≤ mostMessageArea → Fits w64 (length a + length b)
@@ -93,35 +93,26 @@ empty-is : (l : Bytes) → length l ≡ 0 → l ≡ []
 empty-is [] e = refl
 empty-is (x ∷ l) e = absurd (omega arith)
 
-module _ (seam ix : List ℕ) (used : ℕ) (a b : Bytes) (can : CanTell seam ix used a b) where
-  pub gather-first : 0 + length a ≤ length seam
-  gather-first = omega (arith, can .short, can .seamLong)
+module _ (assembled ix : List ℕ) (used : ℕ) (a b : Bytes) (can : CanDecide assembled ix used a b) where
+  module _ (ks : List KeptSection) (m p : Recent) (r : TableOutcome) where
+    pub outcome-first : length b ≡ 0 → r ≡ tableOutcome ks m p (tableRead a) → r ≡ tableOutcome ks m p (tableRead (a ++ b))
+    outcome-first e er = er ∙ ap (λ (l : Bytes). tableOutcome ks m p (tableRead l)) (sym (append-nil a) ∙ ap (λ (l : Bytes). a ++ l) (sym (empty-is b e)))
 
-  pub gather-adds : Fits w64 (length a + length b)
-  gather-adds = omega (arith, can .short)
+    pub outcome-second : length a ≡ 0 → r ≡ tableOutcome ks m p (tableRead b) → r ≡ tableOutcome ks m p (tableRead (a ++ b))
+    outcome-second e er = er ∙ ap (λ (l : Bytes). tableOutcome ks m p (tableRead (l ++ b))) (sym (empty-is a e))
 
-  pub gather-second : (s : List ℕ) → length s ≡ length seam → length a + length b ≤ length s
-  gather-second s e = omega (arith, can .short, can .seamLong)
-
-  module _ (ks : List KeptSection) (m p : Recent) (r : Told) where
-    pub told-first : length b ≡ 0 → r ≡ toldOf ks m p (tableRead a) → r ≡ toldOf ks m p (tableRead (a ++ b))
-    told-first e er = er ∙ ap (λ (l : Bytes). toldOf ks m p (tableRead l)) (sym (append-nil a) ∙ ap (λ (l : Bytes). a ++ l) (sym (empty-is b e)))
-
-    pub told-second : length a ≡ 0 → r ≡ toldOf ks m p (tableRead b) → r ≡ toldOf ks m p (tableRead (a ++ b))
-    told-second e er = er ∙ ap (λ (l : Bytes). toldOf ks m p (tableRead (l ++ b))) (sym (empty-is a e))
-
-    pub told-both : (s s′ t : List ℕ) → s ≡ over 0 a seam → s′ ≡ over (length a) b s → t ≡ take (length a + length b) s′
-        → r ≡ toldOf ks m p (tableRead t) → r ≡ toldOf ks m p (tableRead (a ++ b))
-    told-both s s′ t es es′ et er =
+    pub outcome-both : (s s′ t : List ℕ) → s ≡ over 0 a assembled → s′ ≡ over (length a) b s → t ≡ take (length a + length b) s′
+        → r ≡ tableOutcome ks m p (tableRead t) → r ≡ tableOutcome ks m p (tableRead (a ++ b))
+    outcome-both s s′ t es es′ et er =
         let l : length (a ++ b) ≡ length a + length b = length-append a b in
-        let w : s′ ≡ over 0 (a ++ b) seam =
+        let w : s′ ≡ over 0 (a ++ b) assembled =
         es′
         ∙ ap (λ (z : List ℕ). over (length a) b z) es
-        ∙ ap (λ k. over k b (over 0 a seam)) (sym (zero-add (length a)))
-        ∙ over-next 0 a b seam (omega (arith, can .short, can .seamLong)) in
+        ∙ ap (λ k. over k b (over 0 a assembled)) (sym (zero-add (length a)))
+        ∙ over-next 0 a b assembled (omega (arith, can .short, can .assembledLong)) in
         let q : t ≡ a ++ b =
         et
         ∙ ap (λ k. take k s′) (sym l)
         ∙ ap (λ (z : List ℕ). take (length (a ++ b)) z) w
-        ∙ part-over 0 (a ++ b) seam (omega (arith, can .short, can .seamLong)) in
-        er ∙ ap (λ (z : List ℕ). toldOf ks m p (tableRead z)) q
+        ∙ part-over 0 (a ++ b) assembled (omega (arith, can .short, can .assembledLong)) in
+        er ∙ ap (λ (z : List ℕ). tableOutcome ks m p (tableRead z)) q

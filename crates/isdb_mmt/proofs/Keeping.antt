@@ -9,7 +9,7 @@ use lib.Dec.{eqb}
 use mir.Facts.{eqb-no}
 use Rattle.isdb_mmt.specs.Packet.{Bytes, MessagePacket, Packet, ipError, ntp, nonMmtp, media, message, control, other}
 use Rattle.isdb_mmt.specs.Maps.{orElse, find, put}
-use Rattle.isdb_mmt.specs.Joins.{Reassembly, reassemblyAfter}
+use Rattle.isdb_mmt.specs.Reassembly.{Reassembly, reassemblyAfter}
 use Rattle.isdb_mmt.specs.Kept.{Section, sectionOf, Kept, KeptTables, otherVersion, keepIf, keep, keepAll, Table, emptyTable, mptTable, pltTable, totTable, truncatedSection, aSection, otherTable, stored, storedAll}
 use Rattle.isdb_mmt.specs.GivenTables.{tablesGiven, controlTables}
 use Rattle.isdb_mmt.specs.Model.{State, opened, idleControl, controlOf, reassemblyOf, pushed}
@@ -167,13 +167,13 @@ abbrev Agree : State → Reassemblies → Type 0
 Agree s ls = (i : ℕ) → reassemblyOf i s ≡ ls i
 
 agree-put : (s : State) (ls : Reassemblies) (c : MessagePacket) (m : Option Bytes) (i : ℕ) → Agree s ls
-    → orElse idleControl (find i (put (c .id) (record { line = reassemblyAfter (reassemblyOf (c .id) s) c; mpt = m }) (s .controls))) .line
+    → orElse idleControl (find i (put (c .id) (record { reassembly = reassemblyAfter (reassemblyOf (c .id) s) c; mpt = m }) (s .controls))) .reassembly
     ≡ cond (eqb i (c .id)) (reassemblyAfter (ls (c .id)) c) (ls i)
 unfolding orElse controlOf
 agree-put s ls c m i h = go (eqb i (c .id)) refl
   where
     go : (b : Bool) → eqb i (c .id) ≡ b
-        → orElse idleControl (find i (put (c .id) (record { line = reassemblyAfter (reassemblyOf (c .id) s) c; mpt = m }) (s .controls))) .line
+        → orElse idleControl (find i (put (c .id) (record { reassembly = reassemblyAfter (reassemblyOf (c .id) s) c; mpt = m }) (s .controls))) .reassembly
         ≡ cond b (reassemblyAfter (ls (c .id)) c) (ls i)
     go true e = rw (eqb-true i (c .id) e, find-put) (ap (λ (l : Reassembly). reassemblyAfter l c) (h (c .id)))
     go false e = rw (find-put-other i (c .id) _ _ e) (h i)

@@ -20,7 +20,7 @@ use Rattle.isdb_mmt.specs.Kept.{bodyRead, parsesAs, mptParses, pltParses
 use Rattle.isdb_mmt.specs.Mpt.{mptOf}
 use Rattle.isdb_mmt.specs.Plt.{pltOf}
 use Rattle.isdb_mmt.specs.Tot.{totOf}
-use Rattle.isdb_mmt.specs.Verdict.{bodyFrom}
+use Rattle.isdb_mmt.specs.TableOutcome.{bodyFrom}
 use Rattle.isdb_mmt.specs.Readings.{areaPart, sectionFound, sectionPart, controlFound, mptAt, mptPart, pltPart, totPart, tableRead, tableIdOf, sectionRead, mptRead, pltRead, totRead}
 use Rattle.isdb_mmt.specs.Opening.{lent}
 use Rattle.isdb_mmt.specs.KeptParts.{partGiven, stateOnly, Reachable, AnArea, MptReachable}
@@ -40,7 +40,7 @@ use Rattle.isdb_mmt.specs.declared.table.section.SectionHeader.{SectionH
 use Rattle.isdb_mmt.specs.declared.table.section.SectionError.{SectionError}
 use Rattle.isdb_mmt.specs.declared.table.section.LongSection.{LongSection}
 use Rattle.isdb_mmt.specs.declared.table.section.LongSection.the-variants.{Ok as goodSection, Err as badSection}
-use Rattle.isdb_mmt.specs.declared.decoder.verdict.BodyRead.{BodyRead}
+use Rattle.isdb_mmt.specs.declared.decoder.table_outcome.BodyRead.{BodyRead}
 use Rattle.isdb_mmt.specs.declared.decoder.limits.Limits.{Limits}
 use Rattle.isdb_mmt.specs.declared.decoder.head.Used.{Used}
 use Rattle.isdb_mmt.specs.declared.decoder.head.Latest.{Latest}
@@ -53,7 +53,7 @@ use Rattle.isdb_mmt.specs.declared.decoder.kept.MaybePart.the-variants.{
 use Rattle.isdb_mmt.proofs.Lent.{length-names}
 use Rattle.isdb_mmt.proofs.Checks.{sound-session}
 use Rattle.isdb_mmt.proofs.Limits.{areas-fit, passed}
-use Rattle.isdb_mmt.proofs.Verdicts.{found-within, body-from}
+use Rattle.isdb_mmt.proofs.TableOutcomes.{found-within, body-from}
 
 -- ---- whether a section parses
 

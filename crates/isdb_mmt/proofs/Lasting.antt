@@ -24,7 +24,7 @@ use Rattle.isdb_mmt.specs.Session.{Session, limitsOf, usedOf, latestOf, 
 use Rattle.isdb_mmt.specs.Check.{mediaIn, controlsIn, sectionsIn, lengthsOf, sound, Sound}
 use Rattle.isdb_mmt.specs.View.{view}
 use Rattle.isdb_mmt.specs.Opening.{lent}
-use Rattle.isdb_mmt.specs.Placing.{tableLength, placeFor, heldFor, controlFor, latestFor}
+use Rattle.isdb_mmt.specs.PlacesOf.{tableLength, placeFor, heldFor, controlFor, latestFor}
 use Rattle.isdb_mmt.specs.MediaPush.{heldOver, mediaPlaceFor, leavesAt, assetNext, mediaLeaves}
 use Rattle.isdb_mmt.specs.Leaves.{keptPlace, withTime, withCounters, controlLeaves, messageIn, controlPlaceFor, messageAt, messageLeaves, packetLeaves, joinedIn}
 use Rattle.isdb_mmt.specs.Push.{Fits}
@@ -265,7 +265,7 @@ module _ (s : Session) (ok : Sound (s .state) (s .others) (lengthsOf s)) where
         media-2 s ok n t id c (p .fields) (p .joins) (p .mpt) ep ea ec ei i free in
         let x : sectionsIn (messageIn s n id i .state) ≡ map keptPlace (n .store .kept) =
         sections-t2 s ok n t id c (p .fields) (p .joins) (p .mpt) ep ea ec ei i free in
-        let g : tableLength (joinedIn (c .line .part)) ≤ l .«message_area» = rw (joined-length (c .line .part)) (p .joins) in
+        let g : tableLength (joinedIn (c .reassembly .partial)) ≤ l .«message_area» = rw (joined-length (c .reassembly .partial)) (p .joins) in
         let lt : latestOf (messageIn s n id i .state) ≡ latestFor (n .store) =
         latest-read (n .store) (l .«table_area») (r .table .1) (t .plt) (t .tot) _ (long-t s ok n t id c (p .fields) (p .joins) (p .mpt) ep ea ec ei i free) in
         record {
@@ -276,7 +276,7 @@ module _ (s : Session) (ok : Sound (s .state) (s .others) (lengthsOf s)) where
               ∙ length-1 s ok n t id c (p .fields) (p .joins) (p .mpt) ep ea ec ei i free;
           objects = refl;
           messages =
-              length-laid (l .«message_area») (joinedIn (c .line .part)) (s .messages) i g
+              length-laid (l .«message_area») (joinedIn (c .reassembly .partial)) (s .messages) i g
               (in-messages s ok n t id c (p .fields) (p .joins) (p .mpt) ep ea ec ei i free);
           tables =
               length-laid (l .«table_area») (c .mpt) _ (l .sections + i) (p .mpt)

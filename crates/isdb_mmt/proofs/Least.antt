@@ -17,7 +17,7 @@ use Rattle.isdb_mmt.specs.Readings.{lesser, leastFrom, mostName, thenAbo
 use Rattle.isdb_mmt.specs.ReadingLaws.{rises, InOrder, Least}
 use Rattle.isdb_mmt.specs.declared.maybe.MaybeU32.{MaybeU32}
 use Rattle.isdb_mmt.specs.declared.maybe.MaybeU32.the-variants.{None as noU32, Some as someU32}
-use Rattle.isdb_mmt.proofs.Names.{clash, next, end}
+use Rattle.isdb_mmt.proofs.Names.{true-not-false, next, end}
 
 -- ---- one name
 
@@ -96,7 +96,7 @@ least-keeps (v ∷ ys) x a b z h =
 
 least-takes : (names : List ℕ) (x : MaybeU32) (a b y : ℕ) → among y names ≡ true → a ≤ y → y ≤ b → AtMost (leastFrom x a b names) y
 unfolding among
-least-takes [] x a b y m h k = clash false m refl
+least-takes [] x a b y m h k = true-not-false false m refl
 least-takes (v ∷ ys) x a b y m h k =
     subst (λ (r : MaybeU32). AtMost r y) (sym (least-step x a b v ys))
     (either (eqb v y)
@@ -159,16 +159,16 @@ above-later a b (y ∷ ys) h =
 
 above-one : (a y : ℕ) (ys : List ℕ) → among y ys ≡ true → a ≤ y → 1 ≤ above a ys
 unfolding above among
-above-one a y [] m h = clash false m refl
+above-one a y [] m h = true-not-false false m refl
 above-one a y (z ∷ ys) m h =
     either (leb a z) (λ t. rw t (omega arith))
     (λ f.
-    either (eqb z y) (λ t. clash (leb a z) (le-leb a z (omega (arith, eqb-true z y t))) f)
+    either (eqb z y) (λ t. true-not-false (leb a z) (le-leb a z (omega (arith, eqb-true z y t))) f)
     (λ g. rw f (above-one a y ys (rw g at m) h)))
 
 above-less : (a x : ℕ) (ys : List ℕ) → among x ys ≡ true → a ≤ x → above (x + 1) ys + 1 ≤ above a ys
 unfolding above among
-above-less a x [] m h = clash false m refl
+above-less a x [] m h = true-not-false false m refl
 above-less a x (y ∷ ys) m h =
     let r = above-later a (x + 1) ys (omega arith) in
     either (eqb y x)
@@ -205,9 +205,9 @@ above-same a b (y ∷ ys) h f =
 above-step : (a x : ℕ) (ys : List ℕ) → distinct ys ≡ true → among x ys ≡ true → a ≤ x → ((y : ℕ) → among y ys ≡ true → a ≤ y → x ≤ y)
     → above a ys ≡ suc (above (x + 1) ys)
 unfolding above among distinct
-above-step a x [] d m h f = clash false m refl
+above-step a x [] d m h f = true-not-false false m refl
 above-step a x (y ∷ ys) d m h f =
-    either (among y ys) (λ t. clash false (rw t at d) refl)
+    either (among y ys) (λ t. true-not-false false (rw t at d) refl)
     (λ once.
     either (eqb y x)
     (λ t.
@@ -215,7 +215,7 @@ above-step a x (y ∷ ys) d m h f =
     let r : above a ys ≡ above (x + 1) ys =
     above-same a (x + 1) ys (omega arith)
     (λ z k b.
-    let ne : x ≡ z → ⊥ = λ q. clash (among y ys) (subst (λ w. among w ys ≡ true) (sym (e ∙ q)) k) once in
+    let ne : x ≡ z → ⊥ = λ q. true-not-false (among y ys) (subst (λ w. among w ys ≡ true) (sym (e ∙ q)) k) once in
     let lt : x < z = lt-of-le-ne (f z (later z y ys k) b) ne in
     omega arith) in
     rw (le-leb a y (omega arith), lt-leb (x + 1) y (omega arith)) (ap suc r))
@@ -243,7 +243,7 @@ module _ (names : List ℕ) where
 
   one-of : (n a y : ℕ) → among y (ascendingFrom n a names) ≡ true → among y names ≡ true
   unfolding among ascendingFrom
-  one-of zero a y m = clash false m refl
+  one-of zero a y m = true-not-false false m refl
   one-of (suc n) a y m = go (leastFrom noU32 a mostName names) refl (λ x. one-of n x y) m
     where
       go :
@@ -252,7 +252,7 @@ module _ (names : List ℕ) where
           → ((x : ℕ) → among y (ascendingFrom n x names) ≡ true → among y names ≡ true)
           → among y (thenAbove (λ x. ascendingFrom n x names) r) ≡ true
           → among y names ≡ true
-      go noU32 e f k = clash false k refl
+      go noU32 e f k = true-not-false false k refl
       go (someU32 x) e f k =
           either (eqb x y) (λ t. subst (λ z. among z names ≡ true) (eqb-true x y t) (least-is names a mostName x e .one))
           (λ g. f (x + 1) (rw g at k))
@@ -300,6 +300,6 @@ module _ (names : List ℕ) where
             λ x.
             either (among x names)
             (λ t. comes (length names) 0 x (above-all 0 names) t (omega arith) (small x t) ∙ sym t)
-            (λ f. either (among x (ascending names)) (λ t. clash (among x names) (one-of (length names) 0 x t) f) (λ g. g ∙ sym f));
+            (λ f. either (among x (ascending names)) (λ t. true-not-false (among x names) (one-of (length names) 0 x t) f) (λ g. g ∙ sym f));
         many = as-many d small (length names) 0 (above-all 0 names) ∙ above-zero names;
       }

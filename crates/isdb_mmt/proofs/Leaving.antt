@@ -17,18 +17,18 @@ use Rattle.isdb_mmt.specs.Packet.{Bytes}
 use Rattle.isdb_mmt.specs.Octets.{Octets}
 use Rattle.isdb_mmt.specs.Lent.{part, placesFrom, indexed}
 use Rattle.isdb_mmt.specs.Session.{sectionPlaceOf, sectionFields}
-use Rattle.isdb_mmt.specs.Placing.{tableLength}
+use Rattle.isdb_mmt.specs.PlacesOf.{tableLength}
 use Rattle.isdb_mmt.specs.Leaves.{sectionRows}
-use Rattle.isdb_mmt.specs.Verdict.{indexOf}
-use Rattle.isdb_mmt.specs.Dry.{Logged, withLog, placesOf, bytesAt, drawnEntry, drawnRecent, dryOf, drawnCounters}
+use Rattle.isdb_mmt.specs.TableOutcome.{indexOf}
+use Rattle.isdb_mmt.specs.PendingTables.{Logged, withLog, placesOf, bytesAt, committedEntry, committedRecent, pendingOf, committedCounters}
 use Rattle.isdb_mmt.specs.Commit.{EntryFits, AllFit}
 use Rattle.isdb_mmt.specs.Start.{recentLength, countersWith}
 use Rattle.isdb_mmt.specs.Maps.{isSome}
 use Rattle.isdb_mmt.specs.declared.decoder.section.KeptSection.{KeptSection}
-use Rattle.isdb_mmt.specs.declared.decoder.verdict.Recent.{Recent}
-use Rattle.isdb_mmt.specs.declared.decoder.walk.Going.{Going}
+use Rattle.isdb_mmt.specs.declared.decoder.table_outcome.Recent.{Recent}
+use Rattle.isdb_mmt.specs.declared.decoder.walk.WalkState.{WalkState}
 use Rattle.isdb_mmt.specs.declared.decoder.counts.Counters.{Counters}
-use Rattle.isdb_mmt.proofs.Notes.{log-places}
+use Rattle.isdb_mmt.proofs.Applied.{log-places}
 
 -- ---- a place written again is what it was
 
@@ -103,19 +103,19 @@ module _ (m t : Bytes) (area : ℕ) where
       (λ q. rw q (f .within (eqb-false (e .from) 0 q)))
 
   rows-of : (es : List Logged) (i : ℕ) → AllFit area m es → (i + length es) * area ≤ length t
-      → sectionRows (indexed (drawnEntry m t area) i es) ≡ flat (placesOf es)
+      → sectionRows (indexed (committedEntry m t area) i es) ≡ flat (placesOf es)
   unfolding sectionRows indexed
   rows-of [] i f w = refl
   rows-of (e ∷ es) i f w =
       let k : (i + 1) * area ≤ (i + suc (length es)) * area = mul-le-mul-right area (omega arith) in
       let z : i + 1 + length es ≡ i + suc (length es) = omega arith in
       let n : length (bytesAt m t (i * area) (e .from) (e .place .length)) ≡ e .place .length = entry-long i e (f .0) (omega arith) in
-      ap (λ n. written (sectionFields (record { key = e .place .key; version = e .place .version; length = n })) ++ sectionRows (indexed (drawnEntry m t area) (i + 1) es)) n
+      ap (λ n. written (sectionFields (record { key = e .place .key; version = e .place .version; length = n })) ++ sectionRows (indexed (committedEntry m t area) (i + 1) es)) n
       ∙ ap (λ (l : Bytes). written (sectionFields (e .place)) ++ l) (rows-of es (i + 1) (f .1) (rw z w))
 
   pub rows-are : (ix log : List ℕ) → Octets ix → (used : ℕ) → sectionSize * used ≤ length ix → AllFit area m (withLog (indexOf used ix) log)
       → used * area ≤ length t → length (withLog (indexOf used ix) log) ≡ used
-      → take (sectionSize * used) ix ≡ sectionRows (indexed (drawnEntry m t area) 0 (withLog (indexOf used ix) log))
+      → take (sectionSize * used) ix ≡ sectionRows (indexed (committedEntry m t area) 0 (withLog (indexOf used ix) log))
   unfolding indexOf
   rows-are ix log o used h f w l =
       sym
@@ -126,25 +126,25 @@ module _ (m t : Bytes) (area : ℕ) where
   -- ---- an MPT, a PLT or a TOT
 
   module _ (i : ℕ) (r : Recent) (w : (i + 1) * area ≤ length t) (small : r .there ≡ true → r .length ≤ area)
-      (stands : r .there ≡ true → (r .from ≡ 0 → ⊥) → length (part (r .from - 1) (r .length) m) ≡ r .length) where
-    pub recent-there : r .there ≡ isSome (drawnRecent m t (i * area) r)
+      (found-at : r .there ≡ true → (r .from ≡ 0 → ⊥) → length (part (r .from - 1) (r .length) m) ≡ r .length) where
+    pub recent-there : r .there ≡ isSome (committedRecent m t (i * area) r)
     unfolding isSome
     recent-there = either (r .there) (λ q. rw q) (λ q. rw q)
 
-    pub recent-long : recentLength r ≡ tableLength (drawnRecent m t (i * area) r)
+    pub recent-long : recentLength r ≡ tableLength (committedRecent m t (i * area) r)
     recent-long =
         either (r .there)
         (λ q.
         rw q
         (either (eqb (r .from) 0)
         (λ z. rw z (sym (length-take-le (r .length) (drop (i * area) t) (omega (arith, small q, length-drop (i * area) t)))))
-        (λ z. rw z (sym (stands q (eqb-false (r .from) 0 z))))))
+        (λ z. rw z (sym (found-at q (eqb-false (r .from) 0 z))))))
         (λ q. rw q)
 
 -- ---- the counters
 
-pub counters-are : (ix log others : List ℕ) (c : Counters) (r : Going) → r .«message_malformed» ≡ c .«message_malformed»
-    → countersWith c r ≡ (drawnCounters c (dryOf ix log others r))
+pub counters-are : (ix log others : List ℕ) (c : Counters) (r : WalkState) → r .«message_malformed» ≡ c .«message_malformed»
+    → countersWith c r ≡ (committedCounters c (pendingOf ix log others r))
 counters-are ix log others c r e =
     ap
     (λ n.

@@ -33,13 +33,6 @@ module _ (at : ℕ) (bs l : List ℕ) (h : at + length bs ≤ length l) where
       rw (drop-at (take at l) (bs ++ drop (length bs) (drop at l)) at front)
       (take-append-seam bs (drop (length bs) (drop at l)))
 
-  pub getD-over : (k : ℕ) → k < length bs → getD (over at bs l) (at + k) 0 ≡ getD bs k 0
-  unfolding over
-  getD-over k b =
-      ap (λ n. getD (take at l ++ (bs ++ drop (length bs) (drop at l))) (n + k) 0) (sym front)
-      ∙ getD-append-add (take at l) (bs ++ drop (length bs) (drop at l)) k 0
-      ∙ List·getD-append bs (drop (length bs) (drop at l)) 0 k b
-
   -- the rest stays
   before : (k : ℕ) → k < at → getD (over at bs l) k 0 ≡ getD l k 0
   unfolding over
@@ -65,12 +58,6 @@ module _ (at : ℕ) (bs l : List ℕ) (h : at + length bs ≤ length l) where
   be-apart w k d =
       be-ext w k (over at bs l) l
       (λ j b. getD-apart (k + j) (⊎-elim (λ x. inl (omega arith)) (λ y. inr (omega arith)) d))
-
-  -- a number inside of what was written
-  pub be-over : (w k : ℕ) → k + w ≤ length bs → be w (over at bs l) (at + k) ≡ be w bs k
-  be-over w k b =
-      sym (be-drop w at (over at bs l) k)
-      ∙ be-ext w k (drop at (over at bs l)) bs (λ j c. getD-drop at (over at bs l) (k + j) 0 ∙ getD-over (k + j) (omega arith))
 
 -- a part depends on its own bytes alone
 pub part-ext : (at n : ℕ) (l m : List ℕ) → length l ≡ length m → ((k : ℕ) → at ≤ k → k < at + n → getD l k 0 ≡ getD m k 0) → part at n l ≡ part at n m

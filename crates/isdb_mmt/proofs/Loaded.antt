@@ -15,17 +15,17 @@ use Rattle.isdb_mmt.specs.Lent.{part, placesFrom, indexed, every}
 use Rattle.isdb_mmt.specs.Session.{Session, limitsOf, usedOf, latestOf, sectionPlaceOf}
 use Rattle.isdb_mmt.specs.Check.{sectionsIn, sectionSound, lengthsOf, Sound}
 use Rattle.isdb_mmt.specs.View.{given, sectionEntry, viewBy, view}
-use Rattle.isdb_mmt.specs.Verdict.{indexSize, indexOf}
-use Rattle.isdb_mmt.specs.Dry.{logged, withLog, Dry, dryOf, drawnEntry, drawnKept, drawnRecent, Areas, drawn, VersionOf, Versions}
-use Rattle.isdb_mmt.specs.Start.{recentAt, pltAt, totAt, goingIn, CanGo}
+use Rattle.isdb_mmt.specs.TableOutcome.{indexSize, indexOf}
+use Rattle.isdb_mmt.specs.PendingTables.{logged, withLog, PendingTables, pendingOf, committedEntry, committedKept, committedRecent, Areas, committed, VersionOf, Versions}
+use Rattle.isdb_mmt.specs.Start.{recentAt, pltAt, totAt, walkStart, CanGo}
 use Rattle.isdb_mmt.specs.declared.decoder.limits.Limits.{Limits}
 use Rattle.isdb_mmt.specs.declared.decoder.counts.Counters.{Counters}
 use Rattle.isdb_mmt.specs.declared.decoder.section.KeptSection.{KeptSection}
-use Rattle.isdb_mmt.specs.declared.decoder.verdict.Recent.{Recent}
+use Rattle.isdb_mmt.specs.declared.decoder.table_outcome.Recent.{Recent}
 use Rattle.isdb_mmt.proofs.Lent.{part-take}
 use Rattle.isdb_mmt.proofs.Limits.{Passed, passed}
 use Rattle.isdb_mmt.proofs.Guards.{was-both}
-use Rattle.isdb_mmt.proofs.Verdicts.{byte-at}
+use Rattle.isdb_mmt.proofs.TableOutcomes.{byte-at}
 use Rattle.isdb_mmt.proofs.Logging.{Held, AllHeld}
 
 -- ---- the index has the section places
@@ -65,12 +65,12 @@ module _ (m t : Bytes) (area : ℕ) where
   abbrev entryIn : ℕ → KeptSection → ℕ × Kept
   entryIn i x = (x .key, record { version = x .version; bytes = part (i * area) (x .length) t })
 
-  kept-start : (xs : List KeptSection) (fs : List ℕ) → NoLog fs → (i : ℕ) → indexed (drawnEntry m t area) i (withLog xs fs) ≡ indexed entryIn i xs
+  kept-start : (xs : List KeptSection) (fs : List ℕ) → NoLog fs → (i : ℕ) → indexed (committedEntry m t area) i (withLog xs fs) ≡ indexed entryIn i xs
   unfolding indexed
   kept-start [] fs z i = refl
   kept-start (x ∷ xs) [] z i = ap (λ (l : List (ℕ × Kept)). entryIn i x ∷ l) (kept-start xs [] (λ j. refl) (i + 1))
   kept-start (x ∷ xs) (f ∷ fs) z i =
-      ap (λ k. drawnEntry m t area i (logged x k) ∷ indexed (drawnEntry m t area) (i + 1) (withLog xs fs)) (z 0)
+      ap (λ k. committedEntry m t area i (logged x k) ∷ indexed (committedEntry m t area) (i + 1) (withLog xs fs)) (z 0)
       ∙ ap (λ (l : List (ℕ × Kept)). entryIn i x ∷ l) (kept-start xs fs (λ j. z (suc j)) (i + 1))
 
 every-both : {A : Type 0} (f : A → Bool) (x : A) (xs : List A) → every f (x ∷ xs) ≡ true → (f x ≡ true) × (every f xs ≡ true)
@@ -92,7 +92,7 @@ module _ (m : Bytes) (l : Limits) where
       (held-one x f (z 0) (b .0), held-start xs fs (λ j. z (suc j)) (b .1))
 
 -- the version of a table that lies in its area is its byte 1
-pub version-start : (m t : Bytes) (at : ℕ) (there : Bool) (n : ℕ) → VersionOf (drawnRecent m t at (recentAt t at there n)) (recentAt t at there n)
+pub version-start : (m t : Bytes) (at : ℕ) (there : Bool) (n : ℕ) → VersionOf (committedRecent m t at (recentAt t at there n)) (recentAt t at there n)
 version-start m t at true n = (refl, byte-at (part at n t) 1)
 version-start m t at false n = refl
 
@@ -124,16 +124,16 @@ module _ (s : Session) (ok : Sound (s .state) (s .others) (lengthsOf s)) where
           tot = totAt (s .state);
         }
 
-    abbrev pub start : Dry
-    start = dryOf (part sectionPlaces indexSize (s .state)) log (s .others) (goingIn (s .state) (s .tables) cs mpt)
+    abbrev pub start : PendingTables
+    start = pendingOf (part sectionPlaces indexSize (s .state)) log (s .others) (walkStart (s .state) (s .tables) cs mpt)
 
-    kept-view : drawnKept m (s .tables) (limits .«table_area») (start .index) ≡ indexed (sectionEntry limits s) 0 (sectionsIn (s .state))
+    kept-view : committedKept m (s .tables) (limits .«table_area») (start .index) ≡ indexed (sectionEntry limits s) 0 (sectionsIn (s .state))
     kept-view =
         kept-start m (s .tables) (limits .«table_area») (indexOf (usedOf (s .state) .sections) (part sectionPlaces indexSize (s .state))) log z 0
         ∙ ap (indexed (sectionEntry limits s) 0) (index-is (s .state) (ok .there .sections))
 
-    pub store-view : drawn m areas c start .store ≡ view s .store
-    unfolding drawn view viewBy
+    pub store-view : committed m areas c start .store ≡ view s .store
+    unfolding committed view viewBy
     store-view =
         λ i.
         record {
@@ -148,7 +148,7 @@ module _ (s : Session) (ok : Sound (s .state) (s .others) (lengthsOf s)) where
         held-start m limits (indexOf (usedOf (s .state) .sections) (part sectionPlaces indexSize (s .state))) log z
         (ap (every (sectionSound limits)) (index-is (s .state) (ok .there .sections)) ∙ ok .kept)
 
-    pub versions-view : VersionOf (drawnRecent m (s .tables) mptAt mpt) mpt → Versions m areas start
+    pub versions-view : VersionOf (committedRecent m (s .tables) mptAt mpt) mpt → Versions m areas start
     versions-view v =
         record {
           mpt = v;

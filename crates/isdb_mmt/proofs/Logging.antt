@@ -14,15 +14,15 @@ use Rattle.isdb_mmt.specs.Kept.{Section, Table, emptyTable, mptTable, pl
 use Rattle.isdb_mmt.specs.declared.decoder.place.Found.{Found}
 use Rattle.isdb_mmt.specs.declared.decoder.place.Found.the-variants.{At, Nothing as notFound}
 use Rattle.isdb_mmt.specs.declared.decoder.section.KeptSection.{KeptSection}
-use Rattle.isdb_mmt.specs.declared.decoder.verdict.Recent.{Recent}
-use Rattle.isdb_mmt.specs.declared.decoder.verdict.Act.{Act}
-use Rattle.isdb_mmt.specs.declared.decoder.verdict.Act.the-variants.{Nothing, Other, Mpt, Plt, Tot, Put}
-use Rattle.isdb_mmt.specs.declared.decoder.verdict.Told.{Told}
-use Rattle.isdb_mmt.specs.Placed.{Placed, StandsAt, AllStand}
-use Rattle.isdb_mmt.specs.Verdict.{keysOf, noSection, bodyTold, versionTold, sectionTold, toldOf}
-use Rattle.isdb_mmt.specs.Dry.{Logged, logged, placesOf, Dry, recent, indexAfter, mptAfter, pltAfter, totAfter, keptLength, notedOne, notedAll}
+use Rattle.isdb_mmt.specs.declared.decoder.table_outcome.Recent.{Recent}
+use Rattle.isdb_mmt.specs.declared.decoder.table_outcome.TableAction.{TableAction}
+use Rattle.isdb_mmt.specs.declared.decoder.table_outcome.TableAction.the-variants.{Nothing, Other, Mpt, Plt, Tot, Put}
+use Rattle.isdb_mmt.specs.declared.decoder.table_outcome.TableOutcome.{TableOutcome}
+use Rattle.isdb_mmt.specs.Placed.{Placed, PlacedAt, AllPlaced}
+use Rattle.isdb_mmt.specs.TableOutcome.{keysOf, noSection, bodyOutcome, versionOutcome, sectionOutcome, tableOutcome}
+use Rattle.isdb_mmt.specs.PendingTables.{Logged, logged, placesOf, PendingTables, recent, indexAfter, mptAfter, pltAfter, totAfter, keptLength, pendingWith, pendingWithAll}
 use Rattle.isdb_mmt.specs.Commit.{AllFit}
-use Rattle.isdb_mmt.proofs.Drawn.{TableAt, ReadStands}
+use Rattle.isdb_mmt.proofs.Committed.{TableAt, ReadPlaced}
 
 module _ (m : Bytes) where
   -- what is logged stands in the message; the longest is `n`, and what is not logged fits `area`
@@ -48,45 +48,45 @@ module _ (m : Bytes) where
   held-snoc area n (x ∷ es) e a h = (a .0, held-snoc area n es e (a .1) h)
 
   -- a table that is kept stands in the message
-  abbrev PutStands : ℕ → Act → Type 0
-  PutStands k Nothing = Unit {0}
-  PutStands k (Other id) = Unit {0}
-  PutStands k (Mpt v n) = length (part k n m) ≡ n
-  PutStands k (Plt v n) = length (part k n m) ≡ n
-  PutStands k (Tot n) = length (part k n m) ≡ n
-  PutStands k (Put i x) = length (part k (x .length) m) ≡ x .length
+  abbrev PutPlaced : ℕ → TableAction → Type 0
+  PutPlaced k Nothing = Unit {0}
+  PutPlaced k (Other id) = Unit {0}
+  PutPlaced k (Mpt v n) = length (part k n m) ≡ n
+  PutPlaced k (Plt v n) = length (part k n m) ≡ n
+  PutPlaced k (Tot n) = length (part k n m) ≡ n
+  PutPlaced k (Put i x) = length (part k (x .length) m) ≡ x .length
 
   module _ (ks : List KeptSection) (k : ℕ) where
-    abbrev Fine : Told → Type 0
-    Fine t = PutStands k (t .act)
+    abbrev Fine : TableOutcome → Type 0
+    Fine t = PutPlaced k (t .act)
 
-    put-body : (x : Section) → StandsAt m k (x .bytes) → (c i : ℕ) → Fine (bodyTold x c i)
+    put-body : (x : Section) → PlacedAt m k (x .bytes) → (c i : ℕ) → Fine (bodyOutcome x c i)
     put-body x h c i = cond-elim Fine (x .bodyOk) (λ e. sym (ap length h)) (λ e. tt)
 
-    put-version : (x : Section) → StandsAt m k (x .bytes) → (f : Found) → Fine (versionTold ks x f)
+    put-version : (x : Section) → PlacedAt m k (x .bytes) → (f : Found) → Fine (versionOutcome ks x f)
     put-version x h notFound = put-body x h 0 (length ks)
     put-version x h (At i) = cond-elim Fine (getD ks i noSection .version =? x .version) (λ e. tt) (λ e. put-body x h 1 i)
 
-    put-section : (x : Section) → StandsAt m k (x .bytes) → Fine (sectionTold ks x)
-    unfolding sectionTold
+    put-section : (x : Section) → PlacedAt m k (x .bytes) → Fine (sectionOutcome ks x)
+    unfolding sectionOutcome
     put-section x h =
         cond-elim Fine (x .headerAndCrcGood) (λ e. put-version x h (foundFrom 0 (keysOf ks) (x .key)))
         (λ e. cond-elim Fine (x .crcBad) (λ z. tt) (λ z. tt))
 
-    put-stands : (r p : Recent) (t : Table) → TableAt m k t → Fine (toldOf ks r p t)
-    unfolding toldOf
-    put-stands r p emptyTable h = tt
-    put-stands r p (mptTable true n b) h = sym (ap length h)
-    put-stands r p (mptTable false n b) h = tt
-    put-stands r p (pltTable true b) h = sym (ap length h)
-    put-stands r p (pltTable false b) h = tt
-    put-stands r p (totTable true c n b) h = sym (ap length h)
-    put-stands r p (totTable false c n b) h = tt
-    put-stands r p truncatedSection h = tt
-    put-stands r p (aSection x) h = put-section x h
-    put-stands r p (otherTable id) h = tt
+    put-located : (r p : Recent) (t : Table) → TableAt m k t → Fine (tableOutcome ks r p t)
+    unfolding tableOutcome
+    put-located r p emptyTable h = tt
+    put-located r p (mptTable true n b) h = sym (ap length h)
+    put-located r p (mptTable false n b) h = tt
+    put-located r p (pltTable true b) h = sym (ap length h)
+    put-located r p (pltTable false b) h = tt
+    put-located r p (totTable true c n b) h = sym (ap length h)
+    put-located r p (totTable false c n b) h = tt
+    put-located r p truncatedSection h = tt
+    put-located r p (aSection x) h = put-section x h
+    put-located r p (otherTable id) h = tt
 
-  after : (area n k : ℕ) (es : List Logged) (z : Act) → PutStands k z → AllHeld area n es → AllHeld area (max n (keptLength z)) (indexAfter es z (k + 1))
+  after : (area n k : ℕ) (es : List Logged) (z : TableAction) → PutPlaced k z → AllHeld area n es → AllHeld area (max n (keptLength z)) (indexAfter es z (k + 1))
   after area n k es Nothing h a = more area n (max n 0) (omega arith) es a
   after area n k es (Other id) h a = more area n (max n 0) (omega arith) es a
   after area n k es (Mpt v l) h a = more area n (max n l) (omega arith) es a
@@ -99,15 +99,15 @@ module _ (m : Bytes) where
       cond-elim (AllHeld area (max n (x .length))) (ltb i (length es)) (λ t. held-set area (max n (x .length)) es i (logged x (k + 1)) b e)
       (λ t. held-snoc area (max n (x .length)) es (logged x (k + 1)) b e)
 
-  pub held-all : (read : Bytes → Table) → ReadStands read → (area : ℕ) (xs : List Placed) (d : Dry) → AllStand m xs → AllHeld area (d .longest) (d .index)
-      → AllHeld area (notedAll read d xs .longest) (notedAll read d xs .index)
-  unfolding notedAll
-  held-all read stands area [] d s a = a
-  held-all read stands area (x ∷ xs) d s a =
-      let t : Told = toldOf (placesOf (d .index)) (d .mpt) (d .plt) (read (x .bytes)) in
-      held-all read stands area xs (notedOne read d x) (s .1)
+  pub held-all : (read : Bytes → Table) → ReadPlaced read → (area : ℕ) (xs : List Placed) (d : PendingTables) → AllPlaced m xs → AllHeld area (d .longest) (d .index)
+      → AllHeld area (pendingWithAll read d xs .longest) (pendingWithAll read d xs .index)
+  unfolding pendingWithAll
+  held-all read found-at area [] d s a = a
+  held-all read found-at area (x ∷ xs) d s a =
+      let t : TableOutcome = tableOutcome (placesOf (d .index)) (d .mpt) (d .plt) (read (x .bytes)) in
+      held-all read found-at area xs (pendingWith read d x) (s .1)
       (after area (d .longest) (x .at) (d .index) (t .act)
-      (put-stands (placesOf (d .index)) (x .at) (d .mpt) (d .plt) (read (x .bytes)) (stands m (x .at) (x .bytes) (s .0))) a)
+      (put-located (placesOf (d .index)) (x .at) (d .mpt) (d .plt) (read (x .bytes)) (found-at m (x .at) (x .bytes) (s .0))) a)
 
   -- where the longest fits, all fit
   pub all-fit : (area n : ℕ) → n ≤ area → (es : List Logged) → AllHeld area n es → AllFit area m es
@@ -132,7 +132,7 @@ module _ (m : Bytes) where
     keeps : (l : ℕ) → RecentHeld area (max n l) r
     keeps l = recent-more area n (max n l) (omega arith) r a
 
-    mpt-held : (z : Act) → PutStands k z → RecentHeld area (max n (keptLength z)) (mptAfter r z (k + 1))
+    mpt-held : (z : TableAction) → PutPlaced k z → RecentHeld area (max n (keptLength z)) (mptAfter r z (k + 1))
     mpt-held Nothing h = keeps 0
     mpt-held (Other id) h = keeps 0
     mpt-held (Mpt v l) h = recent-new area n k v l h
@@ -140,7 +140,7 @@ module _ (m : Bytes) where
     mpt-held (Tot l) h = keeps l
     mpt-held (Put i x) h = keeps (x .length)
 
-    plt-held : (z : Act) → PutStands k z → RecentHeld area (max n (keptLength z)) (pltAfter r z (k + 1))
+    plt-held : (z : TableAction) → PutPlaced k z → RecentHeld area (max n (keptLength z)) (pltAfter r z (k + 1))
     plt-held Nothing h = keeps 0
     plt-held (Other id) h = keeps 0
     plt-held (Mpt v l) h = keeps l
@@ -148,7 +148,7 @@ module _ (m : Bytes) where
     plt-held (Tot l) h = keeps l
     plt-held (Put i x) h = keeps (x .length)
 
-    tot-held : (z : Act) → PutStands k z → RecentHeld area (max n (keptLength z)) (totAfter r z (k + 1))
+    tot-held : (z : TableAction) → PutPlaced k z → RecentHeld area (max n (keptLength z)) (totAfter r z (k + 1))
     tot-held Nothing h = keeps 0
     tot-held (Other id) h = keeps 0
     tot-held (Mpt v l) h = keeps l
@@ -156,20 +156,20 @@ module _ (m : Bytes) where
     tot-held (Tot l) h = recent-new area n k 0 l h
     tot-held (Put i x) h = keeps (x .length)
 
-  pub record Recents (area : ℕ) (d : Dry) : Type 0 where
+  pub record Recents (area : ℕ) (d : PendingTables) : Type 0 where
     pub mpt : RecentHeld area (d .longest) (d .mpt)
     pub plt : RecentHeld area (d .longest) (d .plt)
     pub tot : RecentHeld area (d .longest) (d .tot)
 
-  pub recents-all : (read : Bytes → Table) → ReadStands read → (area : ℕ) (xs : List Placed) (d : Dry) → AllStand m xs → Recents area d
-      → Recents area (notedAll read d xs)
-  unfolding notedAll
-  recents-all read stands area [] d s a = a
-  recents-all read stands area (x ∷ xs) d s a =
-      let t : Told = toldOf (placesOf (d .index)) (d .mpt) (d .plt) (read (x .bytes)) in
-      let h : PutStands (x .at) (t .act) =
-      put-stands (placesOf (d .index)) (x .at) (d .mpt) (d .plt) (read (x .bytes)) (stands m (x .at) (x .bytes) (s .0)) in
-      recents-all read stands area xs (notedOne read d x) (s .1)
+  pub recents-all : (read : Bytes → Table) → ReadPlaced read → (area : ℕ) (xs : List Placed) (d : PendingTables) → AllPlaced m xs → Recents area d
+      → Recents area (pendingWithAll read d xs)
+  unfolding pendingWithAll
+  recents-all read found-at area [] d s a = a
+  recents-all read found-at area (x ∷ xs) d s a =
+      let t : TableOutcome = tableOutcome (placesOf (d .index)) (d .mpt) (d .plt) (read (x .bytes)) in
+      let h : PutPlaced (x .at) (t .act) =
+      put-located (placesOf (d .index)) (x .at) (d .mpt) (d .plt) (read (x .bytes)) (found-at m (x .at) (x .bytes) (s .0)) in
+      recents-all read found-at area xs (pendingWith read d x) (s .1)
       (record {
         mpt = mpt-held area (d .longest) (x .at) (d .mpt) (a .mpt) (t .act) h;
         plt = plt-held area (d .longest) (x .at) (d .plt) (a .plt) (t .act) h;

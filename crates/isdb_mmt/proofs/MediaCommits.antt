@@ -15,19 +15,19 @@ use lib.Seq.{take-all, length-take-le}
 use Rattle.isdb_tlv.specs.Bytes.{be}
 use Rattle.isdb_tlv.specs.Fields.{written}
 use Rattle.isdb_tlv.specs.declared.mmtp.Header.{Header}
-use Rattle.isdb_mmt.specs.Part.{partOf, part as partAt}
+use Rattle.isdb_mmt.specs.Part.{partOf, partAt}
 use Rattle.isdb_mmt.specs.Packet.{Bytes, PayloadUnit, MpuPacket, headerIn, payloadUnit, payloadUnits, unitsFor, unitsRead, mediaOf, clear, readable}
 use Rattle.isdb_mmt.specs.Maps.{isSome}
-use Rattle.isdb_mmt.specs.Mpu.{headerFields, payloadHeader, declaredOf, unitsOf}
+use Rattle.isdb_mmt.specs.Mpu.{payloadHeaderFields, payloadHeader, declaredOf, unitsOf}
 use Rattle.isdb_mmt.specs.Objects.{Mfu, Asset, Rec, grown, mpuNumber, gap, afterUnits, deliveredBy, afterHeaders, assetAfter, tagged, passes, mediaGives}
 use Rattle.isdb_mmt.specs.Needs.{heldLength, unitsNeed}
 use Rattle.isdb_mmt.specs.Lent.{part, over}
 use Rattle.isdb_mmt.specs.View.{given, mfuOf, assetOfPlace}
 use Rattle.isdb_mmt.specs.Records.{noHeader, objectFor, rowSize, rowFields, rowOf, rowsFrom, dataFrom}
 use Rattle.isdb_mmt.specs.MediaPush.{noObject, heldFor, heldOver}
-use Rattle.isdb_mmt.specs.Survey.{unitObject, withLength, surveyAll, surveyOf}
-use Rattle.isdb_mmt.specs.Place.{gapIn, tidied, begun, startOf}
-use Rattle.isdb_mmt.specs.Look.{looked, lookTold, lookUnits, lookBy, lookOf}
+use Rattle.isdb_mmt.specs.MediaEffect.{unitObject, withLength, withEachUnit, unitsEffect}
+use Rattle.isdb_mmt.specs.MediaPlace.{gapIn, normalObject, begun, startOf}
+use Rattle.isdb_mmt.specs.MediaOutcome.{outcomeWith, outcomeOfUnits, unitsOutcome, outcomeBy, mediaOutcome}
 use Rattle.isdb_mmt.specs.Giving.{unitRecs, Outputs, Gave}
 use Rattle.isdb_mmt.specs.MediaCommit.{OneFits, OnePut, dataIn, unitsData, CanAppend, startsFrom, givesFrom, CanCommit, CanTake, Committed, CanEnd, passedUnit, CanPass, passesOn}
 use Rattle.isdb_mmt.specs.declared.mpu.FragmentType.{FragmentType}
@@ -42,29 +42,29 @@ use Rattle.isdb_mmt.specs.declared.mpu.MaybeHeader.the-variants.{None as
 use Rattle.isdb_mmt.specs.declared.mpu.Unit.{Unit as DataUnit}
 use Rattle.isdb_mmt.specs.declared.decoder.media.Object.{Object}
 use Rattle.isdb_mmt.specs.declared.decoder.media.Media.{Media}
-use Rattle.isdb_mmt.specs.declared.decoder.reassembler.Survey.{Survey}
-use Rattle.isdb_mmt.specs.declared.decoder.reassembler.Look.{Look}
-use Rattle.isdb_mmt.proofs.Names.{clash}
+use Rattle.isdb_mmt.specs.declared.decoder.reassembler.MediaEffect.{MediaEffect}
+use Rattle.isdb_mmt.specs.declared.decoder.reassembler.MediaOutcome.{MediaOutcome}
+use Rattle.isdb_mmt.proofs.Names.{true-not-false}
 use Rattle.isdb_mmt.proofs.Lent.{over-none}
 use Rattle.isdb_mmt.proofs.Areas.{held-same, held-grown}
-use Rattle.isdb_mmt.proofs.Told.{Told}
+use Rattle.isdb_mmt.proofs.EffectsModelled.{Told}
 use Rattle.isdb_mmt.proofs.Placed.{start-held, start-object, start-zero}
-use Rattle.isdb_mmt.proofs.Looks.{look-is}
+use Rattle.isdb_mmt.proofs.MediaOutcomes.{outcome-is}
 use Rattle.isdb_mmt.proofs.Gives.{complete-gives}
 use Rattle.isdb_mmt.proofs.MediaUnits.{piece, units-held, complete-held, head-gives, head-held, head-fits, middle-gives, middle-none, middle-held, last-held, Ended, last-given}
 
 -- ---- the one record of a packet
 
-pub can-end : (at : ℕ) (p : Media) (t : Survey) (q objects rows bytes : Bytes) → CanEnd at p t q objects rows bytes
+pub can-end : (at : ℕ) (p : Media) (t : MediaEffect) (q objects rows bytes : Bytes) → CanEnd at p t q objects rows bytes
     → (a b : Bytes) → a ≡ part at (p .object .length) objects → b ≡ partOf q (t .last) → OneFits a b rows bytes
 can-end at p t q objects rows bytes h a b ea eb = rw (ea, eb) (h .fits)
 
-pub end-is : (id n at : ℕ) (p : Media) (t : Survey) (q objects rows bytes rows′ bytes′ : Bytes) (s : Survey) → s ≡ startOf p n
+pub end-is : (id n at : ℕ) (p : Media) (t : MediaEffect) (q objects rows bytes rows′ bytes′ : Bytes) (s : MediaEffect) → s ≡ startOf p n
     → (o : Object) → o ≡ withLength (t .bytes) (s .object) → (a b : Bytes) → a ≡ part at (p .object .length) objects → b ≡ partOf q (t .last)
     → OnePut id false o a b rows bytes rows′ bytes′
     → OnePut id false (withLength (t .bytes) (startOf p n .object)) (part at (p .object .length) objects) (partOf q (t .last)) rows bytes rows′ bytes′
 end-is id n at p t q objects rows bytes rows′ bytes′ s es o eo a b ea eb w =
-    let e : o ≡ withLength (t .bytes) (startOf p n .object) = eo ∙ ap (λ (x : Survey). withLength (t .bytes) (x .object)) es in
+    let e : o ≡ withLength (t .bytes) (startOf p n .object) = eo ∙ ap (λ (x : MediaEffect). withLength (t .bytes) (x .object)) es in
     rw (← e, ← ea, ← eb) w
 
 whole-rest : (b : Bytes) → take (length b - 8) (drop 8 b) ≡ drop 8 b
@@ -86,63 +86,63 @@ pass-is id mpu rap b rows bytes rows′ bytes′ o eo a c ea ec w =
 
 -- ---- what the look says
 
-module _ (t : Survey) (y rap : Bool) (b : Bytes) where
+module _ (t : MediaEffect) (y rap : Bool) (b : Bytes) where
   header-told : (x : PayloadHeader) (o : Option (List DataUnit))
-      → lookTold t x (surveyOf (x .fragmentation) (x .«mpu_sequence_number») rap (declaredOf b) t o) .header ≡ payload x
-  unfolding surveyOf
+      → outcomeOfUnits t x (unitsEffect (x .fragmentation) (x .«mpu_sequence_number») rap (declaredOf b) t o) .header ≡ payload x
+  unfolding unitsEffect
   header-told x none = refl
   header-told x (some us) = refl
 
-  header-kind : (x : PayloadHeader) (k : FragmentType) → lookUnits t x rap b k .header ≡ payload x
-  unfolding lookUnits
+  header-kind : (x : PayloadHeader) (k : FragmentType) → unitsOutcome t x rap b k .header ≡ payload x
+  unfolding unitsOutcome
   header-kind x mfuType = header-told x (unitsOf (declaredOf b) (x .timed) (x .aggregated))
   header-kind x MpuMetadata = refl
   header-kind x MovieFragmentMetadata = refl
   header-kind x (Reserved c) = refl
 
-  header-either : (z : Bool) (x : PayloadHeader) → cond z (looked false false (payload x) t) (lookUnits t x rap b (x .«fragment_type»)) .header ≡ payload x
+  header-either : (z : Bool) (x : PayloadHeader) → cond z (outcomeWith false false (payload x) t) (unitsOutcome t x rap b (x .«fragment_type»)) .header ≡ payload x
   header-either true x = refl
   header-either false x = header-kind x (x .«fragment_type»)
 
-  header-of : (k : MaybeHeader) → lookBy t y rap b k .header ≡ k
-  unfolding lookBy
+  header-of : (k : MaybeHeader) → outcomeBy t y rap b k .header ≡ k
+  unfolding outcomeBy
   header-of noPayload = refl
   header-of (payload x) = header-either y x
 
   -- the units of a payload with the header `x`, where they are taken
-  pub record TakenUnits (x : PayloadHeader) (s : Survey) : Type 0 where
+  pub record TakenUnits (x : PayloadHeader) (s : MediaEffect) : Type 0 where
     pub us : List DataUnit
     pub units : unitsOf (declaredOf b) (x .timed) (x .aggregated) ≡ some us
     pub kind : x .«fragment_type» ≡ mfuType
-    pub survey : s ≡ surveyAll (x .fragmentation) (x .«mpu_sequence_number») rap (declaredOf b) t us
+    pub survey : s ≡ withEachUnit (x .fragmentation) (x .«mpu_sequence_number») rap (declaredOf b) t us
 
   module _ (x : PayloadHeader) where
     taken-told : (o : Option (List DataUnit)) → unitsOf (declaredOf b) (x .timed) (x .aggregated) ≡ o → x .«fragment_type» ≡ mfuType
-        → lookTold t x (surveyOf (x .fragmentation) (x .«mpu_sequence_number») rap (declaredOf b) t o) .taken ≡ true
-        → TakenUnits x (lookTold t x (surveyOf (x .fragmentation) (x .«mpu_sequence_number») rap (declaredOf b) t o) .units)
-    unfolding surveyOf
-    taken-told none e k h = clash false h refl
+        → outcomeOfUnits t x (unitsEffect (x .fragmentation) (x .«mpu_sequence_number») rap (declaredOf b) t o) .taken ≡ true
+        → TakenUnits x (outcomeOfUnits t x (unitsEffect (x .fragmentation) (x .«mpu_sequence_number») rap (declaredOf b) t o) .units)
+    unfolding unitsEffect
+    taken-told none e k h = true-not-false false h refl
     taken-told (some us) e k h = record { us = us; units = e; kind = k; survey = refl }
 
-    taken-kind : (k : FragmentType) → x .«fragment_type» ≡ k → lookUnits t x rap b k .taken ≡ true → TakenUnits x (lookUnits t x rap b k .units)
-    unfolding lookUnits
+    taken-kind : (k : FragmentType) → x .«fragment_type» ≡ k → unitsOutcome t x rap b k .taken ≡ true → TakenUnits x (unitsOutcome t x rap b k .units)
+    unfolding unitsOutcome
     taken-kind mfuType e h = taken-told (unitsOf (declaredOf b) (x .timed) (x .aggregated)) refl e h
-    taken-kind MpuMetadata e h = clash false h refl
-    taken-kind MovieFragmentMetadata e h = clash false h refl
-    taken-kind (Reserved c) e h = clash false h refl
+    taken-kind MpuMetadata e h = true-not-false false h refl
+    taken-kind MovieFragmentMetadata e h = true-not-false false h refl
+    taken-kind (Reserved c) e h = true-not-false false h refl
 
-    taken-either : (z : Bool) → cond z (looked false false (payload x) t) (lookUnits t x rap b (x .«fragment_type»)) .taken ≡ true
-        → (z ≡ false) × TakenUnits x (cond z (looked false false (payload x) t) (lookUnits t x rap b (x .«fragment_type»)) .units)
-    taken-either true h = clash false h refl
+    taken-either : (z : Bool) → cond z (outcomeWith false false (payload x) t) (unitsOutcome t x rap b (x .«fragment_type»)) .taken ≡ true
+        → (z ≡ false) × TakenUnits x (cond z (outcomeWith false false (payload x) t) (unitsOutcome t x rap b (x .«fragment_type»)) .units)
+    taken-either true h = true-not-false false h refl
     taken-either false h = (refl, taken-kind (x .«fragment_type») refl h)
 
-    taken-by : lookBy t y rap b (payload x) .taken ≡ true → (y ≡ false) × TakenUnits x (lookBy t y rap b (payload x) .units)
-    unfolding lookBy
+    taken-by : outcomeBy t y rap b (payload x) .taken ≡ true → (y ≡ false) × TakenUnits x (outcomeBy t y rap b (payload x) .units)
+    unfolding outcomeBy
     taken-by h = taken-either y h
 
-pub look-header : (p : Media) (n : ℕ) (y rap : Bool) (b : Bytes) (r : Look) → r ≡ lookOf p n y rap b → r .header ≡ payloadHeader b
-unfolding lookOf
-look-header p n y rap b r e = ap (λ (x : Look). x .header) e ∙ header-of (startOf p n) y rap b (payloadHeader b)
+pub outcome-header : (p : Media) (n : ℕ) (y rap : Bool) (b : Bytes) (r : MediaOutcome) → r ≡ mediaOutcome p n y rap b → r .header ≡ payloadHeader b
+unfolding mediaOutcome
+outcome-header p n y rap b r e = ap (λ (x : MediaOutcome). x .header) e ∙ header-of (startOf p n) y rap b (payloadHeader b)
 
 -- ---- units that are not taken
 
@@ -151,29 +151,29 @@ unfolding clear
 clear-none true = refl
 clear-none false = refl
 
-module _ (t : Survey) (rap : Bool) (b : Bytes) where
+module _ (t : MediaEffect) (rap : Bool) (b : Bytes) where
   idle-told : (x : PayloadHeader) (o : Option (List DataUnit))
-      → lookTold t x (surveyOf (x .fragmentation) (x .«mpu_sequence_number») rap (declaredOf b) t o) .taken ≡ false
+      → outcomeOfUnits t x (unitsEffect (x .fragmentation) (x .«mpu_sequence_number») rap (declaredOf b) t o) .taken ≡ false
       → clear false (payloadUnits x (declaredOf b) o) ≡ []
-  unfolding surveyOf clear
+  unfolding unitsEffect clear
   idle-told x none h = refl
-  idle-told x (some us) h = clash true refl h
+  idle-told x (some us) h = true-not-false true refl h
 
-  idle-kind : (x : PayloadHeader) (k : FragmentType) → lookUnits t x rap b k .taken ≡ false → clear false (unitsFor x k (declaredOf b)) ≡ []
-  unfolding lookUnits clear
+  idle-kind : (x : PayloadHeader) (k : FragmentType) → unitsOutcome t x rap b k .taken ≡ false → clear false (unitsFor x k (declaredOf b)) ≡ []
+  unfolding unitsOutcome clear
   idle-kind x mfuType h = idle-told x (unitsOf (declaredOf b) (x .timed) (x .aggregated)) h
   idle-kind x MpuMetadata h = refl
   idle-kind x MovieFragmentMetadata h = refl
   idle-kind x (Reserved c) h = refl
 
-  idle-either : (y : Bool) (x : PayloadHeader) → cond y (looked false false (payload x) t) (lookUnits t x rap b (x .«fragment_type»)) .taken ≡ false
+  idle-either : (y : Bool) (x : PayloadHeader) → cond y (outcomeWith false false (payload x) t) (unitsOutcome t x rap b (x .«fragment_type»)) .taken ≡ false
       → clear y (unitsFor x (x .«fragment_type») (declaredOf b)) ≡ []
   unfolding clear
   idle-either true x h = refl
   idle-either false x h = idle-kind x (x .«fragment_type») h
 
-  idle-by : (y : Bool) (k : MaybeHeader) → lookBy t y rap b k .taken ≡ false → clear y (unitsRead b (headerIn k)) ≡ []
-  unfolding lookBy
+  idle-by : (y : Bool) (k : MaybeHeader) → outcomeBy t y rap b k .taken ≡ false → clear y (unitsRead b (headerIn k)) ≡ []
+  unfolding outcomeBy
   idle-by y noPayload h = clear-none y
   idle-by y (payload x) h = idle-either y x h
 
@@ -201,9 +201,9 @@ module _ (at : ℕ) (p : Media) (h : Header) (b objects : Bytes) (fits : p .held
   held-was g e = go (gap (before .number) (m .number)) (p .held) e
     where
       go : (z y : Bool) → cond z none (given y (mfuOf (p .object) there)) ≡ some g → (y ≡ true) × (g .bytes ≡ there)
-      go true y d = clash false (ap isSome d) refl
+      go true y d = true-not-false false (ap isSome d) refl
       go false true d = (refl, sym (ap bytesHeld d))
-      go false false d = clash false (ap isSome d) refl
+      go false false d = true-not-false false (ap isSome d) refl
 
   -- what is held before the units lies there
   pub unchanged : heldOver at (afterHeaders before m .held) objects ≡ objects
@@ -217,7 +217,7 @@ start-last : (p : Media) (n : ℕ) → startOf p n .last ≡ partAt 0 0
 unfolding startOf
 start-last p n = go (p .held) (gapIn p n)
   where
-    go : (x g : Bool) → cond (not x) (begun false noObject 0) (cond g (begun false noObject 1) (begun true (tidied (p .object)) 0)) .last ≡ partAt 0 0
+    go : (x g : Bool) → cond (not x) (begun false noObject 0) (cond g (begun false noObject 1) (begun true (normalObject (p .object)) 0)) .last ≡ partAt 0 0
     go true true = refl
     go true false = refl
     go false g = refl
@@ -242,7 +242,7 @@ no-data bytes = sym (over-none 0 bytes)
 none-held : (at : ℕ) (l : Bytes) (o : Option Mfu) → isSome o ≡ false → heldOver at o l ≡ l
 unfolding isSome
 none-held at l none k = refl
-none-held at l (some g) k = clash true refl k
+none-held at l (some g) k = true-not-false true refl k
 
 nothing : (o : Option Mfu) → o ≡ none → isSome o ≡ false
 unfolding isSome
@@ -258,11 +258,11 @@ no-length (x ∷ xs) e = absurd (omega arith)
 
 -- ---- units that are taken
 
-module _ (x : PayloadHeader) (at : ℕ) (p : Media) (r : Look) (h : Header) (b objects rows bytes : Bytes) (can : CanTake x at p r h b objects rows bytes) where
+module _ (x : PayloadHeader) (at : ℕ) (p : Media) (r : MediaOutcome) (h : Header) (b objects rows bytes : Bytes) (can : CanTake x at p r h b objects rows bytes) where
   abbrev q : Bytes
   q = declaredOf b
 
-  abbrev t0 : Survey
+  abbrev t0 : MediaEffect
   t0 = startOf p (h .sequence)
 
   abbrev pk : MpuPacket
@@ -277,25 +277,25 @@ module _ (x : PayloadHeader) (at : ℕ) (p : Media) (r : Look) (h : Header) (b o
   fits : p .held ≡ true → at + p .object .length ≤ length objects
   fits = can .can .held
 
-  look-by : r ≡ lookBy t0 (h .«scramble_info») (h .rap) b (payloadHeader b)
-  unfolding lookOf
-  look-by = can .can .look
+  outcome-by : r ≡ outcomeBy t0 (h .«scramble_info») (h .rap) b (payloadHeader b)
+  unfolding mediaOutcome
+  outcome-by = can .can .look
 
   header-is : payloadHeader b ≡ payload x
   header-is =
-      sym (header-of t0 (h .«scramble_info») (h .rap) b (payloadHeader b)) ∙ ap (λ (y : Look). y .header) (sym look-by) ∙ can .header
+      sym (header-of t0 (h .«scramble_info») (h .rap) b (payloadHeader b)) ∙ ap (λ (y : MediaOutcome). y .header) (sym outcome-by) ∙ can .header
 
-  look-x : r ≡ lookBy t0 (h .«scramble_info») (h .rap) b (payload x)
-  look-x = look-by ∙ ap (lookBy t0 (h .«scramble_info») (h .rap) b) header-is
+  outcome-x : r ≡ outcomeBy t0 (h .«scramble_info») (h .rap) b (payload x)
+  outcome-x = outcome-by ∙ ap (outcomeBy t0 (h .«scramble_info») (h .rap) b) header-is
 
-  taken-x : (h .«scramble_info» ≡ false) × TakenUnits t0 (h .«scramble_info») (h .rap) b x (lookBy t0 (h .«scramble_info») (h .rap) b (payload x) .units)
-  taken-x = taken-by t0 (h .«scramble_info») (h .rap) b x (ap (λ (y : Look). y .taken) (sym look-x) ∙ can .taken)
+  taken-x : (h .«scramble_info» ≡ false) × TakenUnits t0 (h .«scramble_info») (h .rap) b x (outcomeBy t0 (h .«scramble_info») (h .rap) b (payload x) .units)
+  taken-x = taken-by t0 (h .«scramble_info») (h .rap) b x (ap (λ (y : MediaOutcome). y .taken) (sym outcome-x) ∙ can .taken)
 
   abbrev us : List DataUnit
   us = taken-x .1 .us
 
-  survey-is : r .units ≡ surveyAll (x .fragmentation) (x .«mpu_sequence_number») (h .rap) q t0 us
-  survey-is = ap (λ (y : Look). y .units) look-x ∙ taken-x .1 .survey
+  effect-is : r .units ≡ withEachUnit (x .fragmentation) (x .«mpu_sequence_number») (h .rap) q t0 us
+  effect-is = ap (λ (y : MediaOutcome). y .units) outcome-x ∙ taken-x .1 .survey
 
   mpu-is : mpuNumber (pk .header) ≡ x .«mpu_sequence_number»
   unfolding mediaOf
@@ -319,8 +319,8 @@ module _ (x : PayloadHeader) (at : ℕ) (p : Media) (r : Look) (h : Header) (b o
 
   told : Told pk t0 a1 (r .units) (readable pk)
   told =
-      subst (λ (y : Look). Told pk t0 a1 (y .units) (readable pk)) (sym (can .can .look))
-      (look-is 0 p (part at (p .object .length) objects) h b (long-there at p h b objects fits) .units)
+      subst (λ (y : MediaOutcome). Told pk t0 a1 (y .units) (readable pk)) (sym (can .can .look))
+      (outcome-is 0 p (part at (p .object .length) objects) h b (long-there at p h b objects fits) .units)
 
   -- the object after the units, and what they give
   abbrev heldBy : FragmentationIndicator → Option Mfu
@@ -393,11 +393,11 @@ module _ (x : PayloadHeader) (at : ℕ) (p : Media) (r : Look) (h : Header) (b o
 
   -- ---- Head
   module _ (e : x .fragmentation ≡ Head) (q′ : Bytes) (eq : q′ ≡ declaredOf b) (d : Bytes) (ed : d ≡ partOf q′ (r .units .last)) where
-    survey-head : r .units ≡ surveyAll Head (x .«mpu_sequence_number») (h .rap) q t0 us
-    survey-head = survey-is ∙ ap (λ (f : FragmentationIndicator). surveyAll f (x .«mpu_sequence_number») (h .rap) q t0 us) e
+    effect-head : r .units ≡ withEachUnit Head (x .«mpu_sequence_number») (h .rap) q t0 us
+    effect-head = effect-is ∙ ap (λ (f : FragmentationIndicator). withEachUnit f (x .«mpu_sequence_number») (h .rap) q t0 us) e
 
-    last-is : d ≡ partOf q (surveyAll Head (x .«mpu_sequence_number») (h .rap) q t0 us .last)
-    last-is = ed ∙ ap (λ (y : Bytes). partOf y (r .units .last)) eq ∙ ap (λ (s : Survey). partOf q (s .last)) survey-head
+    last-is : d ≡ partOf q (withEachUnit Head (x .«mpu_sequence_number») (h .rap) q t0 us .last)
+    last-is = ed ∙ ap (λ (y : Bytes). partOf y (r .units .last)) eq ∙ ap (λ (s : MediaEffect). partOf q (s .last)) effect-head
 
     none-first : partOf q (t0 .last) ≡ []
     none-first = ap (partOf q) (start-last p (h .sequence))
@@ -406,7 +406,7 @@ module _ (x : PayloadHeader) (at : ℕ) (p : Media) (r : Look) (h : Header) (b o
     head-can =
         let k : length (partOf q (t0 .last)) ≡ 0 = ap length none-first in
         let f = head-fits pk q at objects (x .«mpu_sequence_number») (h .rap) us t0 (omega (arith, k)) in
-        let n : r .units .longest ≡ surveyAll Head (x .«mpu_sequence_number») (h .rap) q t0 us .longest = ap (λ (s : Survey). s .longest) survey-head in
+        let n : r .units .longest ≡ withEachUnit Head (x .«mpu_sequence_number») (h .rap) q t0 us .longest = ap (λ (s : MediaEffect). s .longest) effect-head in
         omega (arith, ap length last-is, f, n, can .can .room)
 
     pub head-done : (objects′ : Bytes) → objects′ ≡ over (0 * 0 + at) d objects → Committed at false p h b objects rows bytes objects′ rows bytes
@@ -441,7 +441,7 @@ module _ (x : PayloadHeader) (at : ℕ) (p : Media) (r : Look) (h : Header) (b o
       grows = go (a1 .held) refl
         where
           go : (o : Option Mfu) → a1 .held ≡ o → Grows
-          go none k = clash (isSome (heldBy Middle)) (sym held-told ∙ y) (nothing (heldBy Middle) (middle-none pk q at objects us a1 k))
+          go none k = true-not-false (isSome (heldBy Middle)) (sym held-told ∙ y) (nothing (heldBy Middle) (middle-none pk q at objects us a1 k))
           go (some g) k =
               let w = held-was at p h b objects fits g k in
               record {
@@ -501,8 +501,8 @@ module _ (x : PayloadHeader) (at : ℕ) (p : Media) (r : Look) (h : Header) (b o
 
   -- ---- Last
   module _ (e : x .fragmentation ≡ Last) where
-    survey-last : r .units ≡ surveyAll Last (x .«mpu_sequence_number») (h .rap) q t0 us
-    survey-last = survey-is ∙ ap (λ (f : FragmentationIndicator). surveyAll f (x .«mpu_sequence_number») (h .rap) q t0 us) e
+    effect-last : r .units ≡ withEachUnit Last (x .«mpu_sequence_number») (h .rap) q t0 us
+    effect-last = effect-is ∙ ap (λ (f : FragmentationIndicator). withEachUnit f (x .«mpu_sequence_number») (h .rap) q t0 us) e
 
     given-last : deliveredBy pk a1 (readable pk) ≡ givenBy Last
     given-last = ap (deliveredBy pk a1) pieces-are ∙ ap givenBy e
@@ -518,9 +518,9 @@ module _ (x : PayloadHeader) (at : ℕ) (p : Media) (r : Look) (h : Header) (b o
     module _ (ne : r .units .records ≡ 0 → ⊥) (q′ : Bytes) (eq : q′ ≡ declaredOf b) where
       end : Ended pk q at objects us a1 t0 (r .units)
       end =
-          subst (λ (s : Survey). Ended pk q at objects us a1 t0 s) (sym survey-last)
+          subst (λ (s : MediaEffect). Ended pk q at objects us a1 t0 s) (sym effect-last)
           (last-given pk q at objects (x .«mpu_sequence_number») (h .rap) us a1 t0 (start-there .0) (start-there .1) (zeros .0)
-          (λ z. ne (ap (λ (s : Survey). s .records) survey-last ∙ z)))
+          (λ z. ne (ap (λ (s : MediaEffect). s .records) effect-last ∙ z)))
 
       abbrev d : Bytes
       d = partOf q (r .units .last)
@@ -593,16 +593,16 @@ module _ {A : Type 0} (a : A) where
   passes-no true true noPayload e = refl
   passes-no true false noPayload e = refl
   passes-no false y noPayload e = refl
-  passes-no true true (payload x) e = clash true refl e
+  passes-no true true (payload x) e = true-not-false true refl e
   passes-no true false (payload x) e = refl
   passes-no false y (payload x) e = refl
 
   passes-yes : (pass y : Bool) (k : MaybeHeader) → passesOn pass y k ≡ true → cond (pass && (y && isSome (headerIn k))) (a ∷ []) [] ≡ a ∷ []
   unfolding passesOn isSome
-  passes-yes pass y noPayload e = clash false e refl
+  passes-yes pass y noPayload e = true-not-false false e refl
   passes-yes true true (payload x) e = refl
-  passes-yes true false (payload x) e = clash false e refl
-  passes-yes false y (payload x) e = clash false e refl
+  passes-yes true false (payload x) e = true-not-false false e refl
+  passes-yes false y (payload x) e = true-not-false false e refl
 
 clear-passes : (pass y : Bool) (k : MaybeHeader) → y ≡ false → passesOn pass y k ≡ false
 unfolding passesOn
@@ -614,10 +614,10 @@ header-long : (b : Bytes) (x : PayloadHeader) → payloadHeader b ≡ payload x 
 unfolding payloadHeader
 header-long b x e = go (ltb (length b) 2) (ltb (length b) (be 2 b 0 + 2)) (ltb (length b) 8) refl e
   where
-    go : (u v w : Bool) → ltb (length b) 8 ≡ w → cond u noPayload (cond v noPayload (cond w noPayload (payload (headerFields b)))) ≡ payload x → 8 ≤ length b
-    go true v w k d = clash false (ap isHeader d) refl
-    go false true w k d = clash false (ap isHeader d) refl
-    go false false true k d = clash false (ap isHeader d) refl
+    go : (u v w : Bool) → ltb (length b) 8 ≡ w → cond u noPayload (cond v noPayload (cond w noPayload (payload (payloadHeaderFields b)))) ≡ payload x → 8 ≤ length b
+    go true v w k d = true-not-false false (ap isHeader d) refl
+    go false true w k d = true-not-false false (ap isHeader d) refl
+    go false false true k d = true-not-false false (ap isHeader d) refl
     go false false false k d = ltb-false (length b) 8 k
 
 module _ (pass : Bool) (h : Header) (b : Bytes) where
@@ -644,8 +644,8 @@ module _ (pass : Bool) (h : Header) (b : Bytes) where
   unfolding passes mediaOf
   is-passed e = passes-yes passedRec pass (h .«scramble_info») (payloadHeader b) e
 
-module _ (at : ℕ) (pass : Bool) (p : Media) (r : Look) (h : Header) (b objects rows bytes : Bytes) (can : CanCommit at pass p r h b objects rows bytes) where
-  abbrev t0′ : Survey
+module _ (at : ℕ) (pass : Bool) (p : Media) (r : MediaOutcome) (h : Header) (b objects rows bytes : Bytes) (can : CanCommit at pass p r h b objects rows bytes) where
+  abbrev t0′ : MediaEffect
   t0′ = startOf p (h .sequence)
 
   abbrev pk′ : MpuPacket
@@ -657,19 +657,19 @@ module _ (at : ℕ) (pass : Bool) (p : Media) (r : Look) (h : Header) (b objects
   abbrev scrambled : Bool
   scrambled = h .«scramble_info»
 
-  looked-by : r ≡ lookBy t0′ scrambled (h .rap) b (payloadHeader b)
-  unfolding lookOf
-  looked-by = can .look
+  outcome-with-by : r ≡ outcomeBy t0′ scrambled (h .rap) b (payloadHeader b)
+  unfolding mediaOutcome
+  outcome-with-by = can .look
 
   header-here : r .header ≡ payloadHeader b
-  header-here = ap (λ (y : Look). y .header) looked-by ∙ header-of t0′ scrambled (h .rap) b (payloadHeader b)
+  header-here = ap (λ (y : MediaOutcome). y .header) outcome-with-by ∙ header-of t0′ scrambled (h .rap) b (payloadHeader b)
 
   -- units that are taken are clear
   module _ (x : PayloadHeader) (eh : r .header ≡ payload x) (et : r .taken ≡ true) where
     is-clear : scrambled ≡ false
     is-clear =
         taken-by t0′ scrambled (h .rap) b x
-        (ap (λ (k : MaybeHeader). lookBy t0′ scrambled (h .rap) b k .taken) (sym (sym header-here ∙ eh)) ∙ ap (λ (y : Look). y .taken) (sym looked-by) ∙ et) .0
+        (ap (λ (k : MaybeHeader). outcomeBy t0′ scrambled (h .rap) b k .taken) (sym (sym header-here ∙ eh)) ∙ ap (λ (y : MediaOutcome). y .taken) (sym outcome-with-by) ∙ et) .0
 
     same-gives : givesFrom at pass p h b objects ≡ givesFrom at false p h b objects
     unfolding mediaGives passes
@@ -707,7 +707,7 @@ module _ (at : ℕ) (pass : Bool) (p : Media) (r : Look) (h : Header) (b objects
   module _ (et : r .taken ≡ false) where
     none-read : readable pk′ ≡ []
     unfolding readable mediaOf
-    none-read = idle-by t0′ (h .rap) b scrambled (payloadHeader b) (ap (λ (y : Look). y .taken) (sym looked-by) ∙ et)
+    none-read = idle-by t0′ (h .rap) b scrambled (payloadHeader b) (ap (λ (y : MediaOutcome). y .taken) (sym outcome-with-by) ∙ et)
 
     area-stays : objects ≡ heldOver at (assetAfter a0′ pk′ .held) objects
     unfolding assetAfter afterUnits
@@ -785,8 +785,8 @@ module _ (at : ℕ) (pass : Bool) (p : Media) (r : Look) (h : Header) (b objects
             }
 
   pub commit-none : r .header ≡ noPayload → Committed at pass p h b objects rows bytes objects rows bytes
-  unfolding lookBy passesOn
+  unfolding outcomeBy passesOn
   commit-none e =
       let k : payloadHeader b ≡ noPayload = sym header-here ∙ e in
-      idle-when (ap (λ (y : Look). y .taken) looked-by ∙ ap (λ (z : MaybeHeader). lookBy t0′ scrambled (h .rap) b z .taken) k)
+      idle-when (ap (λ (y : MediaOutcome). y .taken) outcome-with-by ∙ ap (λ (z : MaybeHeader). outcomeBy t0′ scrambled (h .rap) b z .taken) k)
       (ap (passesOn pass scrambled) k)

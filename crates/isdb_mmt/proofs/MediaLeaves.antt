@@ -2,7 +2,7 @@
 use Prim.Native.Nat.{ℕ, _+_, _-_, _*_, _^_, _≤_, _<_, max}
 use mathlib.Core.Path.{_≡_, refl, sym, ap, _∙_, subst}
 use mathlib.Core.Logic.{inl, inr}
-use mathlib.Core.Bool.{Bool, true, false, not}
+use mathlib.Core.Bool.{Bool, true, false}
 use mathlib.Core.Option.{Option, none, some}
 use mathlib.Core.List.{List, [], _∷_, _++_}
 use native.Mathlib.Nat.{add-zero, mul-le-mul-right}
@@ -19,10 +19,10 @@ use Rattle.isdb_mmt.specs.Maps.{find, put, orElse, isSome}
 use Rattle.isdb_mmt.specs.Objects.{newMpu, mpuAfter, rangeAfter, mpuIn, Mfu, Asset, fresh, assetAfter, mostObject, grown, continued, effectOf, unitEffect, afterUnit, objectOf, afterUnits, gap, afterHeaders}
 use Rattle.isdb_mmt.specs.Model.{assetOf, pushed, packetCounted}
 use Rattle.isdb_mmt.specs.Needs.{heldLength, unitArea, unitsNeed, needs}
-use Rattle.isdb_mmt.specs.Lent.{part, over, namesFrom, foundFrom, every, indexed}
+use Rattle.isdb_mmt.specs.Lent.{part, over, namesFrom, foundFrom, indexed}
 use Rattle.isdb_mmt.specs.Session.{Session, limitsOf, usedOf, usedFields, latestOf, timeOf, countersOf, mediaFields}
 use Rattle.isdb_mmt.specs.Check.{mediaIn, controlsIn, sectionsIn, mediaSound, packetCounts, lengthsOf, Sound}
-use Rattle.isdb_mmt.specs.View.{given, headerGiven, itemGiven, mfuOf, assetOfPlace, assetEntry, controlEntry, sectionEntry, tableAt, viewBy, view}
+use Rattle.isdb_mmt.specs.View.{given, headerGiven, itemGiven, mfuOf, assetOfPlace, assetEntry, controlEntry, sectionEntry, keptTableAt, viewBy, view}
 use Rattle.isdb_mmt.specs.Opening.{lent}
 use Rattle.isdb_mmt.specs.Records.{headerOr, hasHeader, itemOr, hasItem}
 use Rattle.isdb_mmt.specs.MediaPush.{placeFor, heldFor, firstIn, heldOver, withPlace, oneMore, withUsed, withPackets, mediaPlaceFor, leavesAt, assetNext, mediaLeaves}
@@ -40,7 +40,7 @@ use Rattle.isdb_mmt.specs.declared.decoder.media.Media.{Media}
 use Rattle.isdb_mmt.proofs.Lent.{length-over, part-over, be-apart, length-names}
 use Rattle.isdb_mmt.proofs.Stored.{apart, limits-own, latest-own, time-own, counters-own, used-back, holds-over}
 use Rattle.isdb_mmt.proofs.Sessions.{media, controls, sections, inUse, named, place-set, place-new, place-apart, used-apart}
-use Rattle.isdb_mmt.proofs.Views.{keys, entry, Stands, stands, absent, indexed-set, indexed-snoc, indexed-same, area-apart}
+use Rattle.isdb_mmt.proofs.Views.{keys, FoundAt, found-at, absent, indexed-set, indexed-snoc, indexed-same, area-apart}
 use Rattle.isdb_mmt.proofs.Limits.{passed}
 use Rattle.isdb_mmt.proofs.Checks.{media-was, count-was}
 use lib.Seq.{length-take-le}
@@ -204,15 +204,7 @@ place-back id a b t e =
       mpu = given-back (a .mpu) i;
       held = held-back (a .held) b e i;
       range = er i;
-      packets = a .packets;
-      lost = a .lost;
-      scrambled = a .scrambled;
-      mfus = a .mfus;
-      scrambledMfus = a .scrambledMfus;
-      dropped = a .dropped;
-      mpus = a .mpus;
-      jumps = a .jumps;
-      malformed = a .malformed;
+      stats = a .stats;
     }
 
 -- of a place without an object, the bytes do not matter
@@ -298,14 +290,14 @@ module _ (s : Session) (ok : Sound (s .state) (s .others) (lengthsOf s)) (id : �
     abbrev sessionOld : Session
     sessionOld = lent stateOld (s .others) (objectsAfter i) (s .messages) (s .tables)
 
-    found-old : Stands (entries s) id i
+    found-old : FoundAt (entries s) id i
     unfolding mediaPlaceFor
     found-old =
         let e : foundFrom 0 (keys (entries s)) id ≡ At i =
         ap (λ (ns : List ℕ). foundFrom 0 ns id) (entry-names s)
         ∙ place-for-was-old (namesFrom (usedOf st .«media_ids») 120 184 st) (limitsOf st .«media_ids») id i place-for in
         let z : i - 0 ≡ i = omega arith in
-        rw z at (stands (entries s) id 0 i e .1)
+        rw z at (found-at (entries s) id 0 i e .1)
 
     pub within-old : i < usedOf st .«media_ids»
     within-old = omega (arith, found-old .within, length-indexed (assetEntry (limitsOf st) s) 0 (mediaIn st), length-media st)
@@ -485,8 +477,8 @@ module _ (s : Session) (st′ ob′ : List ℕ) (es : List (ℕ × Asset)) where
         controls = indexed (controlEntry l s) 0 (k .controls i);
         store =
             record {
-              plt = given (k .latest i .plt) (tableAt l s (l .sections + l .«control_ids») (k .latest i .«plt_length»));
-              tot = given (k .latest i .tot) (tableAt l s (l .sections + l .«control_ids» + 1) (k .latest i .«tot_length»));
+              plt = given (k .latest i .plt) (keptTableAt l s (l .sections + l .«control_ids») (k .latest i .«plt_length»));
+              tot = given (k .latest i .tot) (keptTableAt l s (l .sections + l .«control_ids» + 1) (k .latest i .«tot_length»));
               kept = indexed (sectionEntry l s) 0 (k .sections i);
               others = s .others;
             };
@@ -569,9 +561,9 @@ units-held m (u ∷ us) a =
     let k : heldLength (afterUnit a d .held) ≤ unitArea (u .fragment) d = did-held m a u in
     omega arith
 
-noted-held : (a : Asset) (m : MpuPacket) → heldLength (afterHeaders a m .held) ≤ heldLength (a .held)
+applied-held : (a : Asset) (m : MpuPacket) → heldLength (afterHeaders a m .held) ≤ heldLength (a .held)
 unfolding afterHeaders
-noted-held a m = either (gap (a .number) (m .number)) (λ t. rw t (omega arith)) (λ f. rw f (omega arith))
+applied-held a m = either (gap (a .number) (m .number)) (λ t. rw t (omega arith)) (λ f. rw f (omega arith))
 
 -- ---- the asset before the packet, as a place and its bytes
 
@@ -612,7 +604,7 @@ module _ (s : Session) (ok : Sound (s .state) (s .others) (lengthsOf s)) (id : �
       ap (λ (ns : List ℕ). foundFrom 0 ns id) (entry-names s)
       ∙ place-for-was-old (namesFrom (usedOf st .«media_ids») 120 184 st) (l .«media_ids») id i place-for in
       let z : i - 0 ≡ i = omega arith in
-      let w : Stands (entries s) id i = rw z at (stands (entries s) id 0 i e .1) in
+      let w : FoundAt (entries s) id i = rw z at (found-at (entries s) id 0 i e .1) in
       let b : i < length (mediaIn st) = omega (arith, w .within, length-indexed (assetEntry l s) 0 (mediaIn st)) in
       let blank : Media = placeFor 0 fresh in
       let p : Media = getD (mediaIn st) i blank in
@@ -672,9 +664,9 @@ module _ (f : ℕ) where
   tied-on (some l) r n e =
       either (eqb n l) (λ t. let z = eqb-true n l t in rw (t, e, z)) (λ t. rw (t, e))
 
-tied-noted : (a : Asset) (m : MpuPacket) → Tied a → Tied (afterHeaders a m)
+tied-applied : (a : Asset) (m : MpuPacket) → Tied a → Tied (afterHeaders a m)
 unfolding afterHeaders
-tied-noted a m t = go (m .header)
+tied-applied a m t = go (m .header)
   where
     go : (h : Option PayloadHeader)
         → rangeAfter (newMpu (a .mpu) (mpuIn h)) (a .range) (mpuIn h)
@@ -689,7 +681,7 @@ tied-units m (u ∷ us) a t = tied-units m us (afterUnit a (unitEffect m a u)) t
 
 tied-after : (a : Asset) (m : MpuPacket) → Tied a → Tied (assetAfter a m)
 unfolding assetAfter
-tied-after a m t = tied-units m (readable m) (afterHeaders a m) (tied-noted a m t)
+tied-after a m t = tied-units m (readable m) (afterHeaders a m) (tied-applied a m t)
 
 module _ (s : Session) (ok : Sound (s .state) (s .others) (lengthsOf s)) (m : MpuPacket)
     (places : usedOf (s .state) .«media_ids» + needs (view s) (mediaPacket m) .mediaIds ≤ limitsOf (s .state) .«media_ids»)
@@ -718,7 +710,7 @@ module _ (s : Session) (ok : Sound (s .state) (s .others) (lengthsOf s)) (m : Mp
   unfolding assetNext assetAfter needs
   held-room =
       let a = assetOf (m .id) (view s) in
-      omega (arith, units-held m (readable m) (afterHeaders a m), noted-held a m, before-any .room, object)
+      omega (arith, units-held m (readable m) (afterHeaders a m), applied-held a m, before-any .room, object)
 
   pub tied-next : Tied (assetNext s m)
   unfolding assetNext

@@ -20,7 +20,7 @@ use Rattle.isdb_mmt.specs.Mpu.{payloadHeader}
 use Rattle.isdb_mmt.specs.Objects.{Asset, Rec, fresh, afterHeaders, assetAfter, passes, mediaGives}
 use Rattle.isdb_mmt.specs.Model.{assetOf, gives}
 use Rattle.isdb_mmt.specs.Needs.{dataOf, needs}
-use Rattle.isdb_mmt.specs.Layout.{mostMediaIds, mostMfuArea, mediaPlaces, mediaSize}
+use Rattle.isdb_mmt.specs.Layout.{mostCount, mostMediaIds, mostMfuArea, mediaPlaces, mediaSize}
 use Rattle.isdb_mmt.specs.Lent.{part, over, placesFrom, namesFrom, foundFrom, every}
 use Rattle.isdb_mmt.specs.Session.{Session, limitsOf, usedOf, countersOf, mediaPlaceOf, mediaAt}
 use Rattle.isdb_mmt.specs.Check.{mediaIn, mediaSound, countFits, statsCounts, packetCounts, lengthsOf, Sound}
@@ -28,33 +28,32 @@ use Rattle.isdb_mmt.specs.View.{assetOfPlace, assetEntry, viewBy, view}
 use Rattle.isdb_mmt.specs.Opening.{lent}
 use Rattle.isdb_mmt.specs.Records.{rowSize, rowsFrom, dataFrom}
 use Rattle.isdb_mmt.specs.MediaPush.{placeFor, heldOver, mediaPlaceFor, assetNext, leavesAt, mediaLeaves, mediaAsks, MediaPushed}
-use Rattle.isdb_mmt.specs.Place.{startOf, placeAfter, Modest}
-use Rattle.isdb_mmt.specs.Look.{lookOf, CanLook}
-use Rattle.isdb_mmt.specs.MediaCommit.{CanTakePlace, blank, placeIn, indexOf, passesOn, recordsOf, bytesOf, fitsNumber, numberOf, refused, accepted, answerBy, answerOf, Small, startsFrom, givesFrom, CanCommit, Committed, stateAfter, CanCommitAll, CommittedAll, CanPushMedia}
+use Rattle.isdb_mmt.specs.MediaPlace.{startOf, placeAfter, StatsWithin}
+use Rattle.isdb_mmt.specs.MediaOutcome.{mediaOutcome, CanReadUnits}
+use Rattle.isdb_mmt.specs.MediaCommit.{CanTakePlace, blank, placeIn, indexOf, passesOn, recordsHanded, bytesHanded, fitsNumber, numberOf, refused, accepted, answerBy, answerOf, Small, startsFrom, givesFrom, CanCommit, Committed, stateAfter, CanCommitAll, CommittedAll, CanPushMedia}
 use Rattle.isdb_mmt.specs.declared.decoder.place.Found.the-variants.{At, Nothing}
 use Rattle.isdb_mmt.specs.declared.decoder.place.PlaceFor.{PlaceFor}
 use Rattle.isdb_mmt.specs.declared.decoder.place.PlaceFor.the-variants.{Own, Free, NoneFree}
 use Rattle.isdb_mmt.specs.declared.decoder.limits.Limits.{Limits}
 use Rattle.isdb_mmt.specs.declared.decoder.counts.AssetStats.{AssetStats}
 use Rattle.isdb_mmt.specs.declared.decoder.media.Media.{Media}
-use Rattle.isdb_mmt.specs.declared.decoder.reassembler.Survey.{Survey}
-use Rattle.isdb_mmt.specs.declared.decoder.reassembler.Look.{Look}
+use Rattle.isdb_mmt.specs.declared.decoder.reassembler.MediaEffect.{MediaEffect}
+use Rattle.isdb_mmt.specs.declared.decoder.reassembler.MediaOutcome.{MediaOutcome}
 use Rattle.isdb_mmt.specs.declared.decoder.records.Answer.{Answer}
-use Rattle.isdb_mmt.proofs.Names.{clash}
-use Rattle.isdb_mmt.proofs.Lent.{length-names}
-use Rattle.isdb_mmt.proofs.Views.{keys, Stands, stands, absent}
+use Rattle.isdb_mmt.proofs.Names.{true-not-false}
+use Rattle.isdb_mmt.proofs.Views.{keys, FoundAt, found-at, absent}
 use Rattle.isdb_mmt.proofs.Limits.{passed, areas-fit}
 use Rattle.isdb_mmt.proofs.Checks.{media-was, place-was, count-was}
 use Rattle.isdb_mmt.proofs.PlacesFor.{entries, entry-names, place-for-was-old, place-for-was-new, place-for-was-full, length-media, length-indexed, getD-indexed}
-use Rattle.isdb_mmt.proofs.Told.{Told}
+use Rattle.isdb_mmt.proofs.EffectsModelled.{Told}
 use Rattle.isdb_mmt.proofs.Placed.{start-zero}
-use Rattle.isdb_mmt.proofs.Looks.{look-small, look-is, place-is}
-use Rattle.isdb_mmt.proofs.MediaCommits.{is-passed, not-passed, look-header}
+use Rattle.isdb_mmt.proofs.MediaOutcomes.{outcome-small, outcome-is, place-is}
+use Rattle.isdb_mmt.proofs.MediaCommits.{is-passed, not-passed, outcome-header}
 use Rattle.isdb_mmt.proofs.Asks.{object-is, records-is, bytes-is, old-is, new-is, number-full, number-is}
 
 -- ---- all of a commit
 
-module _ (l : Limits) (place-for : PlaceFor) (p : Media) (r : Look) (h : Header) (b state objects rows bytes : Bytes)
+module _ (l : Limits) (place-for : PlaceFor) (p : Media) (r : MediaOutcome) (h : Header) (b state objects rows bytes : Bytes)
     (can : CanCommitAll l place-for p r h b state objects rows bytes) where
   module _ (i : ℕ) (ei : i ≡ indexOf place-for) where
     pub all-place : Fits w64 (i * l .«mfu_area»)
@@ -70,9 +69,9 @@ module _ (l : Limits) (place-for : PlaceFor) (p : Media) (r : Look) (h : Header)
     all-done objects′ rows′ bytes′ w m em state′ es =
         record { commit = rw ei at w; store = es ∙ ap (λ (x : Media). stateAfter state x place-for) em }
 
-  pub all-steps : Modest (p .stats) × ((r .units .records < 4294967296) × (r .units .drops < 4294967296))
+  pub all-steps : StatsWithin mostCount (p .stats) × ((r .units .records < 4294967296) × (r .units .drops < 4294967296))
   all-steps =
-      let s = look-small p (h .sequence) (h .«scramble_info») (h .rap) b r (can .commit .can) (can .commit .look) in
+      let s = outcome-small p (h .sequence) (h .«scramble_info») (h .rap) b r (can .commit .can) (can .commit .look) in
       (can .modest, (omega (arith, s .records), omega (arith, s .drops)))
 
 -- ---- the place and the model's asset
@@ -86,7 +85,7 @@ place-at f (suc n) size at l (suc i) d h =
     let z : at + size * suc i ≡ at + size + size * i = rw mul-suc (omega arith) in
     rw z (place-at f n size (at + size) l i d (omega arith))
 
-pub modest-was : (s : AssetStats) → every countFits (statsCounts s) ≡ true → Modest s
+pub modest-was : (s : AssetStats) → every countFits (statsCounts s) ≡ true → StatsWithin mostCount s
 modest-was s e =
     record {
       packets = count-was (statsCounts s) 0 e;
@@ -108,22 +107,19 @@ blank-fresh b = refl
 pub record Begins (s : Session) (id : ℕ) (place-for : PlaceFor) (p : Media) : Type 0 where
   pub is : assetOf id (view s) ≡ startsFrom (indexOf place-for * limitsOf (s .state) .«mfu_area») p (s .objects)
   pub held : p .held ≡ true → p .object .length ≤ limitsOf (s .state) .«mfu_area»
-  pub modest : Modest (p .stats)
+  pub modest : StatsWithin mostCount (p .stats)
 
 module _ (s : Session) (ok : Sound (s .state) (s .others) (lengthsOf s)) (id : ℕ) where
   abbrev names : List ℕ
   names = namesFrom (usedOf (s .state) .«media_ids») mediaSize mediaPlaces (s .state)
 
-  names-long : length names ≡ usedOf (s .state) .«media_ids»
-  names-long = length-names mediaSize (usedOf (s .state) .«media_ids») mediaPlaces (s .state)
-
-  found-old : (i : ℕ) → mediaPlaceFor (s .state) id ≡ Own i → Stands (entries s) id i
+  found-old : (i : ℕ) → mediaPlaceFor (s .state) id ≡ Own i → FoundAt (entries s) id i
   unfolding mediaPlaceFor
   found-old i e =
       let k : foundFrom 0 (keys (entries s)) id ≡ At i =
       ap (λ (ns : List ℕ). foundFrom 0 ns id) (entry-names s) ∙ place-for-was-old names (limitsOf (s .state) .«media_ids») id i e in
       let z : i - 0 ≡ i = omega arith in
-      rw z at (stands (entries s) id 0 i k .1)
+      rw z at (found-at (entries s) id 0 i k .1)
 
   old-within : (i : ℕ) → mediaPlaceFor (s .state) id ≡ Own i → i < usedOf (s .state) .«media_ids»
   old-within i e =
@@ -176,7 +172,7 @@ module _ (s : Session) (ok : Sound (s .state) (s .others) (lengthsOf s)) (id : �
   begins-blank place-for e =
       record {
         is = e ∙ sym (blank-fresh (part (indexOf place-for * limitsOf (s .state) .«mfu_area») 0 (s .objects)));
-        held = λ t. clash false t refl;
+        held = λ t. true-not-false false t refl;
         modest =
             record {
               packets = omega arith;
@@ -290,18 +286,18 @@ module _ (st ot ob me ta : List ℕ) (h : Header) (b rows bytes : Bytes) (can : 
     abbrev at : ℕ
     at = indexOf place-for * limitsOf st .«mfu_area»
 
-    pub push-look : CanLook p b
-    push-look =
+    pub push-outcome : CanReadUnits p b
+    push-outcome =
         record {
           long = can .long;
           object = λ t. omega (arith, start .held t, passed (limitsOf st) (lengthsOf s) (can .sound .limits) .ranges .object .1);
         }
 
-    module _ (r : Look) (er : r ≡ lookOf p (h .sequence) (h .«scramble_info») (h .rap) b) where
+    module _ (r : MediaOutcome) (er : r ≡ mediaOutcome p (h .sequence) (h .«scramble_info») (h .rap) b) where
       pub push-small : Small (r .units) × (length b ≤ 65535)
-      push-small = (look-small p (h .sequence) (h .«scramble_info») (h .rap) b r push-look er, can .long)
+      push-small = (outcome-small p (h .sequence) (h .«scramble_info») (h .rap) b r push-outcome er, can .long)
 
-      abbrev t0 : Survey
+      abbrev t0 : MediaEffect
       t0 = startOf p (h .sequence)
 
       abbrev there : Bytes
@@ -318,14 +314,14 @@ module _ (st ot ob me ta : List ℕ) (h : Header) (b rows bytes : Bytes) (can : 
       held-there : (place-for ≡ NoneFree → ⊥) → p .held ≡ true → at + p .object .length ≤ length ob
       held-there n t = omega (arith, area-there n, start .held t)
 
-      module _ (seated : place-for ≡ NoneFree → ⊥) where
+      module _ (own-place : place-for ≡ NoneFree → ⊥) where
         long : p .held ≡ true → length there ≡ p .object .length
-        long t = length-take-le (p .object .length) (drop at ob) (rw length-drop (omega (arith, held-there seated t)))
+        long t = length-take-le (p .object .length) (drop at ob) (rw length-drop (omega (arith, held-there own-place t)))
 
         told : Told m t0 (afterHeaders (assetOf id (view s)) m) (r .units) (readable m)
         told =
             subst (λ (a : Asset). Told m t0 (afterHeaders a m) (r .units) (readable m)) (sym (start .is))
-            (subst (λ (y : Look). Told m t0 (afterHeaders (assetOfPlace p there) m) (y .units) (readable m)) (sym er) (look-is id p there h b long .units))
+            (subst (λ (y : MediaOutcome). Told m t0 (afterHeaders (assetOfPlace p there) m) (y .units) (readable m)) (sym er) (outcome-is id p there h b long .units))
 
         zeros : (t0 .records ≡ 0) × ((t0 .bytes ≡ 0) × (t0 .longest ≡ 0))
         unfolding mediaOf
@@ -333,7 +329,7 @@ module _ (st ot ob me ta : List ℕ) (h : Header) (b rows bytes : Bytes) (can : 
 
         free : usedOf st .«media_ids» + needs (view s) (media m) .mediaIds ≤ limitsOf st .«media_ids»
         unfolding mediaOf
-        free = go place-for (sym es) seated
+        free = go place-for (sym es) own-place
           where
             go : (x : PlaceFor) → mediaPlaceFor st id ≡ x → (x ≡ NoneFree → ⊥) → usedOf st .«media_ids» + needs (view s) (media m) .mediaIds ≤ limitsOf st .«media_ids»
             go (Own i) e n = old-is s (can .sound) m i e
@@ -346,7 +342,7 @@ module _ (st ot ob me ta : List ℕ) (h : Header) (b rows bytes : Bytes) (can : 
         passed-is : passing ≡ passesOn (limitsOf st .«pass_scrambled») (h .«scramble_info») (payloadHeader b)
         passed-is =
             ap (λ (x : Limits). passesOn (x .«pass_scrambled») (h .«scramble_info») (r .header)) el
-            ∙ ap (passesOn (limitsOf st .«pass_scrambled») (h .«scramble_info»)) (look-header p (h .sequence) (h .«scramble_info») (h .rap) b r er)
+            ∙ ap (passesOn (limitsOf st .«pass_scrambled») (h .«scramble_info»)) (outcome-header p (h .sequence) (h .«scramble_info») (h .rap) b r er)
 
         records-are : length (passes (view s .passing) m) ≡ one passing
         records-are =
@@ -356,24 +352,24 @@ module _ (st ot ob me ta : List ℕ) (h : Header) (b rows bytes : Bytes) (can : 
         bytes-are =
             ap (λ z. dataOf (passes z m)) (passing-is s) ∙ passed-bytes h b (limitsOf st .«pass_scrambled») passing passed-is
 
-        seated-number : fitsNumber (l .«mfu_area») (r .units .longest) (length rows) (length bytes) (recordsOf passing (r .units)) (bytesOf passing (length b) (r .units))
+        seated-number : fitsNumber (l .«mfu_area») (r .units .longest) (length rows) (length bytes) (recordsHanded passing (r .units)) (bytesHanded passing (length b) (r .units))
             ≡ mediaAsks s (length rows) (length bytes) m
         unfolding fitsNumber mediaOf
         seated-number =
             ap (λ (x : Limits). cond (ltb (x .«mfu_area») (r .units .longest)) 9
-            (cond (ltb (length rows) (rowSize * recordsOf passing (r .units))) 10 (cond (ltb (length bytes) (bytesOf passing (length b) (r .units))) 10 0))) el
+            (cond (ltb (length rows) (rowSize * recordsHanded passing (r .units))) 10 (cond (ltb (length bytes) (bytesHanded passing (length b) (r .units))) 10 0))) el
             ∙ ap (λ k. cond (ltb (limitsOf st .«mfu_area») (r .units .longest)) 9
-            (cond (ltb (length rows) (rowSize * (k + r .units .records))) 10 (cond (ltb (length bytes) (bytesOf passing (length b) (r .units))) 10 0))) (sym records-are)
+            (cond (ltb (length rows) (rowSize * (k + r .units .records))) 10 (cond (ltb (length bytes) (bytesHanded passing (length b) (r .units))) 10 0))) (sym records-are)
             ∙ ap (λ k. cond (ltb (limitsOf st .«mfu_area») (r .units .longest)) 9
             (cond (ltb (length rows) (rowSize * (length (passes (view s .passing) m) + r .units .records))) 10 (cond (ltb (length bytes) (k + r .units .bytes)) 10 0))) (sym bytes-are)
             ∙ sym (number-is s (can .sound) m (length rows) (length bytes) t0 (r .units) (zeros .0) (zeros .1 .0) (zeros .1 .1) told free)
 
-        need-records : recordsOf passing (r .units) ≡ needs (view s) (media m) .records
+        need-records : recordsHanded passing (r .units) ≡ needs (view s) (media m) .records
         unfolding mediaOf
         need-records =
             sym (records-is s m t0 (r .units) (zeros .0) (zeros .1 .0) (zeros .1 .1) told ∙ ap (λ k. k + r .units .records) records-are)
 
-        need-bytes : bytesOf passing (length b) (r .units) ≡ needs (view s) (media m) .dataBytes
+        need-bytes : bytesHanded passing (length b) (r .units) ≡ needs (view s) (media m) .dataBytes
         unfolding mediaOf
         need-bytes =
             sym (bytes-is s m t0 (r .units) (zeros .0) (zeros .1 .0) (zeros .1 .1) told ∙ ap (λ k. k + r .units .bytes) bytes-are)
@@ -387,28 +383,28 @@ module _ (st ot ob me ta : List ℕ) (h : Header) (b rows bytes : Bytes) (can : 
 
       abbrev numberHere : ℕ
       numberHere =
-          numberOf place-for (l .«mfu_area») (r .units .longest) (length rows) (length bytes) (recordsOf passesHere (r .units)) (bytesOf passesHere (length b) (r .units))
+          numberOf place-for (l .«mfu_area») (r .units .longest) (length rows) (length bytes) (recordsHanded passesHere (r .units)) (bytesHanded passesHere (length b) (r .units))
 
       number-here : numberHere ≡ mediaAsks s (length rows) (length bytes) m
       unfolding numberOf mediaOf
       number-here = go place-for refl
         where
           go : (x : PlaceFor) → place-for ≡ x
-              → numberOf x (l .«mfu_area») (r .units .longest) (length rows) (length bytes) (recordsOf passesHere (r .units)) (bytesOf passesHere (length b) (r .units))
+              → numberOf x (l .«mfu_area») (r .units .longest) (length rows) (length bytes) (recordsHanded passesHere (r .units)) (bytesHanded passesHere (length b) (r .units))
               ≡ mediaAsks s (length rows) (length bytes) m
           go (Own i) e = seated-number (λ f. let z : _≡_ {A = ℕ} 0 1 = cc in omega arith)
           go (Free i) e = seated-number (λ f. let z : _≡_ {A = ℕ} 0 1 = cc in omega arith)
           go NoneFree e = sym (number-full s (can .sound) m (length rows) (length bytes) (sym es ∙ e))
 
       module _ (a : Answer) (ea : a ≡ answerOf place-for l (h .«scramble_info») r (length b) (length rows) (length bytes)) where
-        answer-by : a ≡ answerBy numberHere (recordsOf passesHere (r .units)) (bytesOf passesHere (length b) (r .units))
+        answer-by : a ≡ answerBy numberHere (recordsHanded passesHere (r .units)) (bytesHanded passesHere (length b) (r .units))
         unfolding answerOf
         answer-by = ea
 
         number-is-here : a .number ≡ numberHere
         number-is-here =
             ap (λ (x : Answer). x .number) answer-by
-            ∙ answer-number numberHere (recordsOf passesHere (r .units)) (bytesOf passesHere (length b) (r .units))
+            ∙ answer-number numberHere (recordsHanded passesHere (r .units)) (bytesHanded passesHere (length b) (r .units))
 
         pub pushed-no : (a .number ≡ 0 → ⊥) → MediaPushed s rows bytes m (a .number) (a .records) (a .bytes) s rows bytes
         pushed-no n =
@@ -428,12 +424,12 @@ module _ (st ot ob me ta : List ℕ) (h : Header) (b rows bytes : Bytes) (can : 
           zero-here : numberHere ≡ 0
           zero-here = sym number-is-here ∙ yes
 
-          seated : place-for ≡ NoneFree → ⊥
-          seated e =
-              not-full (l .«mfu_area») (r .units .longest) (length rows) (length bytes) (recordsOf passesHere (r .units)) (bytesOf passesHere (length b) (r .units))
+          own-place : place-for ≡ NoneFree → ⊥
+          own-place e =
+              not-full (l .«mfu_area») (r .units .longest) (length rows) (length bytes) (recordsHanded passesHere (r .units)) (bytesHanded passesHere (length b) (r .units))
               (ap
               (λ (x : PlaceFor).
-              numberOf x (l .«mfu_area») (r .units .longest) (length rows) (length bytes) (recordsOf passesHere (r .units)) (bytesOf passesHere (length b) (r .units)))
+              numberOf x (l .«mfu_area») (r .units .longest) (length rows) (length bytes) (recordsHanded passesHere (r .units)) (bytesHanded passesHere (length b) (r .units)))
               (sym e)
               ∙ zero-here)
 
@@ -457,10 +453,10 @@ module _ (st ot ob me ta : List ℕ) (h : Header) (b rows bytes : Bytes) (can : 
               let ps = passed (limitsOf st) (lengthsOf s) (can .sound .limits) in
               record {
                 look = er;
-                can = push-look;
+                can = push-outcome;
                 low = low-place (indexOf place-for) (limitsOf st .«mfu_area») push-index (ps .ranges .object .1);
-                held = held-there seated;
-                room = omega (arith, need-object seated, fit .object, area-there seated);
+                held = held-there own-place;
+                room = omega (arith, need-object own-place, fit .object, area-there own-place);
                 rowsFit = rw (need-rows, gives-are) at (fit .records);
                 dataFit = rw (need-data, gives-are) at (fit .dataBytes);
               }
@@ -490,7 +486,7 @@ module _ (st ot ob me ta : List ℕ) (h : Header) (b rows bytes : Bytes) (can : 
             next-is = ap (λ (x : Asset). assetAfter x m) (sym (start .is))
 
             place-next : placeAfter id p (h .sequence) (h .«scramble_info») (r .header) (r .bad) (r .units) ≡ placeFor id (assetNext s m)
-            place-next = place-is id p there h b (long seated) r er ∙ ap (placeFor id) next-is
+            place-next = place-is id p there h b (long own-place) r er ∙ ap (placeFor id) next-is
 
             state-next : st′ ≡ stateAfter st (placeFor id (assetNext s m)) place-for
             state-next = w .store ∙ ap (λ (x : Media). stateAfter st x place-for) place-next
@@ -500,7 +496,7 @@ module _ (st ot ob me ta : List ℕ) (h : Header) (b rows bytes : Bytes) (can : 
 
             leaves : lent st′ ot ob′ me ta ≡ mediaLeaves s m
             unfolding mediaLeaves mediaOf stateAfter
-            leaves = go place-for (sym es) seated state-next objects-next
+            leaves = go place-for (sym es) own-place state-next objects-next
               where
                 go : (x : PlaceFor) → mediaPlaceFor st id ≡ x → (x ≡ NoneFree → ⊥) → st′ ≡ stateAfter st (placeFor id (assetNext s m)) x
                     → ob′ ≡ heldOver (indexOf x * limitsOf st .«mfu_area») (assetNext s m .held) ob
@@ -511,7 +507,7 @@ module _ (st ot ob me ta : List ℕ) (h : Header) (b rows bytes : Bytes) (can : 
 
             pub pushed-yes : MediaPushed s rows bytes m (a .number) (a .records) (a .bytes) (lent st′ ot ob′ me ta) rows′ bytes′
             pushed-yes =
-                let k : a ≡ accepted (recordsOf passesHere (r .units)) (bytesOf passesHere (length b) (r .units)) =
+                let k : a ≡ accepted (recordsHanded passesHere (r .units)) (bytesHanded passesHere (length b) (r .units)) =
                 answer-by ∙ answer-all numberHere _ _ zero-here in
                 record {
                   number = number-is-here ∙ number-here;
@@ -521,5 +517,5 @@ module _ (st ot ob me ta : List ℕ) (h : Header) (b rows bytes : Bytes) (can : 
                   session = λ z. leaves;
                   rowsOut = λ z. done .rowsOut ∙ ap (λ (rs : List Rec). over 0 (rowsFrom 0 rs) rows) (sym gives-are);
                   dataOut = λ z. done .dataOut ∙ ap (λ (rs : List Rec). over 0 (dataFrom rs) bytes) (sym gives-are);
-                  counts = λ z. (ap (λ (x : Answer). x .records) k ∙ need-records seated, ap (λ (x : Answer). x .bytes) k ∙ need-bytes seated);
+                  counts = λ z. (ap (λ (x : Answer). x .records) k ∙ need-records own-place, ap (λ (x : Answer). x .bytes) k ∙ need-bytes own-place);
                 }

@@ -15,15 +15,15 @@ use Rattle.isdb_mmt.specs.Objects.{Mfu, Asset, UnitEffect, mostObject, g
 use Rattle.isdb_mmt.specs.Needs.{heldLength, unitArea, unitsNeed}
 use Rattle.isdb_mmt.specs.Lent.{over}
 use Rattle.isdb_mmt.specs.MediaPush.{heldFor, heldOver}
-use Rattle.isdb_mmt.specs.Survey.{surveyed, surveyAll, headUnit, grownTo, droppedUnit}
+use Rattle.isdb_mmt.specs.MediaEffect.{withUnit, withEachUnit, headUnit, grownTo, droppedUnit}
 use Rattle.isdb_mmt.specs.MediaCommit.{dataIn}
 use Rattle.isdb_mmt.specs.declared.mpu.FragmentationIndicator.{FragmentationIndicator}
 use Rattle.isdb_mmt.specs.declared.mpu.FragmentationIndicator.the-variants.{Complete, Head, Middle, Last}
 use Rattle.isdb_mmt.specs.declared.mpu.Unit.{Unit as DataUnit}
-use Rattle.isdb_mmt.specs.declared.decoder.reassembler.Survey.{Survey}
+use Rattle.isdb_mmt.specs.declared.decoder.reassembler.MediaEffect.{MediaEffect}
 use Rattle.isdb_mmt.specs.declared.decoder.media.Object.{Object}
-use Rattle.isdb_mmt.proofs.Names.{clash}
-use Rattle.isdb_mmt.proofs.Told.{grown-none, grown-some}
+use Rattle.isdb_mmt.proofs.Names.{true-not-false}
+use Rattle.isdb_mmt.proofs.EffectsModelled.{grown-none, grown-some}
 
 abbrev pub piece : FragmentationIndicator → Bytes → DataUnit → PayloadUnit
 piece f q u = record { fragment = f; mfu = u .mfu; itemId = u .«item_id»; bytes = partOf q (u .«data») }
@@ -71,18 +71,18 @@ module _ (m : MpuPacket) (q : Bytes) (at : ℕ) (l : Bytes) where
   head-gives [] a = refl
   head-gives (u ∷ us) a = head-gives us (afterUnit a (unitEffect m a (piece Head q u)))
 
-  pub head-held : (mpu : ℕ) (rap : Bool) (us : List DataUnit) (a : Asset) (t : Survey) → heldOver at (a .held) l ≡ over at (partOf q (t .last)) l
-      → heldOver at (afterUnits m a (map (piece Head q) us) .held) l ≡ over at (partOf q (surveyAll Head mpu rap q t us .last)) l
-  unfolding afterUnits unitEffect afterUnit effectOf objectOf surveyAll surveyed headUnit
+  pub head-held : (mpu : ℕ) (rap : Bool) (us : List DataUnit) (a : Asset) (t : MediaEffect) → heldOver at (a .held) l ≡ over at (partOf q (t .last)) l
+      → heldOver at (afterUnits m a (map (piece Head q) us) .held) l ≡ over at (partOf q (withEachUnit Head mpu rap q t us .last)) l
+  unfolding afterUnits unitEffect afterUnit effectOf objectOf withEachUnit withUnit headUnit
   head-held mpu rap [] a t e = e
   head-held mpu rap (u ∷ us) a t e =
-      head-held mpu rap us (afterUnit a (unitEffect m a (piece Head q u))) (surveyed Head mpu rap t u (length (partOf q (u .«data»)))) refl
+      head-held mpu rap us (afterUnit a (unitEffect m a (piece Head q u))) (withUnit Head mpu rap t u (length (partOf q (u .«data»)))) refl
 
-  pub head-fits : (mpu : ℕ) (rap : Bool) (us : List DataUnit) (t : Survey) → length (partOf q (t .last)) ≤ t .longest
-      → length (partOf q (surveyAll Head mpu rap q t us .last)) ≤ surveyAll Head mpu rap q t us .longest
-  unfolding surveyAll surveyed headUnit
+  pub head-fits : (mpu : ℕ) (rap : Bool) (us : List DataUnit) (t : MediaEffect) → length (partOf q (t .last)) ≤ t .longest
+      → length (partOf q (withEachUnit Head mpu rap q t us .last)) ≤ withEachUnit Head mpu rap q t us .longest
+  unfolding withEachUnit withUnit headUnit
   head-fits mpu rap [] t e = e
-  head-fits mpu rap (u ∷ us) t e = head-fits mpu rap us (surveyed Head mpu rap t u (length (partOf q (u .«data»)))) (omega arith)
+  head-fits mpu rap (u ∷ us) t e = head-fits mpu rap us (withUnit Head mpu rap t u (length (partOf q (u .«data»)))) (omega arith)
 
   -- ---- Middle: each unit's data behind what is held
   no-outs : (o : Option Mfu) (g : Mfu) → effectOf Middle o g .outs ≡ []
@@ -133,14 +133,14 @@ module _ (m : MpuPacket) (q : Bytes) (at : ℕ) (l : Bytes) where
             itemId = g .itemId;
             bytes = append-assoc (g .bytes) (partOf q (u .«data»)) (dataIn q us) i;
           }))
-      go false k again = clash true refl (sym h ∙ ap isSome (middle-none us (afterUnit a (unitEffect m a (piece Middle q u))) k))
+      go false k again = true-not-false true refl (sym h ∙ ap isSome (middle-none us (afterUnit a (unitEffect m a (piece Middle q u))) k))
 
   -- ---- Last: the first unit ends what is held
-  last-quiet : (mpu : ℕ) (rap : Bool) (us : List DataUnit) (t : Survey) → t .held ≡ false → surveyAll Last mpu rap q t us ≡ t
-  unfolding surveyAll surveyed
+  last-quiet : (mpu : ℕ) (rap : Bool) (us : List DataUnit) (t : MediaEffect) → t .held ≡ false → withEachUnit Last mpu rap q t us ≡ t
+  unfolding withEachUnit withUnit
   last-quiet mpu rap [] t e = refl
   last-quiet mpu rap (u ∷ us) t e =
-      ap (λ (x : Survey). surveyAll Last mpu rap q x us) (grown-none true t (u .«data») (length (partOf q (u .«data»))) e)
+      ap (λ (x : MediaEffect). withEachUnit Last mpu rap q x us) (grown-none true t (u .«data») (length (partOf q (u .«data»))) e)
       ∙ last-quiet mpu rap us t e
 
   last-none : (us : List DataUnit) (a : Asset) → a .held ≡ none
@@ -172,24 +172,24 @@ module _ (m : MpuPacket) (q : Bytes) (at : ℕ) (l : Bytes) where
       ap (λ (o : Option Mfu). heldOver at o l) (last-none us a1 (last-ends (a .held) (objectOf m (piece Last q u))) .1)
 
   -- `r` is the survey after them
-  pub record Ended (us : List DataUnit) (a : Asset) (t r : Survey) : Type 0 where
+  pub record Ended (us : List DataUnit) (a : Asset) (t r : MediaEffect) : Type 0 where
     pub object : Mfu
     pub was : a .held ≡ some object
     pub gives : deliveredBy m a (map (piece Last q) us) ≡ grown object (partOf q (r .last)) ∷ []
     pub bytes : r .bytes ≡ t .bytes + (length (object .bytes) + length (partOf q (r .last)))
     pub most : length (object .bytes) + length (partOf q (r .last)) ≤ mostObject
 
-  last-turn : (mpu : ℕ) (rap : Bool) (u : DataUnit) (us : List DataUnit) (a : Asset) (t : Survey) (g : Mfu) → a .held ≡ some g → t .held ≡ true
-      → t .object .length ≡ length (g .bytes) → t .records ≡ 0 → (surveyAll Last mpu rap q t (u ∷ us) .records ≡ 0 → ⊥)
-      → Ended (u ∷ us) a t (surveyAll Last mpu rap q t (u ∷ us))
-  unfolding surveyAll surveyed deliveredBy unitEffect afterUnit effectOf objectOf continued grownTo droppedUnit
+  last-turn : (mpu : ℕ) (rap : Bool) (u : DataUnit) (us : List DataUnit) (a : Asset) (t : MediaEffect) (g : Mfu) → a .held ≡ some g → t .held ≡ true
+      → t .object .length ≡ length (g .bytes) → t .records ≡ 0 → (withEachUnit Last mpu rap q t (u ∷ us) .records ≡ 0 → ⊥)
+      → Ended (u ∷ us) a t (withEachUnit Last mpu rap q t (u ∷ us))
+  unfolding withEachUnit withUnit deliveredBy unitEffect afterUnit effectOf objectOf continued grownTo droppedUnit
   last-turn mpu rap u us a t g e eh el z ne = go (leb (length (g .bytes) + length d) mostObject) refl
     where
       d : Bytes
       d = partOf q (u .«data»)
 
-      after : Survey
-      after = surveyed Last mpu rap t u (length d)
+      after : MediaEffect
+      after = withUnit Last mpu rap t u (length d)
 
       turned : after ≡ cond (leb (length (g .bytes) + length d) mostObject) (grownTo true t (u .«data») (length (g .bytes) + length d)) (droppedUnit t (u .«data»))
       turned = grown-some true t (u .«data») (length d) (length (g .bytes)) eh el
@@ -203,13 +203,13 @@ module _ (m : MpuPacket) (q : Bytes) (at : ℕ) (l : Bytes) where
       outs : unitEffect m a (piece Last q u) .outs ≡ continued (leb (length (g .bytes) + length d) mostObject) true (grown g d) .outs
       outs = ap (λ (o : Option Mfu). effectOf Last o (objectOf m (piece Last q u)) .outs) e
 
-      go : (b : Bool) → leb (length (g .bytes) + length d) mostObject ≡ b → Ended (u ∷ us) a t (surveyAll Last mpu rap q after us)
+      go : (b : Bool) → leb (length (g .bytes) + length d) mostObject ≡ b → Ended (u ∷ us) a t (withEachUnit Last mpu rap q after us)
       go true f =
           let w : after ≡ grownTo true t (u .«data») (length (g .bytes) + length d) = rw f at turned in
-          let r : surveyAll Last mpu rap q after us ≡ grownTo true t (u .«data») (length (g .bytes) + length d) =
-          ap (λ (x : Survey). surveyAll Last mpu rap q x us) w ∙ last-quiet mpu rap us (grownTo true t (u .«data») (length (g .bytes) + length d)) refl in
+          let r : withEachUnit Last mpu rap q after us ≡ grownTo true t (u .«data») (length (g .bytes) + length d) =
+          ap (λ (x : MediaEffect). withEachUnit Last mpu rap q x us) w ∙ last-quiet mpu rap us (grownTo true t (u .«data») (length (g .bytes) + length d)) refl in
           let y : unitEffect m a (piece Last q u) .outs ≡ grown g d ∷ [] = rw f at outs in
-          subst (λ (x : Survey). Ended (u ∷ us) a t x) (sym r)
+          subst (λ (x : MediaEffect). Ended (u ∷ us) a t x) (sym r)
           (record {
             object = g;
             was = e;
@@ -221,18 +221,18 @@ module _ (m : MpuPacket) (q : Bytes) (at : ℕ) (l : Bytes) where
           })
       go false f =
           let w : after ≡ droppedUnit t (u .«data») = rw f at turned in
-          let r : surveyAll Last mpu rap q after us ≡ droppedUnit t (u .«data») =
-          ap (λ (x : Survey). surveyAll Last mpu rap q x us) w ∙ last-quiet mpu rap us (droppedUnit t (u .«data»)) refl in
-          absurd (ne (ap (λ (x : Survey). x .records) r ∙ z))
+          let r : withEachUnit Last mpu rap q after us ≡ droppedUnit t (u .«data») =
+          ap (λ (x : MediaEffect). withEachUnit Last mpu rap q x us) w ∙ last-quiet mpu rap us (droppedUnit t (u .«data»)) refl in
+          absurd (ne (ap (λ (x : MediaEffect). x .records) r ∙ z))
 
-  pub last-given : (mpu : ℕ) (rap : Bool) (us : List DataUnit) (a : Asset) (t : Survey) → t .held ≡ isSome (a .held) → t .object ≡ heldFor (a .held)
-      → t .records ≡ 0 → (surveyAll Last mpu rap q t us .records ≡ 0 → ⊥) → Ended us a t (surveyAll Last mpu rap q t us)
-  unfolding surveyAll surveyed isSome
+  pub last-given : (mpu : ℕ) (rap : Bool) (us : List DataUnit) (a : Asset) (t : MediaEffect) → t .held ≡ isSome (a .held) → t .object ≡ heldFor (a .held)
+      → t .records ≡ 0 → (withEachUnit Last mpu rap q t us .records ≡ 0 → ⊥) → Ended us a t (withEachUnit Last mpu rap q t us)
+  unfolding withEachUnit withUnit isSome
   last-given mpu rap [] a t eh eo z ne = absurd (ne z)
   last-given mpu rap (u ∷ us) a t eh eo z ne = by-held (a .held) refl
     where
-      by-held : (o : Option Mfu) → a .held ≡ o → Ended (u ∷ us) a t (surveyAll Last mpu rap q t (u ∷ us))
+      by-held : (o : Option Mfu) → a .held ≡ o → Ended (u ∷ us) a t (withEachUnit Last mpu rap q t (u ∷ us))
       by-held none e =
-          absurd (ne (ap (λ (x : Survey). x .records) (last-quiet mpu rap (u ∷ us) t (eh ∙ ap isSome e)) ∙ z))
+          absurd (ne (ap (λ (x : MediaEffect). x .records) (last-quiet mpu rap (u ∷ us) t (eh ∙ ap isSome e)) ∙ z))
       by-held (some g) e =
           last-turn mpu rap u us a t g e (eh ∙ ap isSome e) (ap (λ (o : Object). o .length) (eo ∙ ap heldFor e)) z ne

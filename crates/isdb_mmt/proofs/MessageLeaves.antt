@@ -15,17 +15,17 @@ use Rattle.isdb_tlv.proofs.Guards.{either}
 use Rattle.isdb_mmt.specs.Packet.{Bytes}
 use Rattle.isdb_mmt.specs.Maps.{put, isSome}
 use Rattle.isdb_mmt.specs.Objects.{Asset}
-use Rattle.isdb_mmt.specs.Joins.{PartialMessage}
+use Rattle.isdb_mmt.specs.Reassembly.{PartialMessage}
 use Rattle.isdb_mmt.specs.Model.{State, Control as ControlState, idleControl}
 use Rattle.isdb_mmt.specs.Needs.{partialLength}
 use Rattle.isdb_mmt.specs.Layout.{controlPlaces, controlSize, mediaPlaces, mostMediaIds, mostControlIds, mostSections, stateSize, sectionPlaces, sectionSize}
 use Rattle.isdb_mmt.specs.Lent.{part, placesFrom, namesFrom, foundFrom, indexed}
 use Rattle.isdb_mmt.specs.Session.{Session, limitsOf, usedOf, latestOf, timeOf, countersOf, controlPlaceOf, sectionPlaceOf, controlFields}
 use Rattle.isdb_mmt.specs.Check.{mediaIn, controlsIn, sectionsIn, controlSound, lengthsOf, Sound}
-use Rattle.isdb_mmt.specs.View.{given, controlStateOf, assetEntry, controlEntry, sectionEntry, tableAt, viewBy, view}
+use Rattle.isdb_mmt.specs.View.{given, controlStateOf, assetEntry, controlEntry, sectionEntry, keptTableAt, viewBy, view}
 use Rattle.isdb_mmt.specs.Opening.{lent}
 use Rattle.isdb_mmt.specs.MediaPush.{withUsed}
-use Rattle.isdb_mmt.specs.Placing.{tableLength, longIn, aggregatedIn, controlFor, latestFor}
+use Rattle.isdb_mmt.specs.PlacesOf.{tableLength, longIn, aggregatedIn, controlFor, latestFor}
 use Rattle.isdb_mmt.specs.Leaves.{joinedIn, keptPlace, usedFor, withControl, withLatest, stateOfTables, bytesOver, keptOver, controlPlaceFor}
 use Rattle.isdb_mmt.specs.declared.decoder.place.Found.the-variants.{At, Nothing}
 use Rattle.isdb_mmt.specs.declared.decoder.place.PlaceFor.the-variants.{Own, Free}
@@ -37,7 +37,7 @@ use Rattle.isdb_mmt.specs.declared.decoder.control.Control.{Control}
 use Rattle.isdb_mmt.proofs.Lent.{length-over, part-over, names-of, length-places, length-names}
 use Rattle.isdb_mmt.proofs.Stored.{apart, limits-own, time-own}
 use Rattle.isdb_mmt.proofs.Sessions.{Sort, media, controls, sections, inUse, named, place-set, place-new, place-apart, used-apart}
-use Rattle.isdb_mmt.proofs.Views.{keys, Stands, stands, absent, indexed-set, indexed-snoc, indexed-same, keys-indexed}
+use Rattle.isdb_mmt.proofs.Views.{keys, FoundAt, found-at, absent, indexed-set, indexed-snoc, indexed-same, keys-indexed}
 use Rattle.isdb_mmt.proofs.Limits.{passed, Passed}
 use Rattle.isdb_mmt.proofs.Checks.{control-was}
 use Rattle.isdb_mmt.proofs.PlacesFor.{length-media, place-for-was-old, place-for-was-new, length-map, length-indexed, every-at, set-indexed}
@@ -55,11 +55,11 @@ pub record Says (s s′ : Session) (n : State) : Type 0 where
   pub controls : indexed (controlEntry (limitsOf (s .state)) s′) 0 (controlsIn (s′ .state)) ≡ n .controls
   pub plt :
       given (latestOf (s′ .state) .plt)
-      (tableAt (limitsOf (s .state)) s′ (limitsOf (s .state) .sections + limitsOf (s .state) .«control_ids») (latestOf (s′ .state) .«plt_length»))
+      (keptTableAt (limitsOf (s .state)) s′ (limitsOf (s .state) .sections + limitsOf (s .state) .«control_ids») (latestOf (s′ .state) .«plt_length»))
       ≡ n .store .plt
   pub tot :
       given (latestOf (s′ .state) .tot)
-      (tableAt (limitsOf (s .state)) s′ (limitsOf (s .state) .sections + limitsOf (s .state) .«control_ids» + 1) (latestOf (s′ .state) .«tot_length»))
+      (keptTableAt (limitsOf (s .state)) s′ (limitsOf (s .state) .sections + limitsOf (s .state) .«control_ids» + 1) (latestOf (s′ .state) .«tot_length»))
       ≡ n .store .tot
   pub kept : indexed (sectionEntry (limitsOf (s .state)) s′) 0 (sectionsIn (s′ .state)) ≡ n .store .kept
   pub others : s′ .others ≡ n .store .others
@@ -120,7 +120,7 @@ control-bytes c a b m t e f =
     let p : given (c .joining) (join (c .«long_length») (c .aggregated) a) ≡ given (c .joining) (join (c .«long_length») (c .aggregated) b) =
     either (c .joining) (λ y. rw (e y)) (λ y. rw y) in
     let q : given (c .mpt) m ≡ given (c .mpt) t = either (c .mpt) (λ y. rw (f y)) (λ y. rw y) in
-    λ i. record { line = record { number = given (c .seen) (c .sequence); part = p i }; mpt = q i }
+    λ i. record { reassembly = record { number = given (c .seen) (c .sequence); partial = p i }; mpt = q i }
 
 join-laid : (o : Option PartialMessage) (area i : ℕ) (l : Bytes) → partialLength o ≤ area → (i + 1) * area ≤ length l
     → given (isSome o) (join (longIn o) (aggregatedIn o) (part (i * area) (partialLength o) (bytesOver (i * area) (joinedIn o) l))) ≡ o
@@ -214,12 +214,12 @@ module _ (s : Session) (ok : Sound (s .state) (s .others) (lengthsOf s)) where
         let c : Control = getD (controlsIn st) j d in
         let q = control-was l c (every-at (controlSound l) d (controlsIn st) j (ok .messages) b) in
         let e = control-bytes c (part ((0 + j) * l .«message_area») (c .length) (s .messages)) (part ((0 + j) * l .«message_area») (c .length) (s .messages))
-        (tableAt l s′ (l .sections + (0 + j)) (c .«mpt_length»)) (tableAt l s (l .sections + (0 + j)) (c .«mpt_length»)) (λ t. refl)
+        (keptTableAt l s′ (l .sections + (0 + j)) (c .«mpt_length»)) (keptTableAt l s (l .sections + (0 + j)) (c .«mpt_length»)) (λ t. refl)
         (λ t. behind (l .sections + (0 + j)) (c .«mpt_length») (omega arith) (q .1 t)) in
         λ k. (c .«packet_id», e k))
         ∙ ec
 
-    latest-same : (b : Bool) (k m : ℕ) → l .sections ≤ k → (b ≡ true → m ≤ area) → given b (tableAt l s′ k m) ≡ given b (tableAt l s k m)
+    latest-same : (b : Bool) (k m : ℕ) → l .sections ≤ k → (b ≡ true → m ≤ area) → given b (keptTableAt l s′ k m) ≡ given b (keptTableAt l s k m)
     latest-same true k m h q = ap some (behind k m h (q refl))
     latest-same false k m h q = refl
 
@@ -234,10 +234,10 @@ module _ (s : Session) (ok : Sound (s .state) (s .others) (lengthsOf s)) where
           assets = ap (indexed (assetEntry l s′) 0) media-same ∙ ea;
           controls = entries-same;
           plt =
-              ap (λ (x : Latest). given (x .plt) (tableAt l s′ (l .sections + l .«control_ids») (x .«plt_length»))) lt
+              ap (λ (x : Latest). given (x .plt) (keptTableAt l s′ (l .sections + l .«control_ids») (x .«plt_length»))) lt
               ∙ latest-same (latestOf st .plt) (l .sections + l .«control_ids») (latestOf st .«plt_length») (omega arith) (ok .plt) ∙ el;
           tot =
-              ap (λ (x : Latest). given (x .tot) (tableAt l s′ (l .sections + l .«control_ids» + 1) (x .«tot_length»))) lt
+              ap (λ (x : Latest). given (x .tot) (keptTableAt l s′ (l .sections + l .«control_ids» + 1) (x .«tot_length»))) lt
               ∙ latest-same (latestOf st .tot) (l .sections + l .«control_ids» + 1) (latestOf st .«tot_length») (omega arith) (ok .tot) ∙ et;
           kept =
               ap (indexed (sectionEntry l s′) 0) (sections-tables l n (r .media .1) (r .controls .1) (r .sections .1) f st (ok .there .long))
@@ -249,7 +249,7 @@ module _ (s : Session) (ok : Sound (s .state) (s .others) (lengthsOf s)) where
 
   -- ---- a message packet, whose id has or takes the place i
   module _ (n : State) (f : TablesFit l n) (id : ℕ) (c : ControlState) (fits : Fit (controlFields (controlFor id c)))
-      (joins : partialLength (c .line .part) ≤ l .«message_area») (short : tableLength (c .mpt) ≤ area)
+      (joins : partialLength (c .reassembly .partial) ≤ l .«message_area») (short : tableLength (c .mpt) ≤ area)
       (ep : view s .passing ≡ n .passing) (ea : view s .assets ≡ n .assets) (ec : put id c (controlEntries s) ≡ n .controls) (ei : view s .time ≡ n .time)
       (i : ℕ) (free : i < l .«control_ids») where
     abbrev st1 : List ℕ
@@ -259,7 +259,7 @@ module _ (s : Session) (ok : Sound (s .state) (s .others) (lengthsOf s)) where
     st2 = withLatest (n .store) (stateOfTables n st1)
 
     abbrev messages2 : Bytes
-    messages2 = bytesOver (i * l .«message_area») (joinedIn (c .line .part)) (s .messages)
+    messages2 = bytesOver (i * l .«message_area») (joinedIn (c .reassembly .partial)) (s .messages)
 
     abbrev t0 : Bytes
     t0 = keptOver area 0 (n .store .kept) (s .tables)
@@ -398,10 +398,10 @@ module _ (s : Session) (ok : Sound (s .state) (s .others) (lengthsOf s)) where
     unfolding controlFor controlStateOf
     own-entry =
         let z : 0 + i ≡ i = omega arith in
-        let pj = join-laid (c .line .part) (l .«message_area») i (s .messages) joins in-messages in
+        let pj = join-laid (c .reassembly .partial) (l .«message_area») i (s .messages) joins in-messages in
         let pm = laid area (c .mpt) t2 (l .sections + i) short (in2 _ (omega arith)) in
-        let pn = given-back (c .line .number) in
-        rw z (λ k. (id, record { line = record { number = pn k; part = pj k }; mpt = pm k }))
+        let pn = given-back (c .reassembly .number) in
+        rw z (λ k. (id, record { reassembly = record { number = pn k; partial = pj k }; mpt = pm k }))
 
     other-entry : (j : ℕ) → j < length (controlsIn st) → (j ≡ i → ⊥)
         → controlEntry l s2 (0 + j) (getD (controlsIn st) j (controlFor id c)) ≡ controlEntry l s (0 + j) (getD (controlsIn st) j (controlFor id c))
@@ -410,10 +410,10 @@ module _ (s : Session) (ok : Sound (s .state) (s .others) (lengthsOf s)) where
         let z : 0 + j ≡ j = omega arith in
         let k : j < l .«control_ids» = omega (arith, length-controls st, ok .controls) in
         let q = control-was l d (every-at (controlSound l) (controlFor id c) (controlsIn st) j (ok .messages) b) in
-        let g : tableLength (joinedIn (c .line .part)) ≤ l .«message_area» = rw (joined-length (c .line .part)) joins in
+        let g : tableLength (joinedIn (c .reassembly .partial)) ≤ l .«message_area» = rw (joined-length (c .reassembly .partial)) joins in
         let e = control-bytes d (part (j * l .«message_area») (d .length) messages2) (part (j * l .«message_area») (d .length) (s .messages))
-        (tableAt l s2 (l .sections + j) (d .«mpt_length»)) (tableAt l s (l .sections + j) (d .«mpt_length»))
-        (λ t. laid-apart (l .«message_area») (joinedIn (c .line .part)) (s .messages) i g in-messages j (d .length) ne (q .0 t))
+        (keptTableAt l s2 (l .sections + j) (d .«mpt_length»)) (keptTableAt l s (l .sections + j) (d .«mpt_length»))
+        (λ t. laid-apart (l .«message_area») (joinedIn (c .reassembly .partial)) (s .messages) i g in-messages j (d .length) ne (q .0 t))
         (λ t. past j (d .«mpt_length») k ne (q .1 t)) in
         rw z (λ x. (d .«packet_id», e x))
 
@@ -434,8 +434,8 @@ module _ (s : Session) (ok : Sound (s .state) (s .others) (lengthsOf s)) where
           passing = ep;
           assets = ap (indexed (assetEntry l s2) 0) media-2 ∙ ea;
           controls = es ∙ ec;
-          plt = ap (λ (x : Latest). given (x .plt) (tableAt l s2 (l .sections + l .«control_ids») (x .«plt_length»))) lt ∙ plt-2;
-          tot = ap (λ (x : Latest). given (x .tot) (tableAt l s2 (l .sections + l .«control_ids» + 1) (x .«tot_length»))) lt ∙ tot-2;
+          plt = ap (λ (x : Latest). given (x .plt) (keptTableAt l s2 (l .sections + l .«control_ids») (x .«plt_length»))) lt ∙ plt-2;
+          tot = ap (λ (x : Latest). given (x .tot) (keptTableAt l s2 (l .sections + l .«control_ids» + 1) (x .«tot_length»))) lt ∙ tot-2;
           kept = ap (indexed (sectionEntry l s2) 0) sections-t2 ∙ lie-read area (n .store .kept) 0 t3 kept-2;
           others = refl;
           time =
@@ -449,18 +449,18 @@ module _ (s : Session) (ok : Sound (s .state) (s .others) (lengthsOf s)) where
 
     -- ---- a place that is there
     module _ (place-for : controlPlaceFor st id ≡ Own i) where
-      stands-old : Stands (controlEntries s) id i
+      located-old : FoundAt (controlEntries s) id i
       unfolding controlPlaceFor
-      stands-old =
+      located-old =
           let e : foundFrom 0 (keys (controlEntries s)) id ≡ At i =
           ap (λ (ns : List ℕ). foundFrom 0 ns id) (control-names s)
           ∙ place-for-was-old (namesFrom (usedOf st .«control_ids») controlSize controlPlaces st) (l .«control_ids») id i place-for in
           let z : i - 0 ≡ i = omega arith in
-          rw z at (stands (controlEntries s) id 0 i e .1)
+          rw z at (found-at (controlEntries s) id 0 i e .1)
 
       pub controls-old : controlsIn st2 ≡ set (controlsIn st) i (controlFor id c)
       controls-old =
-          let w = stands-old in
+          let w = located-old in
           let lu : length (controlEntries s) ≡ usedOf st .«control_ids» = length-indexed (controlEntry l s) 0 (controlsIn st) ∙ length-controls st in
           let u : i < usedOf st .«control_ids» = omega (arith, w .within, lu) in
           let k : length (n .controls) ≤ mostControlIds = omega (arith, f .controls, ranges .ranges .controls) in
@@ -480,7 +480,7 @@ module _ (s : Session) (ok : Sound (s .state) (s .others) (lengthsOf s)) where
           ∙ set-indexed (controlEntry l s2) (controlEntry l s) (controlFor id c) (controlsIn st) 0 i (controlEntry l s2 (0 + i) (controlFor id c))
           (λ j b ne. other-entry j b ne)
           ∙ ap (λ (x : ℕ × ControlState). set (controlEntries s) i x) own-entry
-          ∙ sym (stands-old .stored c))
+          ∙ sym (located-old .stored c))
 
     -- ---- a new place
     module _ (place-for : controlPlaceFor st id ≡ Free i) where

@@ -3,7 +3,7 @@ use Prim.Native.Nat.{ℕ, _+_, _-_, _*_, _≤_, _<_, max}
 use mathlib.Core.Path.{_≡_, refl, sym, ap, _∙_, subst}
 use mathlib.Core.Bool.{Bool, true, false}
 use mathlib.Core.Option.{Option}
-use mathlib.Core.List.{List, [], map}
+use mathlib.Core.List.{List, map}
 use native.Mathlib.Omega.{arith}
 use native.Mathlib.Nat.{zero-add, mul-le-mul-right}
 use lib.ListN.{length, take, drop, replicate, length-replicate, length-drop}
@@ -11,7 +11,7 @@ use lib.Seq.{length-take-le}
 use Rattle.isdb_mmt.specs.Layout.{mostSections, mostMessageArea, mostTableArea, mostCount, tableIds, sectionPlaces, sectionSize}
 use Rattle.isdb_mmt.specs.Packet.{Bytes}
 use Rattle.isdb_mmt.specs.Maps.{isSome}
-use Rattle.isdb_mmt.specs.Joins.{PartialMessage, cutOf}
+use Rattle.isdb_mmt.specs.Reassembly.{PartialMessage, cutOf}
 use Rattle.isdb_mmt.specs.Kept.{KeptTables, Table, tableRead, mptAfterAll, storedAll, countedAll}
 use Rattle.isdb_mmt.specs.Needs.{tablesNeed}
 use Rattle.isdb_mmt.specs.Octets.{Octets}
@@ -19,21 +19,21 @@ use Rattle.isdb_mmt.specs.Lent.{part}
 use Rattle.isdb_mmt.specs.Session.{Session, limitsOf, usedOf, latestOf}
 use Rattle.isdb_mmt.specs.Check.{lengthsOf, Sound}
 use Rattle.isdb_mmt.specs.View.{given, view}
-use Rattle.isdb_mmt.specs.Placing.{tableLength, latestFor}
+use Rattle.isdb_mmt.specs.PlacesOf.{tableLength, latestFor}
 use Rattle.isdb_mmt.specs.Leaves.{sectionRows, bytesOver, keptOver, latestOver}
-use Rattle.isdb_mmt.specs.Verdict.{indexSize, indexOf}
-use Rattle.isdb_mmt.specs.Placed.{bytesOf, placedCut}
-use Rattle.isdb_mmt.specs.Tally.{Tally}
-use Rattle.isdb_mmt.specs.Dry.{Logged, withLog, Dry, dryOf, drawnRecent, Areas, drawn, Versions, Walked, CanWalk}
+use Rattle.isdb_mmt.specs.TableOutcome.{indexSize, indexOf}
+use Rattle.isdb_mmt.specs.Placed.{tableBytes, placedCut}
+use Rattle.isdb_mmt.specs.TableState.{TableState}
+use Rattle.isdb_mmt.specs.PendingTables.{Logged, withLog, PendingTables, pendingOf, committedRecent, Areas, committed, Versions, Walked, CanWalk}
 use Rattle.isdb_mmt.specs.Commit.{putTables, putRecent, putAreas, loggedFrom, AllFit, CanStoreAreas}
-use Rattle.isdb_mmt.specs.Start.{recentAt, pltAt, totAt, goingIn, recentLength, latestWith, countersWith, malformedMore, CountsFit}
+use Rattle.isdb_mmt.specs.Start.{recentAt, pltAt, totAt, walkStart, recentLength, latestWith, countersWith, malformedMore, CountsFit}
 use Rattle.isdb_mmt.specs.declared.decoder.limits.Limits.{Limits}
-use Rattle.isdb_mmt.specs.declared.decoder.verdict.Recent.{Recent}
-use Rattle.isdb_mmt.specs.declared.decoder.walk.Going.{Going}
+use Rattle.isdb_mmt.specs.declared.decoder.table_outcome.Recent.{Recent}
+use Rattle.isdb_mmt.specs.declared.decoder.walk.WalkState.{WalkState}
 use Rattle.isdb_mmt.specs.declared.decoder.counts.Counters.{Counters}
 use Rattle.isdb_mmt.proofs.Checks.{count-was}
-use Rattle.isdb_mmt.proofs.Placing.{bytes-cut, cut-stands}
-use Rattle.isdb_mmt.proofs.Drawn.{tables-stand}
+use Rattle.isdb_mmt.proofs.Placing.{bytes-cut, cut-located}
+use Rattle.isdb_mmt.proofs.Committed.{tables-located}
 use Rattle.isdb_mmt.proofs.Logging.{AllHeld, RecentHeld, Recents, recents-all}
 use Rattle.isdb_mmt.proofs.Loaded.{no-log, met, areas, version-start, store-view, held-view, versions-view}
 use Rattle.isdb_mmt.proofs.Commits.{logged-all, all-each, put-length, put-apart, recent-length, recent-apart, recent-is}
@@ -61,15 +61,15 @@ module _ (s : Session) (ok : Sound (s .state) (s .others) (lengthsOf s)) (i : �
   abbrev log₀ : List ℕ
   log₀ = replicate mostSections 0
 
-  abbrev g₀ : Going
-  g₀ = goingIn (s .state) (s .tables) c₀ mpt₀
+  abbrev g₀ : WalkState
+  g₀ = walkStart (s .state) (s .tables) c₀ mpt₀
 
   abbrev c₁ : Counters
   c₁ = malformedMore c₀ (cutOf j .malformed)
 
-  pub message-can : CountsFit c₀ → length (s .others) ≡ tableIds → (seam : List ℕ) → length seam ≡ mostTableArea → length m ≤ mostMessageArea
-      → CanWalk ix₀ log₀ (s .others) seam g₀ m 0 mostCount
-  message-can f lo seam ls lm =
+  pub message-can : CountsFit c₀ → length (s .others) ≡ tableIds → (assembled : List ℕ) → length assembled ≡ mostTableArea → length m ≤ mostMessageArea
+      → CanWalk ix₀ log₀ (s .others) assembled g₀ m 0 mostCount
+  message-can f lo assembled ls lm =
       record {
         copies =
             record {
@@ -78,7 +78,7 @@ module _ (s : Session) (ok : Sound (s .state) (s .others) (lengthsOf s)) (i : �
               othersLong = lo;
               used = ok .there .sections;
             };
-        seamLong = ls;
+        assembledLong = ls;
         room =
             record {
               tables = f .tables;
@@ -105,11 +105,11 @@ module _ (s : Session) (ok : Sound (s .state) (s .others) (lengthsOf s)) (i : �
   abbrev a : Areas
   a = areas s ok m log₀ (no-log mostSections) mpt₀ mptAt c₁ c₀
 
-  abbrev before : Tally
-  before = drawn m a c₁ (dryOf ix₀ log₀ (s .others) g₀)
+  abbrev before : TableState
+  before = committed m a c₁ (pendingOf ix₀ log₀ (s .others) g₀)
 
   abbrev ts : List Table
-  ts = map tableRead (bytesOf (placedCut j))
+  ts = map tableRead (tableBytes (placedCut j))
 
   same-tables : ts ≡ given-tables
   same-tables = ap (map tableRead) (bytes-cut j)
@@ -117,7 +117,7 @@ module _ (s : Session) (ok : Sound (s .state) (s .others) (lengthsOf s)) (i : �
   same-store : before .store ≡ store-before
   same-store = store-view s ok m log₀ (no-log mostSections) mpt₀ mptAt c₁ c₀
 
-  versions : Versions m a (dryOf ix₀ log₀ (s .others) g₀)
+  versions : Versions m a (pendingOf ix₀ log₀ (s .others) g₀)
   versions = versions-view s ok m log₀ (no-log mostSections) mpt₀ mptAt c₁ c₀ (version-start m (s .tables) mptAt there len)
 
   abbrev store-after : KeptTables
@@ -130,25 +130,21 @@ module _ (s : Session) (ok : Sound (s .state) (s .others) (lengthsOf s)) (i : �
   store-is = ap (λ (x : KeptTables). storedAll x ts) same-store ∙ ap (storedAll store-before) same-tables
 
   mpt-is : mptAfterAll (before .mpt) ts ≡ mpt-after
-  unfolding drawn
+  unfolding committed
   mpt-is = ap (mptAfterAll mpt-before) same-tables
 
-  counters-before : before .counters ≡ c₁
-  unfolding drawn
-  counters-before = refl
-
   counted-is : countedAll (before .mpt) (before .store) (before .counters) ts ≡ countedAll mpt-before store-before c₁ given-tables
-  unfolding drawn
+  unfolding committed
   counted-is =
       ap (λ (x : KeptTables). countedAll mpt-before x c₁ ts) same-store ∙ ap (λ (x : List Table). countedAll mpt-before store-before c₁ x) same-tables
 
-  held : AllHeld m (l .«table_area») 0 (dryOf ix₀ log₀ (s .others) g₀ .index)
+  held : AllHeld m (l .«table_area») 0 (pendingOf ix₀ log₀ (s .others) g₀ .index)
   held = held-view s ok m log₀ (no-log mostSections) mpt₀ mptAt c₁ c₀
 
   in-area : (there : Bool) (n at : ℕ) → (there ≡ true → n ≤ l .«table_area») → RecentHeld m (l .«table_area») 0 (recentAt (s .tables) at there n)
   in-area there n at h = record { there = λ e z. absurd (z refl); small = λ e. omega (arith, h e) }
 
-  recents : Recents m (l .«table_area») (dryOf ix₀ log₀ (s .others) g₀)
+  recents : Recents m (l .«table_area») (pendingOf ix₀ log₀ (s .others) g₀)
   recents =
       record {
         mpt = in-area there len mptAt hm;
@@ -156,7 +152,7 @@ module _ (s : Session) (ok : Sound (s .state) (s .others) (lengthsOf s)) (i : �
         tot = in-area (latestOf (s .state) .tot) (latestOf (s .state) .«tot_length») (totAt (s .state)) (ok .tot);
       }
 
-  module _ (n : ℕ) (r : Going) (ix log mine : List ℕ) (w : Walked tableRead ix₀ log₀ (s .others) g₀ (placedCut j) n (cutOf j .malformed) r ix log mine) where
+  module _ (n : ℕ) (r : WalkState) (ix log mine : List ℕ) (w : Walked tableRead ix₀ log₀ (s .others) g₀ (placedCut j) n (cutOf j .malformed) r ix log mine) where
     kept-is : length (storedAll (before .store) ts .kept) ≡ length (store-after .kept)
     kept-is = ap (λ (x : KeptTables). length (x .kept)) store-is
 
@@ -165,23 +161,23 @@ module _ (s : Session) (ok : Sound (s .state) (s .others) (lengthsOf s)) (i : �
     pub message-full : r .full ≡ true → mostSections < length (store-after .kept)
     message-full y =
         omega
-        (arith, kept-is, full-above tableRead tables-stand ix₀ log₀ (s .others) g₀ (placedCut j) n (cutOf j .malformed) r ix log mine w m a c₁ versions (cut-stands j) refl y)
+        (arith, kept-is, full-above tableRead tables-located ix₀ log₀ (s .others) g₀ (placedCut j) n (cutOf j .malformed) r ix log mine w m a c₁ versions (cut-located j) refl y)
 
     pub message-grows : usedOf (s .state) .sections ≤ length (store-after .kept)
     message-grows =
         omega
-        (arith, kept-is, kept-grows tableRead tables-stand ix₀ log₀ (s .others) g₀ (placedCut j) n (cutOf j .malformed) r ix log mine w m a c₁ versions (cut-stands j))
+        (arith, kept-is, kept-grows tableRead tables-located ix₀ log₀ (s .others) g₀ (placedCut j) n (cutOf j .malformed) r ix log mine w m a c₁ versions (cut-located j))
 
     module _ (y : r .full ≡ false) where
-      is : AsModel before ts (drawn m a c₁ (dryOf ix log mine r))
-      is = walk-is tableRead tables-stand ix₀ log₀ (s .others) g₀ (placedCut j) n (cutOf j .malformed) r ix log mine w m a c₁ versions (cut-stands j) y
+      is : AsModel before ts (committed m a c₁ (pendingOf ix log mine r))
+      is = walk-is tableRead tables-located ix₀ log₀ (s .others) g₀ (placedCut j) n (cutOf j .malformed) r ix log mine w m a c₁ versions (cut-located j) y
 
       pub message-used : r .used ≡ length (store-after .kept)
       message-used =
-          used-after tableRead tables-stand ix₀ log₀ (s .others) g₀ (placedCut j) n (cutOf j .malformed) r ix log mine w m a c₁ versions (cut-stands j) y ∙ kept-is
+          used-after tableRead tables-located ix₀ log₀ (s .others) g₀ (placedCut j) n (cutOf j .malformed) r ix log mine w m a c₁ versions (cut-located j) y ∙ kept-is
 
       pub message-longest : r .longest ≡ tablesNeed store-before given-tables
-      unfolding drawn
+      unfolding committed
       message-longest =
           is .longest
           ∙ zero-max (tablesNeed (before .store) ts)
@@ -194,11 +190,11 @@ module _ (s : Session) (ok : Sound (s .state) (s .others) (lengthsOf s)) (i : �
       -- ---- what is left
 
       pub message-others : mine ≡ store-after .others
-      unfolding drawn
+      unfolding committed
       message-others = ap (λ (x : KeptTables). x .others) (is .store ∙ store-is)
 
       pub message-counters : countersWith c₀ r ≡ (countedAll mpt-before store-before c₁ given-tables)
-      unfolding drawn
+      unfolding committed
       message-counters = counters-are ix log mine c₁ r (w .bad) ∙ is .counters ∙ counted-is
 
       module _ (few : r .used ≤ l .sections) (fits : r .longest ≤ l .«table_area») where
@@ -207,16 +203,16 @@ module _ (s : Session) (ok : Sound (s .state) (s .others) (lengthsOf s)) (i : �
 
         all-fit : AllFit (l .«table_area») m es
         all-fit =
-            fits-after tableRead tables-stand ix₀ log₀ (s .others) g₀ (placedCut j) n (cutOf j .malformed) r ix log mine w m a c₁ versions (cut-stands j) y held fits
+            fits-after tableRead tables-located ix₀ log₀ (s .others) g₀ (placedCut j) n (cutOf j .malformed) r ix log mine w m a c₁ versions (cut-located j) y held fits
 
         es-length : length es ≡ r .used
         es-length =
-            length-after tableRead tables-stand ix₀ log₀ (s .others) g₀ (placedCut j) n (cutOf j .malformed) r ix log mine w m a c₁ versions (cut-stands j) y held fits
+            length-after tableRead tables-located ix₀ log₀ (s .others) g₀ (placedCut j) n (cutOf j .malformed) r ix log mine w m a c₁ versions (cut-located j) y held fits
 
-        recents-now : Recents m (l .«table_area») (dryOf ix log mine r)
+        recents-now : Recents m (l .«table_area») (pendingOf ix log mine r)
         recents-now =
-            subst (λ (d : Dry). Recents m (l .«table_area») d) (sym (w .to .now y .1))
-            (recents-all m tableRead tables-stand (l .«table_area») (placedCut j) (dryOf ix₀ log₀ (s .others) g₀) (cut-stands j) recents)
+            subst (λ (d : PendingTables). Recents m (l .«table_area») d) (sym (w .to .now y .1))
+            (recents-all m tableRead tables-located (l .«table_area») (placedCut j) (pendingOf ix₀ log₀ (s .others) g₀) (cut-located j) recents)
 
         small-of : (x : Recent) → RecentHeld m (l .«table_area») (r .longest) x → x .there ≡ true → x .length ≤ l .«table_area»
         small-of x h e = omega (arith, h .small e)
@@ -256,13 +252,13 @@ module _ (s : Session) (ok : Sound (s .state) (s .others) (lengthsOf s)) (i : �
 
         pub message-rows : Octets ix → length ix ≡ indexSize → take (sectionSize * r .used) ix ≡ sectionRows (store-after .kept)
         message-rows o li =
-            committed-rows tableRead tables-stand ix₀ log₀ (s .others) g₀ (placedCut j) n (cutOf j .malformed) r ix log mine w m a c₁ versions (cut-stands j) y held
+            committed-rows tableRead tables-located ix₀ log₀ (s .others) g₀ (placedCut j) n (cutOf j .malformed) r ix log mine w m a c₁ versions (cut-located j) y held
             fits o (omega (arith, some-sections)) room
             ∙ ap (λ (x : KeptTables). sectionRows (x .kept)) store-is
 
         -- the MPT, the PLT and the TOT
-        abbrev drawn-at : ℕ → Recent → Option Bytes
-        drawn-at k x = drawnRecent m (s .tables) (k * l .«table_area») x
+        abbrev committed-at : ℕ → Recent → Option Bytes
+        committed-at k x = committedRecent m (s .tables) (k * l .«table_area») x
 
         abbrev pltPlace : ℕ
         pltPlace = l .sections + l .«control_ids»
@@ -273,17 +269,17 @@ module _ (s : Session) (ok : Sound (s .state) (s .others) (lengthsOf s)) (i : �
         abbrev mptPlace : ℕ
         mptPlace = l .sections + i
 
-        mpt-drawn : drawn-at mptPlace (r .mpt) ≡ mpt-after
-        unfolding drawn
-        mpt-drawn = is .mpt ∙ mpt-is
+        mpt-committed : committed-at mptPlace (r .mpt) ≡ mpt-after
+        unfolding committed
+        mpt-committed = is .mpt ∙ mpt-is
 
-        plt-drawn : drawn-at pltPlace (r .plt) ≡ store-after .plt
-        unfolding drawn
-        plt-drawn = ap (λ (x : KeptTables). x .plt) (is .store ∙ store-is)
+        plt-committed : committed-at pltPlace (r .plt) ≡ store-after .plt
+        unfolding committed
+        plt-committed = ap (λ (x : KeptTables). x .plt) (is .store ∙ store-is)
 
-        tot-drawn : drawn-at totPlace (r .tot) ≡ store-after .tot
-        unfolding drawn
-        tot-drawn = ap (λ (x : KeptTables). x .tot) (is .store ∙ store-is)
+        tot-committed : committed-at totPlace (r .tot) ≡ store-after .tot
+        unfolding committed
+        tot-committed = ap (λ (x : KeptTables). x .tot) (is .store ∙ store-is)
 
         plt-room : (pltPlace + 1) * l .«table_area» ≤ length (s .tables)
         plt-room = area-room pltPlace (omega arith)
@@ -295,25 +291,25 @@ module _ (s : Session) (ok : Sound (s .state) (s .others) (lengthsOf s)) (i : �
         mpt-room = area-room mptPlace (omega (arith, hi))
 
         module _ (k : ℕ) (x : Recent) (h : RecentHeld m (l .«table_area») (r .longest) x) (q : (k + 1) * l .«table_area» ≤ length (s .tables)) where
-          there-of : x .there ≡ isSome (drawn-at k x)
+          there-of : x .there ≡ isSome (committed-at k x)
           there-of = recent-there m (s .tables) (l .«table_area») k x q (small-of x h) (h .there)
 
-          long-of : recentLength x ≡ tableLength (drawn-at k x)
+          long-of : recentLength x ≡ tableLength (committed-at k x)
           long-of = recent-long m (s .tables) (l .«table_area») k x q (small-of x h) (h .there)
 
         pub message-mpt-there : r .mpt .there ≡ isSome mpt-after
-        message-mpt-there = there-of mptPlace (r .mpt) (recents-now .mpt) mpt-room ∙ ap (λ (o : Option Bytes). isSome o) mpt-drawn
+        message-mpt-there = there-of mptPlace (r .mpt) (recents-now .mpt) mpt-room ∙ ap (λ (o : Option Bytes). isSome o) mpt-committed
 
         pub message-mpt-long : recentLength (r .mpt) ≡ tableLength mpt-after
-        message-mpt-long = long-of mptPlace (r .mpt) (recents-now .mpt) mpt-room ∙ ap tableLength mpt-drawn
+        message-mpt-long = long-of mptPlace (r .mpt) (recents-now .mpt) mpt-room ∙ ap tableLength mpt-committed
 
         pub message-latest : latestWith r ≡ latestFor store-after
         unfolding latestFor
         message-latest =
-            let a1 : r .plt .there ≡ isSome (store-after .plt) = there-of pltPlace (r .plt) (recents-now .plt) plt-room ∙ ap (λ (o : Option Bytes). isSome o) plt-drawn in
-            let a2 : recentLength (r .plt) ≡ tableLength (store-after .plt) = long-of pltPlace (r .plt) (recents-now .plt) plt-room ∙ ap tableLength plt-drawn in
-            let a3 : r .tot .there ≡ isSome (store-after .tot) = there-of totPlace (r .tot) (recents-now .tot) tot-room ∙ ap (λ (o : Option Bytes). isSome o) tot-drawn in
-            let a4 : recentLength (r .tot) ≡ tableLength (store-after .tot) = long-of totPlace (r .tot) (recents-now .tot) tot-room ∙ ap tableLength tot-drawn in
+            let a1 : r .plt .there ≡ isSome (store-after .plt) = there-of pltPlace (r .plt) (recents-now .plt) plt-room ∙ ap (λ (o : Option Bytes). isSome o) plt-committed in
+            let a2 : recentLength (r .plt) ≡ tableLength (store-after .plt) = long-of pltPlace (r .plt) (recents-now .plt) plt-room ∙ ap tableLength plt-committed in
+            let a3 : r .tot .there ≡ isSome (store-after .tot) = there-of totPlace (r .tot) (recents-now .tot) tot-room ∙ ap (λ (o : Option Bytes). isSome o) tot-committed in
+            let a4 : recentLength (r .tot) ≡ tableLength (store-after .tot) = long-of totPlace (r .tot) (recents-now .tot) tot-room ∙ ap tableLength tot-committed in
             λ k. record { plt = a1 k; «plt_length» = a2 k; tot = a3 k; «tot_length» = a4 k }
 
         -- all areas
@@ -360,26 +356,26 @@ module _ (s : Session) (ok : Sound (s .state) (s .others) (lengthsOf s)) (i : �
 
         laid-1 : t1 ≡ keptOver area 0 (store-after .kept) (s .tables)
         laid-1 =
-            committed-kept tableRead tables-stand ix₀ log₀ (s .others) g₀ (placedCut j) n (cutOf j .malformed) r ix log mine w m a c₁ versions (cut-stands j) y held
+            committed-kept tableRead tables-located ix₀ log₀ (s .others) g₀ (placedCut j) n (cutOf j .malformed) r ix log mine w m a c₁ versions (cut-located j) y held
             fits room
             ∙ ap (λ (x : KeptTables). keptOver area 0 (x .kept) (s .tables)) store-is
 
         laid-2 : t2 ≡ bytesOver (pltPlace * area) (store-after .plt) t1
         laid-2 =
             recent-is area m pltPlace (r .plt) (s .tables) t1 (small-of (r .plt) (recents-now .plt)) plt-room-1 (λ h d. apart-1 pltPlace h (omega arith) d)
-            ∙ ap (λ (o : Option Bytes). bytesOver (pltPlace * area) o t1) plt-drawn
+            ∙ ap (λ (o : Option Bytes). bytesOver (pltPlace * area) o t1) plt-committed
 
         laid-3 : t3 ≡ bytesOver (totPlace * area) (store-after .tot) t2
         laid-3 =
             recent-is area m totPlace (r .tot) (s .tables) t2 (small-of (r .tot) (recents-now .tot)) tot-room-2
             (λ h d. apart-2 totPlace h (omega arith) (λ q. absurd (omega arith)) d)
-            ∙ ap (λ (o : Option Bytes). bytesOver (totPlace * area) o t2) tot-drawn
+            ∙ ap (λ (o : Option Bytes). bytesOver (totPlace * area) o t2) tot-committed
 
         laid-4 : putRecent (mptPlace * area) (r .mpt) m t3 ≡ bytesOver (mptPlace * area) mpt-after t3
         laid-4 =
             recent-is area m mptPlace (r .mpt) (s .tables) t3 (small-of (r .mpt) (recents-now .mpt)) (rw length-3 mpt-room)
             (λ h d. apart-3 mptPlace h (omega arith) (λ q. absurd (omega (arith, hi))) (λ q. absurd (omega (arith, hi))) d)
-            ∙ ap (λ (o : Option Bytes). bytesOver (mptPlace * area) o t3) mpt-drawn
+            ∙ ap (λ (o : Option Bytes). bytesOver (mptPlace * area) o t3) mpt-committed
 
         pub message-areas : length log ≡ mostSections → putAreas l i r (loggedFrom (r .used) 0 ix log) m (s .tables)
             ≡ bytesOver (mptPlace * area) mpt-after (latestOver l store-after (keptOver area 0 (store-after .kept) (s .tables)))

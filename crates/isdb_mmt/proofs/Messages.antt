@@ -21,7 +21,7 @@ use Rattle.isdb_mmt.specs.Layout.{mostMessageArea, mostTableArea, mostCo
 use Rattle.isdb_mmt.specs.Packet.{Bytes}
 use Rattle.isdb_mmt.specs.Part.{partOf}
 use Rattle.isdb_mmt.specs.Message.{Aggregated, prefixWidth, aggregatedAt, aggregatedItem, aggregatedFrom, contentOf, paTables, sectionTable, bodyPart, tableAt, tableItem, tablesFrom}
-use Rattle.isdb_mmt.specs.Joins.{messagesOf, partsOf, tablesIn, tablesOf, tablesOfAll, cutOf}
+use Rattle.isdb_mmt.specs.Reassembly.{messagesOf, partsOf, tablesIn, tablesOf, tablesOfAll, cutOf}
 use Rattle.isdb_mmt.specs.Kept.{tableRead}
 use Rattle.isdb_mmt.specs.declared.part.Part.{Part}
 use Rattle.isdb_mmt.specs.declared.message.Content.{Content}
@@ -30,17 +30,17 @@ use Rattle.isdb_mmt.specs.declared.message.MessageStep.{MessageStep}
 use Rattle.isdb_mmt.specs.declared.message.MessageStep.the-variants.{End as noMore, Malformed as pastEnd, Message as messageStep}
 use Rattle.isdb_mmt.specs.declared.message.TableStep.{TableStep}
 use Rattle.isdb_mmt.specs.declared.message.TableStep.the-variants.{End as noMore, Malformed as badTable, Table as tableStep}
-use Rattle.isdb_mmt.specs.declared.decoder.verdict.Told.{Told}
-use Rattle.isdb_mmt.specs.declared.decoder.walk.Going.{Going}
+use Rattle.isdb_mmt.specs.declared.decoder.table_outcome.TableOutcome.{TableOutcome}
+use Rattle.isdb_mmt.specs.declared.decoder.walk.WalkState.{WalkState}
 use Rattle.isdb_mmt.specs.Placed.{joinOf, placed, placedIn, placedOf, placedOfAll, placedFrom, malformedFrom, placedCut, behind}
-use Rattle.isdb_mmt.specs.Verdict.{indexOf, toldOf, CanTell}
-use Rattle.isdb_mmt.specs.Dry.{mostAdded, mostBefore, Room, CanNote, cutShort, Noted, Walked, CanTake, CanWalk, inBody}
+use Rattle.isdb_mmt.specs.TableOutcome.{indexOf, tableOutcome, CanDecide}
+use Rattle.isdb_mmt.specs.PendingTables.{mostAdded, mostBefore, Room, CanApply, cutShort, Applied, Walked, CanTake, CanWalk, inBody}
 use Rattle.isdb_mmt.proofs.Places.{Lies}
 use Rattle.isdb_mmt.proofs.AggregatedMessages.{width-ge, piece-lies, pieces-at, table-lies, tables-at}
-use Rattle.isdb_mmt.proofs.Verdicts.{length-index}
+use Rattle.isdb_mmt.proofs.TableOutcomes.{length-index}
 use Rattle.isdb_mmt.proofs.Breaks.{small-told}
 use Rattle.isdb_mmt.proofs.Joined.{pieces, both-fit}
-use Rattle.isdb_mmt.proofs.Walking.{room-more, none-walked, cut-walked, one-walked, walked-more, Goes, goes-start, goes-on, goes-end, goes-cut}
+use Rattle.isdb_mmt.proofs.Walking.{room-more, none-walked, cut-walked, one-walked, walked-more, Goes, goes-start, in-sequence, goes-end, goes-cut}
 
 part-short : (m : Bytes) (p : Part) → length (partOf m p) ≤ p .length
 part-short m p = omega (arith, length-take (p .length) (drop (p .start) m))
@@ -58,24 +58,24 @@ part-fits m h n = omega (arith, be-lt m h 2 n)
 
 -- ---- one table
 
-module _ (ix log others seam : List ℕ) (g : Going) (a b : Bytes) (p : Part) (from : ℕ) (can : CanTake ix log others seam g (a ++ b) p from) where
+module _ (ix log others assembled : List ℕ) (g : WalkState) (a b : Bytes) (p : Part) (from : ℕ) (can : CanTake ix log others assembled g (a ++ b) p from) where
   module _ (q : Part) (eq : q ≡ behind (length a) p) (x y : Bytes) (ex : x ≡ partOf a p) (ey : y ≡ partOf b q) where
     whole : x ++ y ≡ partOf (a ++ b) p
     whole = rw (ex, ey, eq) (pieces a b p)
 
-    pub table-tell : CanTell seam ix (g .used) x y
+    pub table-tell : CanDecide assembled ix (g .used) x y
     table-tell =
         let l : length x + length y ≡ length (partOf (a ++ b) p) = sym (length-append x y) ∙ ap length whole in
         record {
           few = can .copies .used;
           indexLong = can .copies .indexLong;
-          seamLong = can .seamLong;
+          assembledLong = can .assembledLong;
           short = omega (arith, part-short (a ++ b) p, can .few);
         }
 
-    module _ (t : Told) (et : t ≡ toldOf (indexOf (g .used) ix) (g .mpt) (g .plt) (tableRead (x ++ y))) where
-      pub table-note : ((i : ℕ) → Fits w8 (getD a i 0)) → ((i : ℕ) → Fits w8 (getD b i 0)) → CanNote ix log others g t
-      table-note ha hb =
+    module _ (t : TableOutcome) (et : t ≡ tableOutcome (indexOf (g .used) ix) (g .mpt) (g .plt) (tableRead (x ++ y))) where
+      pub table-apply : ((i : ℕ) → Fits w8 (getD a i 0)) → ((i : ℕ) → Fits w8 (getD b i 0)) → CanApply ix log others g t
+      table-apply ha hb =
           let l : length (x ++ y) ≤ mostMessageArea = rw whole (omega (arith, part-short (a ++ b) p, can .few)) in
           let h : (i : ℕ) → Fits w8 (getD (x ++ y) i 0) = rw whole (part-bytes (a ++ b) (both-fit a b ha hb) p) in
           record {
@@ -84,11 +84,11 @@ module _ (ix log others seam : List ℕ) (g : Going) (a b : Bytes) (p : Part) (f
             told = rw et (small-told (indexOf (g .used) ix) (g .used) (length-index (g .used) ix) (g .mpt) (g .plt) (x ++ y) h l);
           }
 
-      pub table-walked : (r : Going) (ix′ log′ others′ : List ℕ) → Noted ix log others g t (from + p .start + 1) r ix′ log′ others′
+      pub table-walked : (r : WalkState) (ix′ log′ others′ : List ℕ) → Applied ix log others g t (from + p .start + 1) r ix′ log′ others′
           → Walked tableRead ix log others g (placed from (a ++ b) p ∷ []) 1 0 r ix′ log′ others′
       table-walked r ix′ log′ others′ n =
           one-walked tableRead ix log others g (placed from (a ++ b) p) t
-          (et ∙ ap (λ (z : Bytes). toldOf (indexOf (g .used) ix) (g .mpt) (g .plt) (tableRead z)) whole) r ix′ log′ others′ n
+          (et ∙ ap (λ (z : Bytes). tableOutcome (indexOf (g .used) ix) (g .mpt) (g .plt) (tableRead z)) whole) r ix′ log′ others′ n
 
 -- ---- the tables of a body
 
@@ -103,22 +103,22 @@ few-table m p h =
     cond-elim FewIn (length m - p <? 4) (λ e. tt) (λ e.
     cond-elim FewIn (length m - p <? be 2 m (p + 2) + 4) (λ e. tt) (λ e. omega (arith, part-fits m h (p + 2))))
 
-pub record InTables (ix₀ log₀ others₀ seam₀ : List ℕ) (g₀ : Going) (m : Bytes) (first from : ℕ) (ix log others seam : List ℕ) (g : Going) (p : ℕ) : Type 0 where
+pub record InTables (ix₀ log₀ others₀ assembled₀ : List ℕ) (g₀ : WalkState) (m : Bytes) (first from : ℕ) (ix log others assembled : List ℕ) (g : WalkState) (p : ℕ) : Type 0 where
   pub goes : Goes tableRead ix₀ log₀ others₀ g₀ (inBody m from first) (tablesFrom m first .malformed) ix log others g (inBody m from p) (tablesFrom m p .malformed) (min p (length m))
-  pub seamLong : length seam ≡ mostTableArea
-  pub can : CanWalk ix₀ log₀ others₀ seam₀ g₀ m from (2 * mostCount)
+  pub assembledLong : length assembled ≡ mostTableArea
+  pub can : CanWalk ix₀ log₀ others₀ assembled₀ g₀ m from (2 * mostCount)
 
-pub tables-start : (ix log others seam : List ℕ) (g : Going) (m : Bytes) (first from : ℕ) → CanWalk ix log others seam g m from (2 * mostCount)
-    → InTables ix log others seam g m first from ix log others seam g first
-tables-start ix log others seam g m first from c =
+pub tables-start : (ix log others assembled : List ℕ) (g : WalkState) (m : Bytes) (first from : ℕ) → CanWalk ix log others assembled g m from (2 * mostCount)
+    → InTables ix log others assembled g m first from ix log others assembled g first
+tables-start ix log others assembled g m first from c =
     record {
       goes = goes-start tableRead ix log others g (c .copies) (inBody m from first) (tablesFrom m first .malformed) (min first (length m));
-      seamLong = c .seamLong;
+      assembledLong = c .assembledLong;
       can = c;
     }
 
-module _ (ix₀ log₀ others₀ seam₀ : List ℕ) (g₀ : Going) (m : Bytes) (first from : ℕ) (ix log others seam : List ℕ) (g : Going) (p : ℕ)
-    (go : InTables ix₀ log₀ others₀ seam₀ g₀ m first from ix log others seam g p) where
+module _ (ix₀ log₀ others₀ assembled₀ : List ℕ) (g₀ : WalkState) (m : Bytes) (first from : ℕ) (ix log others assembled : List ℕ) (g : WalkState) (p : ℕ)
+    (go : InTables ix₀ log₀ others₀ assembled₀ g₀ m first from ix log others assembled g p) where
   pub tables-short : length m ≤ mostMessageArea
   tables-short = omega (arith, go .can .short)
 
@@ -148,7 +148,7 @@ module _ (ix₀ log₀ others₀ seam₀ : List ℕ) (g₀ : Going) (m : Bytes) 
         goes-end tableRead ix₀ log₀ others₀ g₀ (inBody m from first) (tablesFrom m first .malformed) ix log others g (inBody m from p)
         (tablesFrom m p .malformed) (min p (length m)) (go .goes) (rest-of noMore e) (left-of noMore e) (length m + 1) (omega arith)
 
-    pub tables-cut : s ≡ badTable → (r : Going) → r ≡ cutShort g
+    pub tables-cut : s ≡ badTable → (r : WalkState) → r ≡ cutShort g
         → Walked tableRead ix₀ log₀ others₀ g₀ (inBody m from first) (length m + 1) (tablesFrom m first .malformed) r ix log others
     tables-cut e r er =
         goes-cut tableRead ix₀ log₀ others₀ g₀ (inBody m from first) (tablesFrom m first .malformed) ix log others g (inBody m from p)
@@ -161,29 +161,29 @@ module _ (ix₀ log₀ others₀ seam₀ : List ℕ) (g₀ : Going) (m : Bytes) 
       pub tables-less : length m - next < length m - p
       tables-less = omega (arith, lies .ahead, lies .within)
 
-      pub tables-can : ((i : ℕ) → Fits w8 (getD m i 0)) → CanTake ix log others seam g m q from
+      pub tables-can : ((i : ℕ) → Fits w8 (getD m i 0)) → CanTake ix log others assembled g m q from
       tables-can h =
           record {
             copies = go .goes .copies;
-            seamLong = go .seamLong;
+            assembledLong = go .assembledLong;
             room = tables-room;
             lies = omega (arith, lies .within, lies .ends);
             few = subst FewIn (sym es ∙ e) (few-table m p h);
             short = go .can .short;
           }
 
-      pub tables-on : (r : Going) (ix′ log′ others′ seam′ : List ℕ)
+      pub tables-on : (r : WalkState) (ix′ log′ others′ assembled′ : List ℕ)
           → Walked tableRead ix log others g (placed from m q ∷ []) 1 0 r ix′ log′ others′
-          → length ix′ ≡ length ix → length log′ ≡ length log → length others′ ≡ length others → length seam′ ≡ length seam
-          → InTables ix₀ log₀ others₀ seam₀ g₀ m first from ix′ log′ others′ seam′ r next
-      tables-on r ix′ log′ others′ seam′ w li ll lo ls =
+          → length ix′ ≡ length ix → length log′ ≡ length log → length others′ ≡ length others → length assembled′ ≡ length assembled
+          → InTables ix₀ log₀ others₀ assembled₀ g₀ m first from ix′ log′ others′ assembled′ r next
+      tables-on r ix′ log′ others′ assembled′ w li ll lo ls =
           record {
             goes =
-                goes-on tableRead ix₀ log₀ others₀ g₀ (inBody m from first) (tablesFrom m first .malformed) ix log others g (inBody m from p)
+                in-sequence tableRead ix₀ log₀ others₀ g₀ (inBody m from first) (tablesFrom m first .malformed) ix log others g (inBody m from p)
                 (tablesFrom m p .malformed) (min p (length m)) (go .goes) (placed from m q ∷ []) (inBody m from next) (rest-of (tableStep q next) e) 0
                 (tablesFrom m next .malformed) (left-of (tableStep q next) e ∙ sym (zero-add (tablesFrom m next .malformed))) 1 (min next (length m))
                 (omega (arith, lies .ahead, lies .within)) r ix′ log′ others′ w li ll lo;
-            seamLong = ls ∙ go .seamLong;
+            assembledLong = ls ∙ go .assembledLong;
             can = go .can;
           }
 
@@ -218,12 +218,12 @@ content-in m h =
     (omega arith, omega (arith, part-fits m h 3)))))
     (λ e3. tt))))
 
-module _ (ix log others seam : List ℕ) (g : Going) (a b : Bytes) (from : ℕ) (can : CanWalk ix log others seam g (a ++ b) from (2 * mostCount))
+module _ (ix log others assembled : List ℕ) (g : WalkState) (a b : Bytes) (from : ℕ) (can : CanWalk ix log others assembled g (a ++ b) from (2 * mostCount))
     (c : Content) (ec : c ≡ contentOf (a ++ b)) where
   abbrev m : Bytes
   m = a ++ b
 
-  as-placed : (z : Content) → c ≡ z → (n : ℕ) → n ≤ length m + 1 → (r : Going) (ix′ log′ others′ : List ℕ)
+  as-placed : (z : Content) → c ≡ z → (n : ℕ) → n ≤ length m + 1 → (r : WalkState) (ix′ log′ others′ : List ℕ)
       → Walked tableRead ix log others g (placedIn from m z) n (tablesIn m z .malformed) r ix′ log′ others′
       → Walked tableRead ix log others g (placedOf from m) (length m + 1) (tablesOf m .malformed) r ix′ log′ others′
   unfolding placedOf tablesOf
@@ -231,13 +231,7 @@ module _ (ix log others seam : List ℕ) (g : Going) (a b : Bytes) (from : ℕ) 
       subst (λ (y : Content). Walked tableRead ix log others g (placedIn from m y) (length m + 1) (tablesIn m y .malformed) r ix′ log′ others′)
       (sym e ∙ ec) (walked-more tableRead ix log others g (placedIn from m z) n (tablesIn m z .malformed) r ix′ log′ others′ w (length m + 1) h)
 
-  pub message-short : length m ≤ mostMessageArea
-  message-short = omega (arith, can .short)
-
-  pub message-cut-can : g .«message_malformed» ≤ mostBefore
-  message-cut-can = omega (arith, can .room .bad)
-
-  pub message-cut : c ≡ badMessage → (r : Going) → r ≡ cutShort g
+  pub message-cut : c ≡ badMessage → (r : WalkState) → r ≡ cutShort g
       → Walked tableRead ix log others g (placedOf from m) (length m + 1) (tablesOf m .malformed) r ix log others
   message-cut e r er = as-placed badMessage e 1 (omega arith) r ix log others (cut-walked tableRead ix log others g (can .copies .used) r er)
 
@@ -245,19 +239,19 @@ module _ (ix log others seam : List ℕ) (g : Going) (a b : Bytes) (from : ℕ) 
   message-none e = as-placed nothing e 0 (omega arith) g ix log others (none-walked tableRead ix log others g (can .copies .used))
 
   module _ (p : Part) (e : c ≡ oneTable p) where
-    pub message-table-can : ((i : ℕ) → Fits w8 (getD a i 0)) → ((i : ℕ) → Fits w8 (getD b i 0)) → CanTake ix log others seam g m p from
+    pub message-table-can : ((i : ℕ) → Fits w8 (getD a i 0)) → ((i : ℕ) → Fits w8 (getD b i 0)) → CanTake ix log others assembled g m p from
     message-table-can ha hb =
         let q : ContentIn m (oneTable p) = subst (ContentIn m) (sym ec ∙ e) (content-in m (both-fit a b ha hb)) in
         record {
           copies = can .copies;
-          seamLong = can .seamLong;
+          assembledLong = can .assembledLong;
           room = room-more g others (2 * mostCount) mostBefore (omega arith) (can .room);
           lies = q .0;
           few = q .1;
           short = can .short;
         }
 
-    pub message-table : (r : Going) (ix′ log′ others′ : List ℕ) → Walked tableRead ix log others g (placed from m p ∷ []) 1 0 r ix′ log′ others′
+    pub message-table : (r : WalkState) (ix′ log′ others′ : List ℕ) → Walked tableRead ix log others g (placed from m p ∷ []) 1 0 r ix′ log′ others′
         → Walked tableRead ix log others g (placedOf from m) (length m + 1) (tablesOf m .malformed) r ix′ log′ others′
     message-table r ix′ log′ others′ w = as-placed (oneTable p) e 1 (omega arith) r ix′ log′ others′ w
 
@@ -272,16 +266,16 @@ module _ (ix log others seam : List ℕ) (g : Going) (a b : Bytes) (from : ℕ) 
       body-whole : x ++ y ≡ partOf m body
       body-whole = rw (ex, ey, eq) (pieces a b body)
 
-      pub message-body-can : CanWalk ix log others seam g (x ++ y) (from + body .start) (2 * mostCount)
+      pub message-body-can : CanWalk ix log others assembled g (x ++ y) (from + body .start) (2 * mostCount)
       message-body-can =
           record {
             copies = can .copies;
-            seamLong = can .seamLong;
+            assembledLong = can .assembledLong;
             room = can .room;
             short = rw body-whole (omega (arith, part-short m body, body-in, can .short));
           }
 
-      pub message-body : (r : Going) (ix′ log′ others′ : List ℕ)
+      pub message-body : (r : WalkState) (ix′ log′ others′ : List ℕ)
           → Walked tableRead ix log others g (inBody (x ++ y) (from + body .start) first) (length (x ++ y) + 1) (tablesFrom (x ++ y) first .malformed) r ix′ log′ others′
           → Walked tableRead ix log others g (placedOf from m) (length m + 1) (tablesOf m .malformed) r ix′ log′ others′
       message-body r ix′ log′ others′ w =
@@ -303,22 +297,22 @@ piece-starts m long p =
     cond-elim (BehindIn p) (length m - p <? prefixWidth long) (λ e. tt) (λ e.
     cond-elim (BehindIn p) (length m - (p + prefixWidth long) <? be (prefixWidth long) m p) (λ e. tt) (λ e. omega (arith, width-ge long)))
 
-pub record InMessages (ix₀ log₀ others₀ seam₀ : List ℕ) (g₀ : Going) (m : Bytes) (long : Bool) (ix log others seam : List ℕ) (g : Going) (p : ℕ) : Type 0 where
+pub record InMessages (ix₀ log₀ others₀ assembled₀ : List ℕ) (g₀ : WalkState) (m : Bytes) (long : Bool) (ix log others assembled : List ℕ) (g : WalkState) (p : ℕ) : Type 0 where
   pub goes : Goes tableRead ix₀ log₀ others₀ g₀ (placedFrom m long 0) (malformedFrom m long 0) ix log others g (placedFrom m long p) (malformedFrom m long p) (min p (length m))
-  pub seamLong : length seam ≡ mostTableArea
-  pub can : CanWalk ix₀ log₀ others₀ seam₀ g₀ m 0 mostCount
+  pub assembledLong : length assembled ≡ mostTableArea
+  pub can : CanWalk ix₀ log₀ others₀ assembled₀ g₀ m 0 mostCount
 
-pub messages-start : (ix log others seam : List ℕ) (g : Going) (m : Bytes) (long : Bool) → CanWalk ix log others seam g m 0 mostCount
-    → InMessages ix log others seam g m long ix log others seam g 0
-messages-start ix log others seam g m long c =
+pub messages-start : (ix log others assembled : List ℕ) (g : WalkState) (m : Bytes) (long : Bool) → CanWalk ix log others assembled g m 0 mostCount
+    → InMessages ix log others assembled g m long ix log others assembled g 0
+messages-start ix log others assembled g m long c =
     record {
       goes = goes-start tableRead ix log others g (c .copies) (placedFrom m long 0) (malformedFrom m long 0) (min 0 (length m));
-      seamLong = c .seamLong;
+      assembledLong = c .assembledLong;
       can = c;
     }
 
-module _ (ix₀ log₀ others₀ seam₀ : List ℕ) (g₀ : Going) (a b : Bytes) (long : Bool) (ix log others seam : List ℕ) (g : Going) (p : ℕ)
-    (go : InMessages ix₀ log₀ others₀ seam₀ g₀ (a ++ b) long ix log others seam g p) where
+module _ (ix₀ log₀ others₀ assembled₀ : List ℕ) (g₀ : WalkState) (a b : Bytes) (long : Bool) (ix log others assembled : List ℕ) (g : WalkState) (p : ℕ)
+    (go : InMessages ix₀ log₀ others₀ assembled₀ g₀ (a ++ b) long ix log others assembled g p) where
   abbrev all : Bytes
   all = a ++ b
 
@@ -350,7 +344,7 @@ module _ (ix₀ log₀ others₀ seam₀ : List ℕ) (g₀ : Going) (a b : Bytes
         goes-end tableRead ix₀ log₀ others₀ g₀ (placedFrom all long 0) (malformedFrom all long 0) ix log others g (placedFrom all long p)
         (malformedFrom all long p) (min p (length all)) (go .goes) (pieces-rest s es noMore e) (pieces-left s es noMore e) (length all + 1) (omega arith)
 
-    pub messages-cut : s ≡ pastEnd → (r : Going) → r ≡ cutShort g
+    pub messages-cut : s ≡ pastEnd → (r : WalkState) → r ≡ cutShort g
         → Walked tableRead ix₀ log₀ others₀ g₀ (placedFrom all long 0) (length all + 1) (malformedFrom all long 0) r ix log others
     unfolding placedOfAll tablesOfAll
     messages-cut e r er =
@@ -371,33 +365,33 @@ module _ (ix₀ log₀ others₀ seam₀ : List ℕ) (g₀ : Going) (a b : Bytes
         piece-whole : x ++ y ≡ partOf all q
         piece-whole = rw (ex, ey, ed) (pieces a b q)
 
-        pub messages-can : CanWalk ix log others seam g (x ++ y) (q .start) (2 * mostCount)
+        pub messages-can : CanWalk ix log others assembled g (x ++ y) (q .start) (2 * mostCount)
         messages-can =
             record {
               copies = go .goes .copies;
-              seamLong = go .seamLong;
+              assembledLong = go .assembledLong;
               room = messages-room;
               short = rw piece-whole (omega (arith, part-short all q, piece-in .within, piece-in .ends, go .can .short));
             }
 
-        pub messages-on : (r : Going) (ix′ log′ others′ seam′ : List ℕ)
+        pub messages-on : (r : WalkState) (ix′ log′ others′ assembled′ : List ℕ)
             → Walked tableRead ix log others g (placedOf (q .start) (x ++ y)) (length (x ++ y) + 1) (tablesOf (x ++ y) .malformed) r ix′ log′ others′
-            → length ix′ ≡ length ix → length log′ ≡ length log → length others′ ≡ length others → length seam′ ≡ length seam
-            → InMessages ix₀ log₀ others₀ seam₀ g₀ all long ix′ log′ others′ seam′ r next
+            → length ix′ ≡ length ix → length log′ ≡ length log → length others′ ≡ length others → length assembled′ ≡ length assembled
+            → InMessages ix₀ log₀ others₀ assembled₀ g₀ all long ix′ log′ others′ assembled′ r next
         unfolding placedOfAll tablesOfAll
-        messages-on r ix′ log′ others′ seam′ w li ll lo ls =
+        messages-on r ix′ log′ others′ assembled′ w li ll lo ls =
             let w′ : Walked tableRead ix log others g (placedOf (q .start) (partOf all q)) (length (x ++ y) + 1) (tablesOf (partOf all q) .malformed) r ix′ log′ others′ =
             subst (λ (z : Bytes). Walked tableRead ix log others g (placedOf (q .start) z) (length (x ++ y) + 1) (tablesOf z .malformed) r ix′ log′ others′) piece-whole w in
             let n : length (x ++ y) ≤ q .length = rw piece-whole (part-short all q) in
             record {
               goes =
-                  goes-on tableRead ix₀ log₀ others₀ g₀ (placedFrom all long 0) (malformedFrom all long 0) ix log others g (placedFrom all long p)
+                  in-sequence tableRead ix₀ log₀ others₀ g₀ (placedFrom all long 0) (malformedFrom all long 0) ix log others g (placedFrom all long p)
                   (malformedFrom all long p) (min p (length all)) (go .goes) (placedOf (q .start) (partOf all q)) (placedFrom all long next)
                   (pieces-rest s es (messageStep q next) e) (tablesOf (partOf all q) .malformed) (malformedFrom all long next)
                   (pieces-left s es (messageStep q next) e
                   ∙ swap (aggregatedFrom all long next .malformed) (tablesOf (partOf all q) .malformed) (tablesOfAll (partsOf all (aggregatedFrom all long next .found)) .malformed))
                   (length (x ++ y) + 1) (min next (length all)) (omega (arith, n, piece-behind, piece-in .within, piece-in .ends)) r ix′ log′ others′ w′ li ll lo;
-              seamLong = ls ∙ go .seamLong;
+              assembledLong = ls ∙ go .assembledLong;
               can = go .can;
             }
           where
@@ -406,17 +400,17 @@ module _ (ix₀ log₀ others₀ seam₀ : List ℕ) (g₀ : Going) (a b : Bytes
 
 -- ---- joined data
 
-module _ (ix log others seam : List ℕ) (g : Going) (m : Bytes) (long : Bool) (can : CanWalk ix log others seam g m 0 mostCount) where
-  pub joined-can : CanWalk ix log others seam g m 0 (2 * mostCount)
+module _ (ix log others assembled : List ℕ) (g : WalkState) (m : Bytes) (long : Bool) (can : CanWalk ix log others assembled g m 0 mostCount) where
+  pub joined-can : CanWalk ix log others assembled g m 0 (2 * mostCount)
   joined-can =
       record {
         copies = can .copies;
-        seamLong = can .seamLong;
+        assembledLong = can .assembledLong;
         room = room-more g others mostCount (2 * mostCount) (omega arith) (can .room);
         short = can .short;
       }
 
-  module _ (aggregated : Bool) (r : Going) (ix′ log′ others′ : List ℕ) where
+  module _ (aggregated : Bool) (r : WalkState) (ix′ log′ others′ : List ℕ) where
     abbrev whole-cut : Type 0
     whole-cut = Walked tableRead ix log others g (placedCut (joinOf long aggregated m)) (length m + 1) (cutOf (joinOf long aggregated m) .malformed) r ix′ log′ others′
 

@@ -12,36 +12,36 @@ use Rattle.isdb_mmt.specs.Packet.{Bytes}
 use Rattle.isdb_mmt.specs.Lent.{indexed}
 use Rattle.isdb_mmt.specs.Kept.{KeptTables, Table, mptAfterAll, storedAll, countedAll}
 use Rattle.isdb_mmt.specs.Needs.{tablesNeed}
-use Rattle.isdb_mmt.specs.declared.decoder.walk.Going.{Going}
-use Rattle.isdb_mmt.specs.Placed.{Placed, bytesOf, AllStand}
-use Rattle.isdb_mmt.specs.Tally.{Tally, takenAll}
-use Rattle.isdb_mmt.specs.Verdict.{indexOf}
-use Rattle.isdb_mmt.specs.Dry.{Logged, withLog, Dry, dryOf, notedAll, Walked, Areas, drawnEntry, drawn, Versions}
+use Rattle.isdb_mmt.specs.declared.decoder.walk.WalkState.{WalkState}
+use Rattle.isdb_mmt.specs.Placed.{Placed, tableBytes, AllPlaced}
+use Rattle.isdb_mmt.specs.TableState.{TableState, afterTables}
+use Rattle.isdb_mmt.specs.TableOutcome.{indexOf}
+use Rattle.isdb_mmt.specs.PendingTables.{Logged, withLog, PendingTables, pendingOf, pendingWithAll, Walked, Areas, committedEntry, committed, Versions}
 use Rattle.isdb_mmt.specs.Commit.{putTables, AllFit}
 use Rattle.isdb_mmt.specs.Leaves.{sectionRows, keptOver}
-use Rattle.isdb_mmt.proofs.Verdicts.{length-index}
-use Rattle.isdb_mmt.proofs.Notes.{log-length}
-use Rattle.isdb_mmt.proofs.Tallies.{mpt-all, store-all, counters-all, longest-all}
-use Rattle.isdb_mmt.proofs.Drawn.{ReadStands, all-tables}
+use Rattle.isdb_mmt.proofs.TableOutcomes.{length-index}
+use Rattle.isdb_mmt.proofs.Applied.{log-length}
+use Rattle.isdb_mmt.proofs.TableStates.{mpt-all, store-all, counters-all, longest-all}
+use Rattle.isdb_mmt.proofs.Committed.{ReadPlaced, all-tables}
 use Rattle.isdb_mmt.proofs.Logging.{AllHeld, held-all, all-fit}
 use Rattle.isdb_mmt.specs.Octets.{Octets}
 use Rattle.isdb_mmt.proofs.Commits.{put-is}
 use Rattle.isdb_mmt.proofs.Walking.{mono}
 use Rattle.isdb_mmt.proofs.Leaving.{rows-are}
 
-pub record AsModel (w : Tally) (ts : List Table) (e : Tally) : Type 0 where
+pub record AsModel (w : TableState) (ts : List Table) (e : TableState) : Type 0 where
   pub mpt : e .mpt ≡ mptAfterAll (w .mpt) ts
   pub store : e .store ≡ storedAll (w .store) ts
   pub counters : e .counters ≡ countedAll (w .mpt) (w .store) (w .counters) ts
   pub longest : e .longest ≡ max (w .longest) (tablesNeed (w .store) ts)
 
-as-model : (w : Tally) (ts : List Table) (e : Tally) → takenAll w ts ≡ e → AsModel w ts e
+as-model : (w : TableState) (ts : List Table) (e : TableState) → afterTables w ts ≡ e → AsModel w ts e
 as-model w ts e q =
     record {
-      mpt = ap (λ (z : Tally). z .mpt) (sym q) ∙ mpt-all ts w;
-      store = ap (λ (z : Tally). z .store) (sym q) ∙ store-all ts w;
-      counters = ap (λ (z : Tally). z .counters) (sym q) ∙ counters-all ts w;
-      longest = ap (λ (z : Tally). z .longest) (sym q) ∙ longest-all ts w;
+      mpt = ap (λ (z : TableState). z .mpt) (sym q) ∙ mpt-all ts w;
+      store = ap (λ (z : TableState). z .store) (sym q) ∙ store-all ts w;
+      counters = ap (λ (z : TableState). z .counters) (sym q) ∙ counters-all ts w;
+      longest = ap (λ (z : TableState). z .longest) (sym q) ∙ longest-all ts w;
     }
 
 length-indexed : {A B : Type 0} (f : ℕ → A → B) (k : ℕ) (xs : List A) → length (indexed f k xs) ≡ length xs
@@ -49,45 +49,39 @@ unfolding indexed
 length-indexed f k [] = refl
 length-indexed f k (x ∷ xs) = ap suc (length-indexed f (k + 1) xs)
 
-module _ (read : Bytes → Table) (stands : ReadStands read) (ix log others : List ℕ) (g : Going) (xs : List Placed) (n k : ℕ) (r : Going) (ix′ log′ others′ : List ℕ)
+module _ (read : Bytes → Table) (found-at : ReadPlaced read) (ix log others : List ℕ) (g : WalkState) (xs : List Placed) (n k : ℕ) (r : WalkState) (ix′ log′ others′ : List ℕ)
     (walked : Walked read ix log others g xs n k r ix′ log′ others′) (m : Bytes) (a : Areas) (c : Counters)
-    (versions : Versions m a (dryOf ix log others g)) (stand : AllStand m xs) where
-  abbrev before : Tally
-  before = drawn m a c (dryOf ix log others g)
+    (versions : Versions m a (pendingOf ix log others g)) (stand : AllPlaced m xs) where
+  abbrev before : TableState
+  before = committed m a c (pendingOf ix log others g)
 
   abbrev given : List Table
-  given = map read (bytesOf xs)
+  given = map read (tableBytes xs)
 
-  ends : takenAll before given ≡ drawn m a c (notedAll read (dryOf ix log others g) xs)
-  ends = all-tables read stands m a c xs (dryOf ix log others g) versions stand
+  ends : afterTables before given ≡ committed m a c (pendingWithAll read (pendingOf ix log others g) xs)
+  ends = all-tables read found-at m a c xs (pendingOf ix log others g) versions stand
 
-  kept-length : (d : Dry) → length (drawn m a c d .store .kept) ≡ length (d .index)
-  unfolding drawn
-  kept-length d = length-indexed (drawnEntry m (a .bytes) (a .area)) 0 (d .index)
+  kept-length : (d : PendingTables) → length (committed m a c d .store .kept) ≡ length (d .index)
+  unfolding committed
+  kept-length d = length-indexed (committedEntry m (a .bytes) (a .area)) 0 (d .index)
 
   -- not full: index, log and counts stand for the model's next state
-  pub walk-is : r .full ≡ false → AsModel before given (drawn m a c (dryOf ix′ log′ others′ r))
+  pub walk-is : r .full ≡ false → AsModel before given (committed m a c (pendingOf ix′ log′ others′ r))
   walk-is y =
-      as-model before given (drawn m a c (dryOf ix′ log′ others′ r))
-      (ends ∙ ap (drawn m a c) (sym (walked .to .now y .1)))
+      as-model before given (committed m a c (pendingOf ix′ log′ others′ r))
+      (ends ∙ ap (committed m a c) (sym (walked .to .now y .1)))
 
-  kept-all : length (storedAll (before .store) given .kept) ≡ length (notedAll read (dryOf ix log others g) xs .index)
+  kept-all : length (storedAll (before .store) given .kept) ≡ length (pendingWithAll read (pendingOf ix log others g) xs .index)
   kept-all =
       ap (λ (s : KeptTables). length (s .kept)) (sym (store-all given before))
-      ∙ ap (λ (z : Tally). length (z .store .kept)) ends
-      ∙ kept-length (notedAll read (dryOf ix log others g) xs)
+      ∙ ap (λ (z : TableState). length (z .store .kept)) ends
+      ∙ kept-length (pendingWithAll read (pendingOf ix log others g) xs)
 
   -- full exactly where the model keeps more sections than the index has places
   pub full-above : g .full ≡ false → r .full ≡ true → mostSections < length (storedAll (before .store) given .kept)
   full-above y z = omega (arith, walked .to .over y z, kept-all)
 
-  pub within-else : r .full ≡ false → length (storedAll (before .store) given .kept) ≤ mostSections
-  within-else y =
-      let e : length (notedAll read (dryOf ix log others g) xs .index) ≡ r .used =
-      ap (λ (d : Dry). length (d .index)) (sym (walked .to .now y .1)) ∙ log-length (indexOf (r .used) ix′) log′ ∙ length-index (r .used) ix′ in
-      omega (arith, walked .to .used, kept-all)
-
-  module _ (y : r .full ≡ false) (held : AllHeld m (a .area) (g .longest) (dryOf ix log others g .index)) (fits : r .longest ≤ a .area) where
+  module _ (y : r .full ≡ false) (held : AllHeld m (a .area) (g .longest) (pendingOf ix log others g .index)) (fits : r .longest ≤ a .area) where
     abbrev logged-now : List Logged
     logged-now = withLog (indexOf (r .used) ix′) log′
 
@@ -95,7 +89,7 @@ module _ (read : Bytes → Table) (stands : ReadStands read) (ix log others : Li
     fits-after =
         let e = walked .to .now y .1 in
         let h : AllHeld m (a .area) (r .longest) logged-now =
-        subst (λ (d : Dry). AllHeld m (a .area) (d .longest) (d .index)) (sym e) (held-all m read stands (a .area) xs (dryOf ix log others g) stand held) in
+        subst (λ (d : PendingTables). AllHeld m (a .area) (d .longest) (d .index)) (sym e) (held-all m read found-at (a .area) xs (pendingOf ix log others g) stand held) in
         all-fit m (a .area) (r .longest) fits logged-now h
 
     pub length-after : length logged-now ≡ r .used
@@ -104,7 +98,7 @@ module _ (read : Bytes → Table) (stands : ReadStands read) (ix log others : Li
     -- after the commit the areas have the model's kept sections
     pub committed-kept : r .used * a .area ≤ length (a .bytes)
         → putTables (a .area) 0 logged-now m (a .bytes) ≡ keptOver (a .area) 0 (storedAll (before .store) given .kept) (a .bytes)
-    unfolding drawn
+    unfolding committed
     committed-kept room =
         let z : (0 + length logged-now) * a .area ≤ length (a .bytes) = rw (length-after, zero-add (r .used)) room in
         put-is (a .area) m logged-now 0 (a .bytes) (a .bytes) fits-after z (λ j n b c. refl)
@@ -113,7 +107,7 @@ module _ (read : Bytes → Table) (stands : ReadStands read) (ix log others : Li
     -- and the section places are theirs
     pub committed-rows : Octets ix′ → sectionSize * r .used ≤ length ix′ → r .used * a .area ≤ length (a .bytes)
         → take (sectionSize * r .used) ix′ ≡ sectionRows (storedAll (before .store) given .kept)
-    unfolding drawn
+    unfolding committed
     committed-rows o h room =
         rows-are m (a .bytes) (a .area) ix′ log′ o (r .used) h fits-after room length-after
         ∙ ap (λ (s : KeptTables). sectionRows (s .kept)) (walk-is y .store)
@@ -122,12 +116,12 @@ module _ (read : Bytes → Table) (stands : ReadStands read) (ix log others : Li
   used-after y =
       sym
       (kept-all
-      ∙ ap (λ (d : Dry). length (d .index)) (sym (walked .to .now y .1))
+      ∙ ap (λ (d : PendingTables). length (d .index)) (sym (walked .to .now y .1))
       ∙ log-length (indexOf (r .used) ix′) log′
       ∙ length-index (r .used) ix′)
 
   -- what is kept never shrinks
   pub kept-grows : g .used ≤ length (storedAll (before .store) given .kept)
   kept-grows =
-      let n : length (dryOf ix log others g .index) ≡ g .used = log-length (indexOf (g .used) ix) log ∙ length-index (g .used) ix in
-      omega (arith, kept-all, mono read xs (dryOf ix log others g))
+      let n : length (pendingOf ix log others g .index) ≡ g .used = log-length (indexOf (g .used) ix) log ∙ length-index (g .used) ix in
+      omega (arith, kept-all, mono read xs (pendingOf ix log others g))

@@ -20,8 +20,8 @@ use Rattle.isdb_mmt.specs.declared.decoder.place.Found.the-variants.{At,
 use Rattle.isdb_mmt.specs.declared.decoder.place.PlaceFor.the-variants.{Own, Free, NoneFree}
 use Rattle.isdb_mmt.proofs.Lent.{length-names}
 
-pub clash : {A : Type 0} (b : Bool) → b ≡ true → b ≡ false → A
-clash b p q = absurd (subst T (sym p ∙ q) tt)
+pub true-not-false : {A : Type 0} (b : Bool) → b ≡ true → b ≡ false → A
+true-not-false b p q = absurd (subst T (sym p ∙ q) tt)
 
 abbrev pub there : Found → Bool
 there (At i) = true
@@ -113,7 +113,7 @@ module _ (names : List ℕ) (x mark : ℕ) where
 
 among-snoc : (x y : ℕ) (xs : List ℕ) → among x (xs ++ (y ∷ [])) ≡ true → (among x xs ≡ true) ⊎ (y ≡ x)
 unfolding among
-among-snoc x y [] h = either (eqb y x) (λ t. inr (eqb-true y x t)) (λ f. clash false (rw f at h) refl)
+among-snoc x y [] h = either (eqb y x) (λ t. inr (eqb-true y x t)) (λ f. true-not-false false (rw f at h) refl)
 among-snoc x y (z ∷ zs) h = either (eqb z x) (λ t. inl (rw t)) (λ f. rw f (among-snoc x y zs (rw f at h)))
 
 names-snoc : (l : List ℕ) (size n at : ℕ) → namesFrom (suc n) size at l ≡ namesFrom n size at l ++ (be 4 l (at + n * size) ∷ [])
@@ -141,7 +141,7 @@ among-later x z (y ∷ xs) ys e = either (eqb y z) (λ t. rw t) (λ f. rw f (amo
 
 distinct-again : (x : ℕ) (xs ys : List ℕ) → among x xs ≡ true → distinct (xs ++ (x ∷ ys)) ≡ false
 unfolding among distinct
-distinct-again x [] ys a = clash false a refl
+distinct-again x [] ys a = true-not-false false a refl
 distinct-again x (z ∷ xs) ys a =
     either (eqb z x) (λ t. rw (among-later x z xs ys (eqb-true z x t)))
     (λ f. rw (distinct-again x xs ys (rw f at a)) (cond-same (among z (xs ++ (x ∷ ys))) false))
@@ -150,13 +150,13 @@ distinct-snoc : (x : ℕ) (xs : List ℕ) → distinct xs ≡ true → among x x
 unfolding among distinct
 distinct-snoc x [] d a = refl
 distinct-snoc x (z ∷ xs) d a =
-    either (eqb z x) (λ t. clash true refl (rw t at a))
+    either (eqb z x) (λ t. true-not-false true refl (rw t at a))
     (λ f.
-    either (among z xs) (λ t. clash false (rw t at d) refl)
+    either (among z xs) (λ t. true-not-false false (rw t at d) refl)
     (λ g.
     let n : among z (xs ++ (x ∷ [])) ≡ false =
     either (among z (xs ++ (x ∷ [])))
-    (λ t. ⊎-elim (λ p. clash (among z xs) p g) (λ q. absurd (eqb-false z x f (sym q))) (among-snoc z x xs t))
+    (λ t. ⊎-elim (λ p. true-not-false (among z xs) p g) (λ q. absurd (eqb-false z x f (sym q))) (among-snoc z x xs t))
     (λ o. o) in
     rw n (distinct-snoc x xs (rw g at d) (rw f at a))))
 
@@ -184,7 +184,7 @@ module _ (marks : List ℕ) (c : ℕ) (h : c / 64 < length marks) where
       let f : withBit w (c % 64) / 2 ^ (z % 64) % 2 ≡ 0 = rw g at e in
       let b : cond (eqb (z % 64) (c % 64)) true (eqb (w / 2 ^ (z % 64) % 2) 1) ≡ false =
       sym (bit-set w (c % 64) (z % 64)) ∙ rw f in
-      either (eqb (z % 64) (c % 64)) (λ t. clash true refl (rw t at b))
+      either (eqb (z % 64) (c % 64)) (λ t. true-not-false true refl (rw t at b))
       (λ t. (
         λ y. eqb-false (z % 64) (c % 64) t (ap (λ n. n % 64) y),
         rw k (not-one (w / 2 ^ (z % 64) % 2) (omega arith) (eqb-false _ _ (rw t at b))),
@@ -230,18 +230,18 @@ all-pairs l size n at i d h m = let e : n ≡ i = omega arith in rw e (sym d)
 module _ (l : List ℕ) (size n at i : ℕ) where
   pub none-marked : (marks : List ℕ) → i ≡ 0 → length marks ≡ 512 → Marked (namesFrom i size at l) marks
   unfolding namesFrom among distinct
-  none-marked marks e h = rw e (record { long = h; covers = λ x a. clash false a refl; apart = refl })
+  none-marked marks e h = rw e (record { long = h; covers = λ x a. true-not-false false a refl; apart = refl })
 
   module _ (marks : List ℕ) (k : Marked (namesFrom i size at l) marks) (x p : ℕ) (ep : p ≡ at + i * size) (ex : x ≡ be 4 l p) (c : ℕ) (ec : c ≡ cellOf x) (b : Bool) (eb : b ≡ amongMarked (markIn marks c) x (namesFrom i size at l)) where
-    pub stands-twice : i < n → b ≡ true → false ≡ distinct (namesFrom n size at l)
-    stands-twice h t =
+    pub located-twice : i < n → b ≡ true → false ≡ distinct (namesFrom n size at l)
+    located-twice h t =
         found-twice n l size at i x p ep ex h
-        (either (eqb (markIn marks c) 0) (λ z. clash false (rw (eb, z) at t) refl) (λ z. rw (eb, z) at t))
+        (either (eqb (markIn marks c) 0) (λ z. true-not-false false (rw (eb, z) at t) refl) (λ z. rw (eb, z) at t))
 
     not-before : b ≡ false → among x (namesFrom i size at l) ≡ false
     not-before t =
         either (among x (namesFrom i size at l))
-        (λ a. clash true refl (rw (eb, ne-eqb (markIn marks c) 0 (rw ec (k .covers x a)), a) at t))
+        (λ a. true-not-false true refl (rw (eb, ne-eqb (markIn marks c) 0 (rw ec (k .covers x a)), a) at t))
         (λ o. o)
 
     pub mark-next : b ≡ false → c < 32768 → (w : ℕ) → w ≡ withBit (getD marks (c / 64) 0) (c % 64 % 64)

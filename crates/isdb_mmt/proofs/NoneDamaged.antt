@@ -20,7 +20,7 @@ use Rattle.isdb_mmt.specs.TableReadingLaws.{saysOf, handsOut, sectionByt
 use Rattle.isdb_mmt.specs.declared.decoder.limits.Limits.{Limits}
 use Rattle.isdb_mmt.specs.declared.decoder.readings.AssetReading.{AssetReading}
 use Rattle.isdb_mmt.specs.declared.decoder.readings.AssetReading.the-variants.{Refused as assetRefused}
-use Rattle.isdb_mmt.proofs.Names.{clash}
+use Rattle.isdb_mmt.proofs.Names.{true-not-false}
 use Rattle.isdb_mmt.proofs.PlacesFor.{none-some}
 use Rattle.isdb_mmt.proofs.Every.{Every}
 use Rattle.isdb_mmt.proofs.Stores.{Whole, mptGood, pltGood, totGood, KeptFits}
@@ -71,7 +71,7 @@ module _ (v : State) (l : Limits) (n : ℕ) (r : Ready l n v) where
           whole-good mptGood (l .«table_area») (c .mpt) (every-find (λ i c. ControlFits l c) (v .controls) (r .controls) id c f .mpt)
 
   undamaged : (p : ℕ) → Damaged p (v .controls) → ⊥
-  undamaged p d = clash (mptGood (d .bytes)) (mpt-good (d .id) (d .bytes) (d .kept)) (rw (d .broken) refl)
+  undamaged p d = true-not-false (mptGood (d .bytes)) (mpt-good (d .id) (d .bytes) (d .kept)) (rw (d .broken) refl)
 
   -- a session that holds this state
   pub as-kept : (s : Session) → sound s ≡ true → Lent s → view s ≡ v → AsKept s v

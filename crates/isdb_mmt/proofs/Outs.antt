@@ -32,7 +32,7 @@ use Rattle.isdb_tlv.specs.declared.mmtp.Parsed.the-variants.{None as notMmtp, S
 use Rattle.isdb_tlv.proofs.Guards.{cond-elim}
 use Rattle.isdb_mmt.specs.Mpu.{payloadHeader, declaredOf, unitsOf, unitsFrom, unitStep, unitAt, unitIn, item, also}
 use Rattle.isdb_mmt.specs.Packet.{Bytes, PayloadUnit, MpuPacket, Packet, ipError, ntp, nonMmtp, media, message, control, other, headerIn, payloadUnit, payloadUnits, unitsFor, unitsRead, mediaOf, byType, mmtpIn, toPort, inFlow, datagramIn, byKind, classify, clear, readable}
-use Rattle.isdb_mmt.specs.Maps.{one, isSome}
+use Rattle.isdb_mmt.specs.Maps.{isSome}
 use Rattle.isdb_mmt.specs.Objects.{Mfu, Asset, Rec, UnitEffect, gap, mostObject, grown, continued, effectOf, objectOf, unitEffect, afterUnit, afterUnits, deliveredBy, afterHeaders, mpuNumber, tagged, passes, mediaGives}
 use Rattle.isdb_mmt.specs.Needs.{heldLength, longestOf, unitArea, unitsNeed}
 use Rattle.isdb_mmt.specs.Octets.{Octets}

@@ -14,15 +14,15 @@ use mir.Syntax.{w8}
 use Rattle.isdb_tlv.proofs.Guards.{cond-elim}
 use Rattle.isdb_mmt.specs.Timestamp.{isSome}
 use Rattle.isdb_mmt.specs.Plt.{packageAt, packagesEnd, deliverySize, deliveryAt, alsoDelivery, deliveriesFrom, deliveriesWhole}
-use Rattle.isdb_mmt.specs.declared.table.mpt.Place.{Place}
-use Rattle.isdb_mmt.specs.declared.table.mpt.Place.the-variants.{None as nowhere, At}
+use Rattle.isdb_mmt.specs.declared.maybe.MaybeUsize.{MaybeUsize}
+use Rattle.isdb_mmt.specs.declared.maybe.MaybeUsize.the-variants.{None as nowhere, Some as At}
 use Rattle.isdb_mmt.specs.declared.table.plt.Package.{Package}
 use Rattle.isdb_mmt.specs.declared.table.plt.PackageStep.the-variants.{Malformed as noPackage, Package as onePackage}
 use Rattle.isdb_mmt.specs.declared.table.plt.IpDelivery.{IpDelivery}
 use Rattle.isdb_mmt.specs.declared.table.plt.DeliveryStep.the-variants.{Malformed as noDelivery, Delivery as delivery}
 
 -- the location of an IP delivery takes 256 bytes at most
-abbrev Small : Place → Type 0
+abbrev Small : MaybeUsize → Type 0
 Small nowhere = Unit {0}
 Small (At n) = n ≤ 256
 

@@ -22,10 +22,10 @@ use Rattle.isdb_mmt.specs.Layout.{controlPlaces, controlSize, timePlace,
 use Rattle.isdb_mmt.specs.Lent.{namesFrom, foundFrom, indexed}
 use Rattle.isdb_mmt.specs.Session.{Session, limitsOf, usedOf, latestOf, timeOf, timeFields, countersOf, countersFields, controlFields, mediaFields}
 use Rattle.isdb_mmt.specs.Check.{mediaIn, controlsIn, sectionsIn, lengthsOf, sound, Sound}
-use Rattle.isdb_mmt.specs.View.{given, assetEntry, controlEntry, sectionEntry, tableAt, viewBy, view}
+use Rattle.isdb_mmt.specs.View.{given, assetEntry, controlEntry, sectionEntry, keptTableAt, viewBy, view}
 use Rattle.isdb_mmt.specs.Opening.{lent}
 use Rattle.isdb_mmt.specs.MediaPush.{placeFor, assetNext}
-use Rattle.isdb_mmt.specs.Placing.{tableLength, controlFor}
+use Rattle.isdb_mmt.specs.PlacesOf.{tableLength, controlFor}
 use Rattle.isdb_mmt.specs.Leaves.{withTime, withCounters, countedIn, timeLeaves, controlLeaves, messageIn, controlPlaceFor, messageAt, messageLeaves, packetLeaves}
 use Rattle.isdb_mmt.specs.Push.{Input, packetOf, hasPlaces, hasAreas, hasOutputs, asksOf, asks, Fits, Taken}
 use Rattle.isdb_mmt.specs.declared.decoder.place.Found.the-variants.{At, Nothing}
@@ -39,7 +39,7 @@ use Rattle.isdb_mmt.proofs.Guards.{was-asked, was-guarded}
 use Rattle.isdb_mmt.proofs.Maps.{find-put}
 use Rattle.isdb_mmt.proofs.Stored.{apart, limits-own, latest-own, time-own, counters-back, time-back}
 use Rattle.isdb_mmt.proofs.Sessions.{Sort, media as mediaSort, controls as controlSort, sections as sectionSort, inUse, named, place-apart, used-apart}
-use Rattle.isdb_mmt.proofs.Views.{keys, stands, absent}
+use Rattle.isdb_mmt.proofs.Views.{keys, found-at, absent}
 use Rattle.isdb_mmt.proofs.PlacesFor.{place-for-was-old, place-for-was-new, place-for-was-full, length-indexed}
 use Rattle.isdb_mmt.proofs.StateWrites.{TablesFit}
 use Rattle.isdb_mmt.proofs.MediaLeaves.{media-leaves}
@@ -86,7 +86,7 @@ taken s x e =
 
 pub record ControlFits (l : Limits) (id : ℕ) (c : ControlState) : Type 0 where
   pub fields : Fit (controlFields (controlFor id c))
-  pub joins : partialLength (c .line .part) ≤ l .«message_area»
+  pub joins : partialLength (c .reassembly .partial) ≤ l .«message_area»
   pub mpt : tableLength (c .mpt) ≤ l .«table_area»
 
 pub record MessageFits (l : Limits) (id : ℕ) (n : State) : Type 0 where
@@ -156,10 +156,10 @@ module _ (s : Session) (ok : Sound (s .state) (s .others) (lengthsOf s)) where
               ap (indexed (controlEntry l s′) 0) (sym (named .controls b′) ∙ sort-same controlSort (ok .there .controls) (omega arith) ∙ named .controls b ∙ ec)
               ∙ sym ek;
           plt =
-              ap (λ (x : Latest). given (x .plt) (tableAt l s′ (l .sections + l .«control_ids») (x .«plt_length»))) lt
+              ap (λ (x : Latest). given (x .plt) (keptTableAt l s′ (l .sections + l .«control_ids») (x .«plt_length»))) lt
               ∙ ap (λ (x : KeptTables). x .plt) (sym et);
           tot =
-              ap (λ (x : Latest). given (x .tot) (tableAt l s′ (l .sections + l .«control_ids» + 1) (x .«tot_length»))) lt
+              ap (λ (x : Latest). given (x .tot) (keptTableAt l s′ (l .sections + l .«control_ids» + 1) (x .«tot_length»))) lt
               ∙ ap (λ (x : KeptTables). x .tot) (sym et);
           kept =
               ap (indexed (sectionEntry l s′) 0)
@@ -234,7 +234,7 @@ module _ (s : Session) (ok : Sound (s .state) (s .others) (lengthsOf s)) where
         let q : foundFrom 0 (keys (controlEntries s)) (c .id) ≡ At i =
         ap (λ (ns : List ℕ). foundFrom 0 ns (c .id)) (control-names s)
         ∙ place-for-was-old (namesFrom (usedOf st .«control_ids») controlSize controlPlaces st) (l .«control_ids») (c .id) i e in
-        let w = stands (controlEntries s) (c .id) 0 i q in
+        let w = found-at (controlEntries s) (c .id) 0 i q in
         omega (arith, w .0, w .1 .within, length-indexed (controlEntry l s) 0 (controlsIn st), length-controls st, ok .controls)
 
     pub new-free : (i : ℕ) → controlPlaceFor st (c .id) ≡ Free i → i < l .«control_ids»

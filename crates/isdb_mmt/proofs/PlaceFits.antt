@@ -17,15 +17,15 @@ use Rattle.isdb_mmt.specs.Packet.{Bytes, PayloadUnit, MpuPacket, readabl
 use Rattle.isdb_mmt.specs.Maps.{find, orElse}
 use Rattle.isdb_mmt.specs.Objects.{Mfu, Asset, fresh, gap, afterUnit, unitEffect, afterUnits, afterHeaders, mpuIn, mpuNumber, mpuAfter, lastIn, rangeAfter, newMpu, assetAfter}
 use Rattle.isdb_mmt.specs.Section.{length12, longSectionOf}
-use Rattle.isdb_mmt.specs.Joins.{PartialMessage, idle}
+use Rattle.isdb_mmt.specs.Reassembly.{PartialMessage, idle}
 use Rattle.isdb_mmt.specs.Kept.{Section, sectionOf, keyOf, versionIn, Kept, otherVersion, keepIf, keep, KeptTables, Table, emptyTable, mptTable, pltTable, totTable, truncatedSection, aSection, otherTable, longTable, tableById, tableRead, latest, mptAfter, mptAfterAll, stored, storedAll}
 use Rattle.isdb_mmt.specs.GivenTables.{controlTables}
 use Rattle.isdb_mmt.specs.Model.{Control, idleControl}
 use Rattle.isdb_mmt.specs.Needs.{heldLength, partialLength, unitsNeed, tableArea, tablesNeed}
 use Rattle.isdb_mmt.specs.Layout.{mostMfuArea, mostMessageArea, mostTableArea}
-use Rattle.isdb_mmt.specs.Session.{numberFields, objectFields, statsFields, mediaFields, controlFields, sectionFields, latestFields, timeFields, countersFields}
+use Rattle.isdb_mmt.specs.Session.{numberFields, objectFields, statsFields, mediaFields, controlFields, sectionFields, countersFields}
 use Rattle.isdb_mmt.specs.Octets.{Octets}
-use Rattle.isdb_mmt.specs.Placing.{noObject, heldFor, firstIn, placeFor, tableLength, controlFor, sectionFor, latestFor, timeFor}
+use Rattle.isdb_mmt.specs.PlacesOf.{noObject, heldFor, firstIn, placeFor, tableLength, controlFor, sectionFor}
 use Rattle.isdb_mmt.specs.declared.mpu.PayloadHeader.{PayloadHeader}
 use Rattle.isdb_mmt.specs.declared.table.section.LongSection.{LongSection}
 use Rattle.isdb_mmt.proofs.Every.{Every, every-put}
@@ -33,7 +33,7 @@ use Rattle.isdb_mmt.proofs.Brief.{octets-take, AllOctets}
 use Rattle.isdb_mmt.proofs.Fits.{mostAdded, AssetFits, fresh-fits, asset-fits}
 use Rattle.isdb_mmt.proofs.Stores.{CountersFit, counted-one}
 use Rattle.isdb_mmt.proofs.Ready.{JoinFits}
-use Rattle.isdb_mmt.proofs.Outs.{TimeOk, HeldOk, MediaOk, held-after, flag-small, object-fits}
+use Rattle.isdb_mmt.proofs.Outs.{HeldOk, MediaOk, held-after, flag-small, object-fits}
 
 fit-append : (xs ys : List Field) → Fit xs → Fit ys → Fit (xs ++ ys)
 fit-append [] ys a b = b
@@ -143,18 +143,18 @@ asset-place area n id a w c i h =
       ),
     ) in
     let stats : Fit (statsFields (p .stats)) = (
-      omega (arith, k .packets),
+      omega (arith, k .counts .packets),
       (
-        omega (arith, k .lost),
+        omega (arith, k .counts .lost),
         (
-          omega (arith, k .scrambled),
+          omega (arith, k .counts .scrambled),
           (
-            omega (arith, k .mfus),
+            omega (arith, k .counts .mfus),
             (
-              omega (arith, k .scrambledMfus),
+              omega (arith, k .counts .scrambledMfus),
               (
-                omega (arith, k .dropped),
-                (omega (arith, k .mpus), (omega (arith, k .jumps), (omega (arith, k .malformed), tt))),
+                omega (arith, k .counts .dropped),
+                (omega (arith, k .counts .mpus), (omega (arith, k .counts .jumps), (omega (arith, k .counts .malformed), tt))),
               ),
             ),
           ),
@@ -191,13 +191,6 @@ store-ok-more area n m s l h = record { plt = h .plt; tot = h .tot; kept = h .ke
 table-small : (area : ℕ) → area ≤ mostTableArea → (o : Option Bytes) → TableOk area o → tableLength o < 4294967296
 table-small area w none h = omega arith
 table-small area w (some b) h = omega (arith, h .0)
-
-pub latest-place : (area n : ℕ) (s : KeptTables) → area ≤ mostTableArea → StoreOk area n s → Fit (latestFields (latestFor s))
-unfolding latestFor
-latest-place area n s w h = (
-  flag-small (latestFor s .plt),
-  (table-small area w (s .plt) (h .plt), (flag-small (latestFor s .tot), (table-small area w (s .tot) (h .tot), tt))),
-)
 
 -- a table as it is read: its bytes are bytes, a key has 4 and a version 1
 pub record SectionOk (x : Section) : Type 0 where
@@ -335,8 +328,8 @@ mpts-ok area (t ∷ ts) m s h q l =
 -- ---- a control id
 
 pub record ControlOk (message table : ℕ) (c : Control) : Type 0 where
-  pub number : NumberOk (c .line .number)
-  pub joins : JoinFits message (c .line .part)
+  pub number : NumberOk (c .reassembly .number)
+  pub joins : JoinFits message (c .reassembly .partial)
   pub mpt : TableOk table (c .mpt)
 
 pub idle-ok : (message table : ℕ) → ControlOk message table idleControl
@@ -356,7 +349,7 @@ control-place message table id c w v i h =
       (
         flag-small (p .seen),
         (
-          number-small (c .line .number) (h .number),
+          number-small (c .reassembly .number) (h .number),
           (
             flag-small (p .joining),
             (
@@ -364,7 +357,7 @@ control-place message table id c w v i h =
               (
                 flag-small (p .aggregated),
                 (
-                  join-small message w (c .line .part) (h .joins),
+                  join-small message w (c .reassembly .partial) (h .joins),
                   (flag-small (p .mpt), (table-small table v (c .mpt) (h .mpt), tt)),
                 ),
               ),
@@ -408,12 +401,3 @@ counters-place n c l h = (
     ),
   ),
 )
-
-time-small : (o : Option ℕ) → TimeOk o → orElse 0 o < 18446744073709551616
-unfolding orElse
-time-small none h = omega arith
-time-small (some t) h = h
-
-pub time-place : (t : Option ℕ) → TimeOk t → Fit (timeFields (timeFor t))
-unfolding timeFor
-time-place t h = (flag-small (timeFor t .seen), (time-small t h, tt))

@@ -7,7 +7,6 @@ use mathlib.Core.List.{List, [], _∷_}
 use native.Mathlib.Omega.{arith}
 use lib.Dec.{eqb}
 use lib.ListN.{length}
-use borrow.Author.Tests.{eqb-true}
 use Rattle.isdb_tlv.proofs.Guards.{either}
 use Rattle.isdb_mmt.specs.Packet.{Bytes, PayloadUnit, MpuPacket, headerIn, readable}
 use Rattle.isdb_mmt.specs.Maps.{one, isSome, orElse}
@@ -16,15 +15,15 @@ use Rattle.isdb_mmt.specs.Objects.{Mfu, Asset, afterUnit, unitEffect, af
 use Rattle.isdb_mmt.specs.View.{given, headerGiven, itemGiven, mfuOf, assetOfPlace}
 use Rattle.isdb_mmt.specs.Records.{hasHeader, headerOr, hasItem, itemOr, objectFor}
 use Rattle.isdb_mmt.specs.MediaPush.{noObject, heldFor, firstIn, placeFor}
-use Rattle.isdb_mmt.specs.Place.{gapIn, lostIn, headerIf, itemIf, tidied, begun, startOf, newIn, jumpIn, seenMpu, lastMpu, firstMpu, completesIn, addsOf, summed, statsAfter, placeAfter}
+use Rattle.isdb_mmt.specs.MediaPlace.{gapIn, lostIn, headerIf, itemIf, normalObject, begun, startOf, newIn, jumpIn, seenMpu, lastMpu, firstMpu, completesIn, addsOf, summed, statsAfter, placeAfter}
 use Rattle.isdb_mmt.specs.declared.mpu.MfuHeader.{MfuHeader}
 use Rattle.isdb_mmt.specs.declared.mpu.PayloadHeader.{PayloadHeader}
 use Rattle.isdb_mmt.specs.declared.mpu.MaybeHeader.{MaybeHeader}
 use Rattle.isdb_mmt.specs.declared.mpu.MaybeHeader.the-variants.{None as noPayload, Some as payload}
 use Rattle.isdb_mmt.specs.declared.decoder.media.Object.{Object}
 use Rattle.isdb_mmt.specs.declared.decoder.media.Media.{Media}
-use Rattle.isdb_mmt.specs.declared.decoder.reassembler.Survey.{Survey}
-use Rattle.isdb_mmt.proofs.Told.{Told}
+use Rattle.isdb_mmt.specs.declared.decoder.reassembler.MediaEffect.{MediaEffect}
+use Rattle.isdb_mmt.proofs.EffectsModelled.{Told}
 
 -- the range ends with the last MPU number
 abbrev pub rangeFor : Option ℕ → ℕ → Option (ℕ × ℕ)
@@ -43,19 +42,22 @@ withUnits a h mfus dropped =
       mpu = a .mpu;
       held = h;
       range = a .range;
-      packets = a .packets;
-      lost = a .lost;
-      scrambled = a .scrambled;
-      mfus = mfus;
-      scrambledMfus = a .scrambledMfus;
-      dropped = dropped;
-      mpus = a .mpus;
-      jumps = a .jumps;
-      malformed = a .malformed;
+      stats =
+          record {
+            packets = a .stats .packets;
+            «packets_lost» = a .stats .«packets_lost»;
+            «scrambled_packets» = a .stats .«scrambled_packets»;
+            mfus = mfus;
+            «scrambled_mfus» = a .stats .«scrambled_mfus»;
+            «mfus_dropped» = dropped;
+            mpus = a .stats .mpus;
+            «mpu_sequence_jumps» = a .stats .«mpu_sequence_jumps»;
+            malformed = a .stats .malformed;
+          };
     }
 
 pub units-keep : (m : MpuPacket) (us : List PayloadUnit) (a : Asset)
-    → afterUnits m a us ≡ withUnits a (afterUnits m a us .held) (afterUnits m a us .mfus) (afterUnits m a us .dropped)
+    → afterUnits m a us ≡ withUnits a (afterUnits m a us .held) (afterUnits m a us .stats .mfus) (afterUnits m a us .stats .«mfus_dropped»)
 unfolding afterUnits afterUnit
 units-keep m [] a = refl
 units-keep m (u ∷ us) a = units-keep m us (afterUnit a (unitEffect m a u))
@@ -74,42 +76,42 @@ module _ (p : Media) (b : Bytes) (n : ℕ) where
       (λ t. either (follows (p .sequence) n) (λ x. rw (t, x)) (λ x. rw (t, x)))
       (λ f. rw f)
 
-tidy-header : (t : Bool) (h : MfuHeader) → headerIf t h ≡ headerOr (headerGiven t h)
-tidy-header true h = refl
-tidy-header false h = refl
+normal-header : (t : Bool) (h : MfuHeader) → headerIf t h ≡ headerOr (headerGiven t h)
+normal-header true h = refl
+normal-header false h = refl
 
-tidy-timed : (t : Bool) (h : MfuHeader) → t ≡ hasHeader (headerGiven t h)
-tidy-timed true h = refl
-tidy-timed false h = refl
+normal-timed : (t : Bool) (h : MfuHeader) → t ≡ hasHeader (headerGiven t h)
+normal-timed true h = refl
+normal-timed false h = refl
 
-tidy-item : (t : Bool) (i : ℕ) → itemIf t i ≡ itemOr (itemGiven t i)
-tidy-item true i = refl
-tidy-item false i = refl
+normal-item : (t : Bool) (i : ℕ) → itemIf t i ≡ itemOr (itemGiven t i)
+normal-item true i = refl
+normal-item false i = refl
 
-tidy-has : (t : Bool) (i : ℕ) → t ≡ hasItem (itemGiven t i)
-tidy-has true i = refl
-tidy-has false i = refl
+normal-has : (t : Bool) (i : ℕ) → t ≡ hasItem (itemGiven t i)
+normal-has true i = refl
+normal-has false i = refl
 
-pub tidied-is : (o : Object) (b : Bytes) → length b ≡ o .length → tidied o ≡ objectFor (mfuOf o b)
-unfolding tidied mfuOf
-tidied-is o b e =
+pub normal-is : (o : Object) (b : Bytes) → length b ≡ o .length → normalObject o ≡ objectFor (mfuOf o b)
+unfolding normalObject mfuOf
+normal-is o b e =
     λ i.
     record {
       «mpu_sequence_number» = o .«mpu_sequence_number»;
       rap = o .rap;
-      timed = tidy-timed (o .timed) (o .header) i;
-      header = tidy-header (o .timed) (o .header) i;
-      item = tidy-has (o .item) (o .«item_id») i;
-      «item_id» = tidy-item (o .item) (o .«item_id») i;
+      timed = normal-timed (o .timed) (o .header) i;
+      header = normal-header (o .timed) (o .header) i;
+      item = normal-has (o .item) (o .«item_id») i;
+      «item_id» = normal-item (o .item) (o .«item_id») i;
       length = sym e i;
     }
 
 -- what the units start from
 module _ (p : Media) (b : Bytes) (m : MpuPacket) (long : p .held ≡ true → length b ≡ p .object .length) where
-  starts-by : (x g : Bool) (o : Mfu) → (x ≡ true → tidied (p .object) ≡ objectFor o)
-      → (cond (not x) (begun false noObject 0) (cond g (begun false noObject 1) (begun true (tidied (p .object)) 0)) .held ≡ isSome (cond g none (given x o)))
-      × ((cond (not x) (begun false noObject 0) (cond g (begun false noObject 1) (begun true (tidied (p .object)) 0)) .object ≡ heldFor (cond g none (given x o)))
-      × (cond (not x) (begun false noObject 0) (cond g (begun false noObject 1) (begun true (tidied (p .object)) 0)) .drops ≡ one (g && isSome (given x o))))
+  starts-by : (x g : Bool) (o : Mfu) → (x ≡ true → normalObject (p .object) ≡ objectFor o)
+      → (cond (not x) (begun false noObject 0) (cond g (begun false noObject 1) (begun true (normalObject (p .object)) 0)) .held ≡ isSome (cond g none (given x o)))
+      × ((cond (not x) (begun false noObject 0) (cond g (begun false noObject 1) (begun true (normalObject (p .object)) 0)) .object ≡ heldFor (cond g none (given x o)))
+      × (cond (not x) (begun false noObject 0) (cond g (begun false noObject 1) (begun true (normalObject (p .object)) 0)) .drops ≡ one (g && isSome (given x o))))
   unfolding isSome
   starts-by true true o e = (refl, (refl, refl))
   starts-by true false o e = (refl, (e refl, refl))
@@ -125,7 +127,7 @@ module _ (p : Media) (b : Bytes) (m : MpuPacket) (long : p .held ≡ true → le
   unfolding startOf afterHeaders assetOfPlace
   starts =
       rw (← gap-is p b (m .number))
-      (starts-by (p .held) (gapIn p (m .number)) (mfuOf (p .object) b) (λ t. tidied-is (p .object) b (long t)))
+      (starts-by (p .held) (gapIn p (m .number)) (mfuOf (p .object) b) (λ t. normal-is (p .object) b (long t)))
 
   pub start-held : startOf p (m .number) .held ≡ isSome (afterHeaders asset m .held)
   start-held = starts .0
@@ -133,7 +135,7 @@ module _ (p : Media) (b : Bytes) (m : MpuPacket) (long : p .held ≡ true → le
   pub start-object : startOf p (m .number) .object ≡ heldFor (afterHeaders asset m .held)
   start-object = starts .1 .0
 
-  start-drops : startOf p (m .number) .drops + asset .dropped ≡ afterHeaders asset m .dropped
+  start-drops : startOf p (m .number) .drops + asset .stats .«mfus_dropped» ≡ afterHeaders asset m .stats .«mfus_dropped»
   unfolding afterHeaders
   start-drops = rw (starts .1 .1) (omega arith)
 
@@ -180,27 +182,15 @@ module _ (p : Media) (b : Bytes) where
       (λ t. either (eqb (h .«mpu_sequence_number») (p .mpu)) (λ x. rw (t, x)) (λ x. rw (t, x)))
       (λ f. rw f)
 
-  tied-is : (h : MaybeHeader) → rangeThen h ≡ rangeFor (mpuAfter (assetOfPlace p b .mpu) (mpuIn (headerIn h))) (firstIn (rangeThen h))
-  unfolding mpuAfter newMpu rangeAfter assetOfPlace
-  tied-is noPayload = either (p .«mpu_seen») (λ t. rw t) (λ f. rw f)
-  tied-is (payload h) =
-      either (p .«mpu_seen»)
-      (λ t.
-      either (eqb (h .«mpu_sequence_number») (p .mpu))
-      (λ x. let e : p .mpu ≡ h .«mpu_sequence_number» = sym (eqb-true (h .«mpu_sequence_number») (p .mpu) x) in
-      rw (t, x) (λ i. some (p .«first_mpu», e i)))
-      (λ x. rw (t, x)))
-      (λ f. rw f)
-
 completes-is : (h : MaybeHeader) → completesIn h ≡ completes (headerIn h)
 completes-is noPayload = refl
 completes-is (payload h) = refl
 
-dropped-of : (p : Media) (b : Bytes) → assetOfPlace p b .dropped ≡ p .stats .«mfus_dropped»
+dropped-of : (p : Media) (b : Bytes) → assetOfPlace p b .stats .«mfus_dropped» ≡ p .stats .«mfus_dropped»
 unfolding assetOfPlace
 dropped-of p b = refl
 
-after-dropped : (a : Asset) (m : MpuPacket) → assetAfter a m .dropped ≡ afterUnits m (afterHeaders a m) (readable m) .dropped
+after-dropped : (a : Asset) (m : MpuPacket) → assetAfter a m .stats .«mfus_dropped» ≡ afterUnits m (afterHeaders a m) (readable m) .stats .«mfus_dropped»
 unfolding assetAfter
 after-dropped a m = refl
 
@@ -211,28 +201,17 @@ module _ (id : ℕ) (p : Media) (b : Bytes) (m : MpuPacket) (long : p .held ≡ 
   abbrev before : Asset
   before = assetOfPlace p b
 
-  pub tied-after : Tied (assetAfter before m)
-  unfolding assetAfter afterHeaders
-  tied-after =
-      let k = units-keep m (readable m) (afterHeaders before m) in
-      subst (λ (x : Asset). Tied x) (sym k)
-      (subst
-      (λ (o : Option PayloadHeader).
-      rangeAfter (newMpu (before .mpu) (mpuIn o)) (before .range) (mpuIn o)
-      ≡ rangeFor (mpuAfter (before .mpu) (mpuIn o)) (firstIn (rangeAfter (newMpu (before .mpu) (mpuIn o)) (before .range) (mpuIn o))))
-      (sym eh) (tied-is p b h))
-
-  module _ (bad : Bool) (eb : bad ≡ malformedPayload m) (t : Survey)
+  module _ (bad : Bool) (eb : bad ≡ malformedPayload m) (t : MediaEffect)
       (w : Told m (startOf p (m .number)) (afterHeaders before m) t (readable m)) where
-    mfus-after : p .stats .mfus + t .records ≡ assetAfter before m .mfus
+    mfus-after : p .stats .mfus + t .records ≡ assetAfter before m .stats .mfus
     unfolding assetAfter afterHeaders assetOfPlace
     mfus-after = let z = start-zero p b m long .0 in omega (arith, w .mfus, z)
 
-    dropped-after : p .stats .«mfus_dropped» + t .drops ≡ assetAfter before m .dropped
+    dropped-after : p .stats .«mfus_dropped» + t .drops ≡ assetAfter before m .stats .«mfus_dropped»
     dropped-after =
         let d = start-drops p b m long in
-        let e : before .dropped ≡ p .stats .«mfus_dropped» = dropped-of p b in
-        let x : assetAfter before m .dropped ≡ afterUnits m (afterHeaders before m) (readable m) .dropped = after-dropped before m in
+        let e : before .stats .«mfus_dropped» ≡ p .stats .«mfus_dropped» = dropped-of p b in
+        let x : assetAfter before m .stats .«mfus_dropped» ≡ afterUnits m (afterHeaders before m) (readable m) .stats .«mfus_dropped» = after-dropped before m in
         omega (arith, w .drops, d, e, x)
 
     pub place-told : placeAfter id p (m .number) (m .scrambled) h bad t ≡ placeFor id (assetAfter before m)

@@ -22,7 +22,7 @@ use Rattle.isdb_mmt.specs.declared.decoder.place.Found.the-variants.{At,
 use Rattle.isdb_mmt.specs.declared.decoder.place.PlaceFor.the-variants.{Own, Free, NoneFree}
 use Rattle.isdb_mmt.specs.declared.decoder.media.Media.{Media}
 use Rattle.isdb_mmt.proofs.Lent.{names-of, length-places}
-use Rattle.isdb_mmt.proofs.Names.{clash}
+use Rattle.isdb_mmt.proofs.Names.{true-not-false}
 use Rattle.isdb_mmt.proofs.Sessions.{named}
 use Rattle.isdb_mmt.proofs.Views.{keys, keys-indexed, indexed-same}
 
@@ -93,9 +93,9 @@ entry-names s =
 pub every-at : {A : Type 0} (f : A → Bool) (d : A) (xs : List A) (j : ℕ) → every f xs ≡ true → j < length xs → f (getD xs j d) ≡ true
 unfolding every
 every-at f d [] j e h = absurd (omega arith)
-every-at f d (x ∷ xs) zero e h = either (f x) (λ t. t) (λ t. clash false (rw t at e) refl)
+every-at f d (x ∷ xs) zero e h = either (f x) (λ t. t) (λ t. true-not-false false (rw t at e) refl)
 every-at f d (x ∷ xs) (suc j) e h =
-    either (f x) (λ t. every-at f d xs j (rw t at e) (omega arith)) (λ t. clash false (rw t at e) refl)
+    either (f x) (λ t. every-at f d xs j (rw t at e) (omega arith)) (λ t. true-not-false false (rw t at e) refl)
 
 pub getD-indexed : {A B : Type 0} (g : ℕ → A → B) (xs : List A) (k i : ℕ) (d : A) (e : B) → i < length xs → getD (indexed g k xs) i e ≡ g (k + i) (getD xs i d)
 unfolding indexed

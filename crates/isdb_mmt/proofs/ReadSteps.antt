@@ -25,7 +25,7 @@ use Rattle.isdb_mmt.specs.declared.decoder.head.Used.{Used}
 use Rattle.isdb_mmt.specs.declared.decoder.place.Found.{Found}
 use Rattle.isdb_mmt.specs.declared.decoder.place.Found.the-variants.{At, Nothing}
 use Rattle.isdb_mmt.proofs.Lent.{length-names}
-use Rattle.isdb_mmt.proofs.Names.{clash, there, indexIn}
+use Rattle.isdb_mmt.proofs.Names.{true-not-false, there, indexIn}
 use Rattle.isdb_mmt.proofs.Limits.{areas-fit, passed}
 use Rattle.isdb_mmt.proofs.Checks.{sound-session}
 
@@ -36,7 +36,7 @@ module _ (s : Session) (ready : Bool) (e : ready ≡ sound s) where
   asked-no a b n = go ready e n
     where
       go : (q : Bool) → q ≡ sound s → not q ≡ true → b ≡ (if sound s then a else b)
-      go true d m = clash true refl (sym m)
+      go true d m = true-not-false true refl (sym m)
       go false d m = rw (← d)
 
   pub was-sound : not ready ≡ false → sound s ≡ true
@@ -44,7 +44,7 @@ module _ (s : Session) (ready : Bool) (e : ready ≡ sound s) where
     where
       go : (q : Bool) → q ≡ sound s → not q ≡ false → sound s ≡ true
       go true d m = sym d
-      go false d m = clash true refl m
+      go false d m = true-not-false true refl m
 
   module _ (n : not ready ≡ false) where
     pub asked-yes : {A : Type 0} (a b x : A) → x ≡ a → x ≡ (if sound s then a else b)
@@ -104,7 +104,7 @@ item-is false i = refl
 
 pub found-below : (names : List ℕ) (x k j : ℕ) → foundFrom k names x ≡ At j → (k ≤ j) × (j < k + length names)
 unfolding foundFrom
-found-below [] x k j e = clash true refl (ap there (sym e))
+found-below [] x k j e = true-not-false true refl (ap there (sym e))
 found-below (y ∷ ys) x k j e =
     either (eqb y x) (λ t. let n : k ≡ j = ap indexIn (rw t at e) in (omega arith, omega arith))
     (λ f. let r = found-below ys x (k + 1) j (rw f at e) in (omega (arith, r .0), omega (arith, r .1)))

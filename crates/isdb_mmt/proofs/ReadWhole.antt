@@ -19,7 +19,7 @@ use Rattle.isdb_mmt.specs.ReadWhole.{ReadTheorem}
 use Rattle.isdb_mmt.specs.declared.part.Part.{Part}
 use Rattle.isdb_mmt.specs.declared.decoder.readings.TableReading.{TableReading}
 use Rattle.isdb_mmt.specs.declared.decoder.readings.TableReading.the-variants.{Refused as tableRefused, Nothing as noTable, Bytes as theBytes}
-use Rattle.isdb_mmt.proofs.Names.{clash}
+use Rattle.isdb_mmt.proofs.Names.{true-not-false}
 use Rattle.isdb_mmt.proofs.WholeLists.{values}
 
 abbrev Handed : (Bytes → Bool) → Bytes → TableReading → Type 0
@@ -37,7 +37,7 @@ module _ (parses : Bytes → Bool) where
 
 and-right : (a b : Bool) → (a && b) ≡ true → b ≡ true
 and-right true b h = h
-and-right false b h = clash false h refl
+and-right false b h = true-not-false false h refl
 
 section-parses : (id : ℕ) (b : Bytes) → parsesAs id b ≡ true → sectionWhole id b ≡ true
 unfolding parsesAs

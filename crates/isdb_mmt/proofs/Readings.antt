@@ -14,13 +14,13 @@ use Rattle.isdb_tlv.proofs.Numbers.{be-lt}
 use Rattle.isdb_mmt.specs.Packet.{Bytes}
 use Rattle.isdb_mmt.specs.Maps.{find}
 use Rattle.isdb_mmt.specs.Objects.{Mfu}
-use Rattle.isdb_mmt.specs.Joins.{PartialMessage}
+use Rattle.isdb_mmt.specs.Reassembly.{PartialMessage}
 use Rattle.isdb_mmt.specs.Lent.{part, placesFrom, namesFrom, among, foundFrom, indexed}
 use Rattle.isdb_mmt.specs.Octets.{Octets}
 use Rattle.isdb_mmt.specs.Layout.{mediaPlaces, mediaSize, controlPlaces, controlSize, sectionPlaces, sectionSize}
 use Rattle.isdb_mmt.specs.Session.{Session, limitsOf, usedOf, timeOf, mediaPlaceOf, controlPlaceOf, sectionPlaceOf, mediaAt, controlAt}
 use Rattle.isdb_mmt.specs.Check.{lengthsOf, sound, Sound, mediaIn, controlsIn, sectionsIn, mediaSound, controlSound}
-use Rattle.isdb_mmt.specs.View.{given, mfuOf, assetOfPlace, controlStateOf, assetEntry, controlEntry, sectionEntry, tableAt, viewBy, view}
+use Rattle.isdb_mmt.specs.View.{given, mfuOf, assetOfPlace, controlStateOf, assetEntry, controlEntry, sectionEntry, keptTableAt, viewBy, view}
 use Rattle.isdb_mmt.specs.Readings.{mediaNames, controlNames, keysIn, mediaFound, controlFound, countersRead, timeAt, timeRead, countRead, leastFrom, nameTold, nameRead, mostName, nextMediaRead, nextControlRead, nextKeyRead, u32If, rangeIf, mediaState, mediaIf, mediaRead, heldObject, heldAt, heldIf, heldRead, controlState, controlIf, controlRead}
 use Rattle.isdb_mmt.specs.ReadingLaws.{timeTold, CountsAreTold, u32Told, rangeTold, objectLength, joinedLength, mediaTold, HeldTold, controlTold, IdsAreTold, Least, NextTold, NamesAreTold}
 use Rattle.isdb_mmt.specs.declared.maybe.MaybeU32.{MaybeU32}
@@ -37,12 +37,12 @@ use Rattle.isdb_mmt.specs.declared.decoder.readings.MediaReading.the-var
 use Rattle.isdb_mmt.specs.declared.decoder.readings.ControlReading.the-variants.{Control as theControl}
 use Rattle.isdb_mmt.proofs.Said.{mediaEntry, controlAtPlace, media-found, control-found}
 use Rattle.isdb_mmt.proofs.Lent.{names-of, length-names}
-use Rattle.isdb_mmt.proofs.Names.{clash}
+use Rattle.isdb_mmt.proofs.Names.{true-not-false}
 use Rattle.isdb_mmt.proofs.Views.{keys, keys-indexed}
 use Rattle.isdb_mmt.proofs.Sessions.{named}
 use Rattle.isdb_mmt.proofs.PlacesFor.{entries, entry-names}
 use Rattle.isdb_mmt.proofs.MessageLeaves.{controlEntries, control-names}
-use Rattle.isdb_mmt.proofs.LinePlaces.{in-buffer}
+use Rattle.isdb_mmt.proofs.ControlPlaces.{in-buffer}
 use Rattle.isdb_mmt.proofs.Areas.{length-part}
 use Rattle.isdb_mmt.proofs.Limits.{passed}
 use Rattle.isdb_mmt.proofs.Checks.{sound-session, media-was, control-was, place-was}
@@ -159,7 +159,7 @@ module _ (s : Session) (e : sound s ≡ true) (id : ℕ) where
   control-by (At i) d =
       let w = control-there i d in
       rw (w .1)
-      (control-told-of (controlAt (s .state) i) (part (i * l .«message_area») (controlAt (s .state) i .length) (s .messages)) (tableAt l s (l .sections + i) (controlAt (s .state) i .«mpt_length»))
+      (control-told-of (controlAt (s .state) i) (part (i * l .«message_area») (controlAt (s .state) i .length) (s .messages)) (keptTableAt l s (l .sections + i) (controlAt (s .state) i .«mpt_length»))
       (message-long i (w .0)))
   control-by Nothing d = rw (control-missing d)
 
@@ -194,7 +194,7 @@ key-names s =
 
 names-small : (l : List ℕ) → Octets l → (size n at y : ℕ) → among y (namesFrom n size at l) ≡ true → y ≤ mostName
 unfolding among namesFrom
-names-small l o size zero at y m = clash false m refl
+names-small l o size zero at y m = true-not-false false m refl
 names-small l o size (suc n) at y m =
     either (eqb (be 4 l at) y)
     (λ t.

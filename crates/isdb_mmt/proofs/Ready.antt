@@ -5,17 +5,16 @@ use mathlib.Core.Bool.{Bool, true, false, cond}
 use mathlib.Core.Option.{Option, none, some}
 use mathlib.Core.List.{List, [], _∷_, _++_, map}
 use native.Mathlib.Omega.{arith}
-use lib.ListN.{length, getD, take, drop, replicate, length-drop, length-append}
+use lib.ListN.{length, getD, drop, replicate, length-drop, length-append}
 use lib.Dec.{leb}
 use borrow.Author.Tests.{leb-true}
 use Rattle.isdb_tlv.proofs.Guards.{cond-elim}
 use Rattle.isdb_mmt.specs.declared.decoder.counts.Counters.{Counters}
 use Rattle.isdb_mmt.specs.Part.{partOf}
 use Rattle.isdb_mmt.specs.Packet.{Bytes, MpuPacket, MessagePacket, Packet, ipError, ntp, nonMmtp, media, message, control, other, readable}
-use Rattle.isdb_mmt.specs.Maps.{one}
 use Rattle.isdb_mmt.specs.Message.{tablesFrom, aggregatedFrom, contentOf}
 use Rattle.isdb_mmt.specs.Objects.{fresh, gap}
-use Rattle.isdb_mmt.specs.Joins.{PartialMessage, Reassembly, idle, mostMessage, short, flagsOf, partBefore, joinedOn, partAfter, wholeOf, reassemblyAfter, messageCompleted, orphan, oversize, TablesFound, partsOf, tablesIn, tablesOf, tablesOfAll, messagesOf, cutOf, cutOfAll}
+use Rattle.isdb_mmt.specs.Reassembly.{PartialMessage, Reassembly, idle, mostMessage, short, flagsOf, partBefore, joinedOn, partAfter, wholeOf, reassemblyAfter, messageCompleted, orphan, oversize, TablesFound, partsOf, tablesIn, tablesOf, tablesOfAll, messagesOf, cutOf, cutOfAll}
 use Rattle.isdb_mmt.specs.Kept.{zeros, tableRead}
 use Rattle.isdb_mmt.specs.GivenTables.{tablesGiven, controlTables}
 use Rattle.isdb_mmt.specs.Model.{Control, idleControl, State, opened, assetOf, controlOf, reassemblyOf, packetCounted, messageCounted, reassemblyCounted, pushed}
@@ -72,7 +71,7 @@ abbrev pub JoinFits : ℕ → Option PartialMessage → Type 0
 JoinFits area none = Unit {0}
 JoinFits area (some j) = (length (j .bytes) ≤ area) × Octets (j .bytes)
 
-before-fits : (area : ℕ) (l : Reassembly) (c : MessagePacket) → JoinFits area (l .part) → JoinFits area (partBefore l c)
+before-fits : (area : ℕ) (l : Reassembly) (c : MessagePacket) → JoinFits area (l .partial) → JoinFits area (partBefore l c)
 unfolding partBefore
 before-fits area l c h = cond-elim (JoinFits area) (gap (l .number) (c .number)) (λ e. tt) (λ e. h)
 
@@ -98,12 +97,12 @@ after-fits area middlePart j c h q l =
     join-within area mostMessage (joinedOn j (drop 2 (c .payload))) (on-fits area j (drop 2 (c .payload)) h (octets-drop 2 (c .payload) q)) l
 after-fits area lastPart j c h q l = tt
 
-pub line-fits : (area : ℕ) (l : Reassembly) (c : MessagePacket) → JoinFits area (l .part) → Octets (c .payload) → reassemblyNeeds l c ≤ area → JoinFits area (reassemblyAfter l c .part)
+pub reassembly-fits : (area : ℕ) (l : Reassembly) (c : MessagePacket) → JoinFits area (l .partial) → Octets (c .payload) → reassemblyNeeds l c ≤ area → JoinFits area (reassemblyAfter l c .partial)
 unfolding reassemblyAfter reassemblyNeeds
-line-fits area l c h q = go (short c)
+reassembly-fits area l c h q = go (short c)
   where
     go : (b : Bool) → cond b 0 (fragmentArea (flagsOf c .division) (partBefore l c) (drop 2 (c .payload))) ≤ area
-        → JoinFits area (cond b (l .part) (partAfter (flagsOf c .division) (partBefore l c) c))
+        → JoinFits area (cond b (l .partial) (partAfter (flagsOf c .division) (partBefore l c) c))
     go true n = h
     go false n = after-fits area (flagsOf c .division) (partBefore l c) c (before-fits area l c h) q n
 
@@ -115,7 +114,7 @@ whole-fits area First j c h s q = tt
 whole-fits area middlePart j c h s q = tt
 whole-fits area lastPart j c h s q = on-fits area j (drop 2 (c .payload)) h (octets-drop 2 (c .payload) q)
 
-pub gives-fits : (area : ℕ) (l : Reassembly) (c : MessagePacket) → JoinFits area (l .part) → length (c .payload) < 65536 → Octets (c .payload) → JoinFits mostMessage (messageCompleted l c)
+pub gives-fits : (area : ℕ) (l : Reassembly) (c : MessagePacket) → JoinFits area (l .partial) → length (c .payload) < 65536 → Octets (c .payload) → JoinFits mostMessage (messageCompleted l c)
 unfolding messageCompleted
 gives-fits area l c h s q =
     cond-elim (JoinFits mostMessage) (short c) (λ e. tt) (λ e. whole-fits area (flagsOf c .division) (partBefore l c) c (before-fits area l c h) s q)
@@ -150,7 +149,7 @@ length-control (b ∷ bs) = omega (arith, length-control bs)
 -- ---- a state
 
 pub record ControlFits (l : Limits) (c : Control) : Type 0 where
-  pub joins : JoinFits (l .«message_area») (c .line .part)
+  pub joins : JoinFits (l .«message_area») (c .reassembly .partial)
   pub mpt : Whole mptGood (l .«table_area») (c .mpt)
 
 -- `n` is 2^21 for each packet
@@ -234,10 +233,10 @@ packet-fits p t b x y z c k l m h =
       «split_errors» = h .«split_errors»;
     }
 
-pub line-counts : (p t b : ℕ) (c : Counters) (l : Reassembly) (x : MessagePacket) → cutOfAll (messageCompleted l x) .malformed ≤ mostMessage + 1 → CountersFit p t b c
+pub reassembly-counts : (p t b : ℕ) (c : Counters) (l : Reassembly) (x : MessagePacket) → cutOfAll (messageCompleted l x) .malformed ≤ mostMessage + 1 → CountersFit p t b c
     → CountersFit (p + (mostMessage + 2)) t b (reassemblyCounted c l x)
 unfolding reassemblyCounted messageCounted
-line-counts p t b c l x k h =
+reassembly-counts p t b c l x k h =
     record {
       «tlv_packets» = omega (arith, h .«tlv_packets»);
       «ip_errors» = omega (arith, h .«ip_errors»);
@@ -308,9 +307,9 @@ module _ (l : Limits) (n : ℕ) (s : State) (h : Ready l n s) where
   unfolding pushed packetCounted needs controlOf tablesGiven reassemblyCounted messageCounted
   ready-message c q o t =
       let old = every-found (λ i c. ControlFits l c) idleControl (c .id) idle-fits (s .controls) (h .controls) in
-      let line = reassemblyOf (c .id) s in
-      let g = given-cut (messageCompleted line c) (gives-fits (l .«message_area») line c (old .joins) q o) in
-      let bs = cutOfAll (messageCompleted line c) .tables in
+      let reassembly = reassemblyOf (c .id) s in
+      let g = given-cut (messageCompleted reassembly c) (gives-fits (l .«message_area») reassembly c (old .joins) q o) in
+      let bs = cutOfAll (messageCompleted reassembly c) .tables in
       let sane = tables-sane bs (g .octets) in
       let many = length-map bs in
       record {
@@ -320,7 +319,7 @@ module _ (l : Limits) (n : ℕ) (s : State) (h : Ready l n s) where
         controls =
             every-put (λ i c. ControlFits l c) (c .id) _
             (record {
-              joins = line-fits (l .«message_area») line c (old .joins) o (t .message);
+              joins = reassembly-fits (l .«message_area») reassembly c (old .joins) o (t .message);
               mpt = mpts-fit (l .«table_area») (map tableRead bs) (controlOf (c .id) s .mpt) (s .store) (old .mpt) sane (t .table);
             })
             (s .controls) (h .controls);
@@ -331,7 +330,7 @@ module _ (l : Limits) (n : ℕ) (s : State) (h : Ready l n s) where
             counters-more (n + 1 + (mostMessage + 2)) (n + length (map tableRead bs)) (n + breaksIn (map tableRead bs)) (n + mostAdded) (n + mostAdded) (n + mostAdded) _
             (omega arith) (omega (arith, many, g .many)) (omega (arith, breaks-read bs, g .long))
             (counted-fit (map tableRead bs) (n + 1 + (mostMessage + 2)) n n (controlOf (c .id) s .mpt) (s .store) _
-            (line-counts (n + 1) n n _ line c (g .malformed) (packet-fits n n n 0 0 0 (s .counters) (omega arith) (omega arith) (omega arith) (h .counters))));
+            (reassembly-counts (n + 1) n n _ reassembly c (g .malformed) (packet-fits n n n 0 0 0 (s .counters) (omega arith) (omega arith) (omega arith) (h .counters))));
         mediaNames = h .mediaNames;
         controlNames = distinct-put (c .id) _ (s .controls) (h .controlNames);
         media = h .media;

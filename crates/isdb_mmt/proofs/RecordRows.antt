@@ -7,7 +7,7 @@ use native.Mathlib.Omega.{arith}
 use lib.ListN.{length, take, drop, length-append}
 use lib.Seq.{take-append-seam, drop-append-seam, take-at}
 use Rattle.isdb_tlv.specs.Bytes.{be}
-use Rattle.isdb_tlv.specs.Fields.{field, written, Fit}
+use Rattle.isdb_tlv.specs.Fields.{Fit}
 use Rattle.isdb_tlv.proofs.Fields.{length-written}
 use Rattle.isdb_mmt.specs.Lent.{part, over, flagByte, placesFrom}
 use Rattle.isdb_mmt.specs.Objects.{Rec}

@@ -16,7 +16,6 @@ use Rattle.isdb_tlv.specs.declared.ip.MaybeFlow.{MaybeFlow}
 use Rattle.isdb_tlv.specs.declared.ip.MaybeFlow.the-variants.{None as noFlow, Some as someFlow}
 use Rattle.isdb_tlv.specs.declared.ip.Flow.{Flow}
 use Rattle.isdb_tlv.specs.declared.ip.Datagram.{Datagram}
-use Rattle.isdb_tlv.specs.declared.ip.IpError.{IpError}
 use Rattle.isdb_tlv.specs.declared.ip.IpResult.{IpResult}
 use Rattle.isdb_tlv.specs.declared.ip.IpResult.the-variants.{Ok, Err}
 use Rattle.isdb_mmt.specs.Packet.{Bytes, ntp, inFlow, datagramIn, byKind, classify}
@@ -62,9 +61,6 @@ module _ (at : ℕ) (flow : MaybeFlow) where
   flow-mmtp f e t = sym (ap (flowRoute at) e ∙ rw (ne-eqb (f .dport) 123 t))
 
 module _ (x : IpResult) where
-  pub ip-bad : (e : IpError) → x ≡ Err e → Route.IpError ≡ ipRoute x
-  ip-bad e h = sym (ap ipRoute h)
-
   pub ip-good : (d : Datagram) → x ≡ Ok d → (r : Route) → r ≡ flowRoute (d .start) (d .flow) → r ≡ ipRoute x
   ip-good d h r k = k ∙ sym (ap ipRoute h)
 

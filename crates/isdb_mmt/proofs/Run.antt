@@ -16,7 +16,7 @@ use Rattle.isdb_mmt.specs.Maps.{one, isSome, find, put, orElse}
 use Rattle.isdb_mmt.specs.Objects.{Mfu, Rec, Asset, mostObject, grown, fresh, gap, lostBy, continued, effectOf, afterUnit, unitEffect, objectOf, afterUnits, deliveredBy, afterHeaders, assetAfter, tagged, passes, mediaGives}
 use Rattle.isdb_mmt.specs.Model.{State, assetOf, pushed, gives}
 use Rattle.isdb_mmt.specs.Book.{LogEntry, packetNumber, unitReceived, unitsReceived, logEntries, receptionLog, Book, dropCounted, inOrder, missing, follower, continuedBy, entered, enteredAll, deliveredOf}
-use Rattle.isdb_mmt.specs.Demand.{pushAll, giveAll, bytesOf}
+use Rattle.isdb_mmt.specs.Demand.{pushAll, giveAll, heldBytes}
 use Rattle.isdb_mmt.specs.declared.mpu.FragmentationIndicator.{FragmentationIndicator}
 use Rattle.isdb_mmt.specs.declared.mpu.FragmentationIndicator.the-variants.{Complete, Head, Middle, Last}
 
@@ -31,7 +31,7 @@ data-append [] ys = refl
 data-append (x ∷ xs) ys = rw (data-append xs ys)
 
 abbrev bookOf : Asset → List Bytes → Book
-bookOf a os = record { number = a .number; held = bytesOf (a .held); dropped = a .dropped; lost = a .lost; delivered = os }
+bookOf a os = record { number = a .number; held = heldBytes (a .held); dropped = a .stats .«mfus_dropped»; lost = a .stats .«packets_lost»; delivered = os }
 
 -- a book by its parts
 abbrev pub at : ℕ → Option ℕ → Option Bytes → ℕ → List Bytes → Book
@@ -39,9 +39,9 @@ at w n h k os = record { number = n; held = h; dropped = k; lost = w; delivered 
 
 -- one unit
 unit-parts : (w : ℕ) (c : Option ℕ) (h : Option Mfu) (k : ℕ) (os : List Bytes) (n : ℕ) (f : FragmentationIndicator) (u : Mfu)
-    → entered (at w c (bytesOf h) k os) (unitReceived n f (u .bytes))
-    ≡ at w c (bytesOf (effectOf f h u .held)) (k + effectOf f h u .drops) (os ++ dataOf (effectOf f h u .outs))
-unfolding entered dropCounted continuedBy effectOf continued isSome bytesOf grown
+    → entered (at w c (heldBytes h) k os) (unitReceived n f (u .bytes))
+    ≡ at w c (heldBytes (effectOf f h u .held)) (k + effectOf f h u .drops) (os ++ dataOf (effectOf f h u .outs))
+unfolding entered dropCounted continuedBy effectOf continued isSome heldBytes grown
 unit-parts w c none k os n Complete u = rw add-zero
 unit-parts w c (some h) k os n Complete u = refl
 unit-parts w c none k os n Head u = rw (add-zero, append-nil)
@@ -51,7 +51,7 @@ unit-parts w c (some h) k os n Middle u = go (leb (length (h .bytes) + length (u
   where
     go : (b : Bool)
         → cond b (at w c (some (h .bytes ++ u .bytes)) k os) (at w c none (k + 1) os)
-        ≡ at w c (bytesOf (continued b false (grown h (u .bytes)) .held)) (k + continued b false (grown h (u .bytes)) .drops)
+        ≡ at w c (heldBytes (continued b false (grown h (u .bytes)) .held)) (k + continued b false (grown h (u .bytes)) .drops)
         (os ++ dataOf (continued b false (grown h (u .bytes)) .outs))
     go true = rw (add-zero, append-nil)
     go false = rw append-nil
@@ -60,7 +60,7 @@ unit-parts w c (some h) k os n Last u = go (leb (length (h .bytes) + length (u .
   where
     go : (b : Bool)
         → cond b (at w c none k (os ++ ((h .bytes ++ u .bytes) ∷ []))) (at w c none (k + 1) os)
-        ≡ at w c (bytesOf (continued b true (grown h (u .bytes)) .held)) (k + continued b true (grown h (u .bytes)) .drops)
+        ≡ at w c (heldBytes (continued b true (grown h (u .bytes)) .held)) (k + continued b true (grown h (u .bytes)) .drops)
         (os ++ dataOf (continued b true (grown h (u .bytes)) .outs))
     go true = rw add-zero
     go false = rw append-nil
@@ -70,20 +70,20 @@ units-written : (m : MpuPacket) (a : Asset) (os : List Bytes) (n : ℕ) (us : Li
 unfolding enteredAll unitsReceived afterUnits deliveredBy afterUnit unitEffect objectOf
 units-written m a os n [] = rw append-nil
 units-written m a os n (u ∷ us) =
-    ap (λ (b : Book). enteredAll b (unitsReceived n us)) (unit-parts (a .lost) (a .number) (a .held) (a .dropped) os n (u .fragment) (objectOf m u))
+    ap (λ (b : Book). enteredAll b (unitsReceived n us)) (unit-parts (a .stats .«packets_lost») (a .number) (a .held) (a .stats .«mfus_dropped») os n (u .fragment) (objectOf m u))
     ∙ units-written m (afterUnit a (unitEffect m a u)) (os ++ dataOf (unitEffect m a u .outs)) n us
     ∙ rw (data-append, append-assoc)
 
 -- a packet's number
 seen-parts : (w : ℕ) (c : Option ℕ) (h : Option Mfu) (k : ℕ) (os : List Bytes) (n : ℕ)
-    → entered (at w c (bytesOf h) k os) (packetNumber n) ≡ at (w + lostBy c n) (some n) (bytesOf (cond (gap c n) none h)) (k + one (gap c n && isSome h)) os
-unfolding entered dropCounted inOrder follower missing lostBy lostFrom gap follows bytesOf isSome
+    → entered (at w c (heldBytes h) k os) (packetNumber n) ≡ at (w + lostBy c n) (some n) (heldBytes (cond (gap c n) none h)) (k + one (gap c n && isSome h)) os
+unfolding entered dropCounted inOrder follower missing lostBy lostFrom gap follows heldBytes isSome
 seen-parts w none h k os n = simp add-zero
 seen-parts w (some l) h k os n = go (eqb n (follower l)) (lostFrom l n) h
   where
     go : (b : Bool) (z : ℕ) (h : Option Mfu)
-        → cond b (at (w + cond b 0 z) (some n) (bytesOf h) k os) (at (w + cond b 0 z) (some n) none (dropCounted (bytesOf h) k) os)
-        ≡ at (w + cond b 0 z) (some n) (bytesOf (cond (not b) none h)) (k + one (not b && isSome h)) os
+        → cond b (at (w + cond b 0 z) (some n) (heldBytes h) k os) (at (w + cond b 0 z) (some n) none (dropCounted (heldBytes h) k) os)
+        ≡ at (w + cond b 0 z) (some n) (heldBytes (cond (not b) none h)) (k + one (not b && isSome h)) os
     go true z h = simp add-zero
     go false z none = simp add-zero
     go false z (some h) = refl
@@ -98,7 +98,7 @@ media-written : (a : Asset) (os : List Bytes) (m : MpuPacket)
     ≡ bookOf (assetAfter a m) (os ++ dataOf (deliveredBy m (afterHeaders a m) (readable m)))
 unfolding enteredAll assetAfter afterHeaders
 media-written a os m =
-    ap (λ (b : Book). enteredAll b (unitsReceived (m .number) (readable m))) (seen-parts (a .lost) (a .number) (a .held) (a .dropped) os (m .number))
+    ap (λ (b : Book). enteredAll b (unitsReceived (m .number) (readable m))) (seen-parts (a .stats .«packets_lost») (a .number) (a .held) (a .stats .«mfus_dropped») os (m .number))
     ∙ units-written m (afterHeaders a m) os (m .number) (readable m)
 
 -- ---- what a push hands out for an id

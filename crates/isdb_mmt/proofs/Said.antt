@@ -12,7 +12,7 @@ use Rattle.isdb_mmt.specs.Maps.{find, orElse}
 use Rattle.isdb_mmt.specs.Objects.{Mfu, Asset, fresh}
 use Rattle.isdb_mmt.specs.Kept.{Kept}
 use Rattle.isdb_mmt.specs.Model.{Control as ControlState, assetOf}
-use Rattle.isdb_mmt.specs.Demand.{bytesOf, heldOf, droppedOf, lostOf}
+use Rattle.isdb_mmt.specs.Demand.{heldBytes, heldOf, droppedOf, lostOf}
 use Rattle.isdb_mmt.specs.Lent.{part, placesFrom, namesFrom, foundFrom, indexed}
 use Rattle.isdb_mmt.specs.Layout.{mediaPlaces, mediaSize, controlPlaces, controlSize, sectionPlaces, sectionSize}
 use Rattle.isdb_mmt.specs.Session.{Session, limitsOf, usedOf, mediaPlaceOf, controlPlaceOf, sectionPlaceOf}
@@ -26,10 +26,10 @@ use Rattle.isdb_mmt.specs.declared.decoder.limits.Limits.{Limits}
 use Rattle.isdb_mmt.specs.declared.decoder.media.Media.{Media}
 use Rattle.isdb_mmt.specs.declared.decoder.control.Control.{Control}
 use Rattle.isdb_mmt.specs.declared.decoder.section.KeptSection.{KeptSection}
-use Rattle.isdb_mmt.proofs.Views.{keys, stands, absent}
+use Rattle.isdb_mmt.proofs.Views.{keys, found-at, absent}
 use Rattle.isdb_mmt.proofs.PlacesFor.{getD-indexed, length-indexed, length-map}
 use Rattle.isdb_mmt.proofs.Lent.{length-places}
-use Rattle.isdb_mmt.proofs.LinePlaces.{getD-places}
+use Rattle.isdb_mmt.proofs.ControlPlaces.{getD-places}
 use Rattle.isdb_mmt.proofs.Stays.{names-view, media-name, control-name, section-name}
 
 -- the entry of a name is that of the place that has it
@@ -52,7 +52,7 @@ module _ {A B : Type 0} (of : Bytes → A) (name : A → ℕ) (g : ℕ → A →
       go Nothing w = absent es x 0 (named ∙ w) .0
       go (At i) w =
           let d : A = of [] in
-          let k = stands es x 0 i (named ∙ w) in
+          let k = found-at es x 0 i (named ∙ w) in
           let z : i - 0 ≡ i = omega arith in
           let y : 0 + i ≡ i = omega arith in
           let b : length (map of (placesFrom n size at l)) ≡ n = length-map of (placesFrom n size at l) ∙ length-places size n at l in
@@ -94,31 +94,31 @@ module _ (s : Session) where
 
   -- ---- of a media id
 
-  of-dropped : (p : Found) → droppedAt s p ≡ orElse fresh (mediaEntry p) .dropped
+  of-dropped : (p : Found) → droppedAt s p ≡ orElse fresh (mediaEntry p) .stats .«mfus_dropped»
   unfolding orElse fresh assetOfPlace
   of-dropped Nothing = refl
   of-dropped (At i) = refl
 
   pub dropped-said : (i : ℕ) → droppedIn s i ≡ droppedOf i (view s)
   unfolding droppedIn assetOf
-  dropped-said i = of-dropped (mediaFound s i) ∙ sym (ap (λ (o : Option Asset). orElse fresh o .dropped) (media-found i))
+  dropped-said i = of-dropped (mediaFound s i) ∙ sym (ap (λ (o : Option Asset). orElse fresh o .stats .«mfus_dropped») (media-found i))
 
-  of-lost : (p : Found) → lostAt s p ≡ orElse fresh (mediaEntry p) .lost
+  of-lost : (p : Found) → lostAt s p ≡ orElse fresh (mediaEntry p) .stats .«packets_lost»
   unfolding orElse fresh assetOfPlace
   of-lost Nothing = refl
   of-lost (At i) = refl
 
   pub lost-said : (i : ℕ) → lostIn s i ≡ lostOf i (view s)
   unfolding lostIn assetOf
-  lost-said i = of-lost (mediaFound s i) ∙ sym (ap (λ (o : Option Asset). orElse fresh o .lost) (media-found i))
+  lost-said i = of-lost (mediaFound s i) ∙ sym (ap (λ (o : Option Asset). orElse fresh o .stats .«packets_lost») (media-found i))
 
-  given-held : (b : Bool) (u : Mfu) → given b (u .bytes) ≡ bytesOf (given b u)
-  unfolding bytesOf
+  given-held : (b : Bool) (u : Mfu) → given b (u .bytes) ≡ heldBytes (given b u)
+  unfolding heldBytes
   given-held true u = refl
   given-held false u = refl
 
-  of-held : (p : Found) → heldAt s p ≡ bytesOf (orElse fresh (mediaEntry p) .held)
-  unfolding orElse fresh assetOfPlace bytesOf mfuOf
+  of-held : (p : Found) → heldAt s p ≡ heldBytes (orElse fresh (mediaEntry p) .held)
+  unfolding orElse fresh assetOfPlace heldBytes mfuOf
   of-held Nothing = refl
   of-held (At i) =
       let m : Media = mediaPlaceOf (part (mediaPlaces + mediaSize * i) mediaSize (s .state)) in
@@ -126,7 +126,7 @@ module _ (s : Session) where
 
   pub held-said : (i : ℕ) → heldIn s i ≡ heldOf i (view s)
   unfolding heldIn assetOf
-  held-said i = of-held (mediaFound s i) ∙ sym (ap (λ (o : Option Asset). bytesOf (orElse fresh o .held)) (media-found i))
+  held-said i = of-held (mediaFound s i) ∙ sym (ap (λ (o : Option Asset). heldBytes (orElse fresh o .held)) (media-found i))
 
   -- ---- of a key
 

@@ -45,7 +45,7 @@ use Rattle.isdb_mmt.specs.declared.table.bit.BitResult.{BitResult}
 use Rattle.isdb_mmt.specs.declared.table.bit.BitResult.the-variants.{Ok as bitOk, Err as bitErr}
 use Rattle.isdb_mmt.specs.declared.table.nit.NitResult.{NitResult}
 use Rattle.isdb_mmt.specs.declared.table.nit.NitResult.the-variants.{Ok as nitOk, Err as nitErr}
-use Rattle.isdb_mmt.proofs.Names.{clash}
+use Rattle.isdb_mmt.proofs.Names.{true-not-false}
 use Rattle.isdb_mmt.proofs.Entries.{Inside, entry-inside, entries-at}
 use Rattle.isdb_mmt.proofs.Steps.{Leads, counts, whole-by, On, same-found, ends-whole}
 
@@ -58,7 +58,7 @@ module _ (s : List ℕ) where
 
   flow-leads : (n : ℕ) (d : AmtStep) → isSome (serviceThen (servicesFrom n s) d) ≡ true
       → Leads (λ p. isSome (servicesFrom n s p) ≡ true) (flowTold d)
-  flow-leads n noFlow w = clash false w refl
+  flow-leads n noFlow w = true-not-false false w refl
   flow-leads n (flow x next) w = also-some x (servicesFrom n s next) w
 
   flows-whole : (n at : ℕ) → servicesWhole n s at ≡ true → counted (flowSeen s) n at .whole ≡ true
@@ -77,7 +77,7 @@ amt-body s h =
     let w = servicesWhole n b 2 in
     cond-elim (AmtGood s) (ltb (length b) 2) (λ e. tt) (λ e.
     cond-elim (AmtGood s) (not w) (λ e1. tt) (λ e1.
-    counts (flowSeen b) n 2 (flows-whole b n 2 (either w (λ d. d) (λ d. clash true refl (rw d at e1))))))
+    counts (flowSeen b) n 2 (flows-whole b n 2 (either w (λ d. d) (λ d. true-not-false true refl (rw d at e1))))))
 
 amt-section : (s : List ℕ) (d : LongSection) → AmtGood s (amtIn s d)
 amt-section s (bad e) = tt

@@ -15,46 +15,46 @@ use Rattle.isdb_mmt.specs.Layout.{mostCount}
 use Rattle.isdb_mmt.specs.Packet.{Bytes}
 use Rattle.isdb_mmt.specs.Lent.{part}
 use Rattle.isdb_mmt.specs.Kept.{sectionOf}
-use Rattle.isdb_mmt.specs.declared.decoder.verdict.Told.{Told}
-use Rattle.isdb_mmt.specs.declared.decoder.walk.Going.{Going}
+use Rattle.isdb_mmt.specs.declared.decoder.table_outcome.TableOutcome.{TableOutcome}
+use Rattle.isdb_mmt.specs.declared.decoder.walk.WalkState.{WalkState}
 use Rattle.isdb_mmt.specs.Placed.{Placed, placedSections}
-use Rattle.isdb_mmt.specs.Verdict.{indexOf, sectionTold, toldOf}
-use Rattle.isdb_mmt.specs.Dry.{mostAdded, mostBefore, sectionRead, CanNote, Noted, Walked, at, CanTakeSection, CanWalkSections}
-use Rattle.isdb_mmt.proofs.Verdicts.{length-index}
+use Rattle.isdb_mmt.specs.TableOutcome.{indexOf, sectionOutcome, tableOutcome}
+use Rattle.isdb_mmt.specs.PendingTables.{mostAdded, mostBefore, sectionRead, CanApply, Applied, Walked, at, CanTakeSection, CanWalkSections}
+use Rattle.isdb_mmt.proofs.TableOutcomes.{length-index}
 use Rattle.isdb_mmt.proofs.Breaks.{small-section-told}
-use Rattle.isdb_mmt.proofs.Walking.{room-more, one-walked, Goes, goes-start, goes-on, goes-end}
+use Rattle.isdb_mmt.proofs.Walking.{room-more, one-walked, Goes, goes-start, in-sequence, goes-end}
 
 -- ---- one section
 
-module _ (ix log others : List ℕ) (g : Going) (b : Bytes) (k : ℕ) (can : CanTakeSection ix log others g b k) where
-  module _ (t : Told) (et : t ≡ sectionTold (indexOf (g .used) ix) (sectionOf b)) where
-    told-as : t ≡ toldOf (indexOf (g .used) ix) (g .mpt) (g .plt) (sectionRead b)
-    unfolding toldOf
+module _ (ix log others : List ℕ) (g : WalkState) (b : Bytes) (k : ℕ) (can : CanTakeSection ix log others g b k) where
+  module _ (t : TableOutcome) (et : t ≡ sectionOutcome (indexOf (g .used) ix) (sectionOf b)) where
+    told-as : t ≡ tableOutcome (indexOf (g .used) ix) (g .mpt) (g .plt) (sectionRead b)
+    unfolding tableOutcome
     told-as = et
 
-    pub section-note : CanNote ix log others g t
-    section-note =
+    pub section-apply : CanApply ix log others g t
+    section-apply =
         record {
           copies = can .copies;
           room = can .room;
           told = rw told-as (small-section-told (indexOf (g .used) ix) (g .used) (length-index (g .used) ix) (g .mpt) (g .plt) b (can .short));
         }
 
-    pub section-walked : (r : Going) (ix′ log′ others′ : List ℕ) → Noted ix log others g t (k + 1) r ix′ log′ others′
+    pub section-walked : (r : WalkState) (ix′ log′ others′ : List ℕ) → Applied ix log others g t (k + 1) r ix′ log′ others′
         → Walked sectionRead ix log others g (at k b ∷ []) 1 0 r ix′ log′ others′
     section-walked r ix′ log′ others′ n = one-walked sectionRead ix log others g (at k b) t told-as r ix′ log′ others′ n
 
 -- ---- all of them
 
-pub record InSections (ix₀ log₀ others₀ : List ℕ) (g₀ : Going) (b : Bytes) (ix log others : List ℕ) (g : Going) (p : ℕ) : Type 0 where
+pub record InSections (ix₀ log₀ others₀ : List ℕ) (g₀ : WalkState) (b : Bytes) (ix log others : List ℕ) (g : WalkState) (p : ℕ) : Type 0 where
   pub goes : Goes sectionRead ix₀ log₀ others₀ g₀ (placedSections b 0) 0 ix log others g (placedSections b p) 0 (min p (length b))
   pub can : CanWalkSections ix₀ log₀ others₀ g₀ b
 
-pub sections-start : (ix log others : List ℕ) (g : Going) (b : Bytes) → CanWalkSections ix log others g b → InSections ix log others g b ix log others g 0
+pub sections-start : (ix log others : List ℕ) (g : WalkState) (b : Bytes) → CanWalkSections ix log others g b → InSections ix log others g b ix log others g 0
 sections-start ix log others g b c =
     record { goes = goes-start sectionRead ix log others g (c .copies) (placedSections b 0) 0 (min 0 (length b)); can = c }
 
-module _ (ix₀ log₀ others₀ : List ℕ) (g₀ : Going) (b : Bytes) (ix log others : List ℕ) (g : Going) (p : ℕ)
+module _ (ix₀ log₀ others₀ : List ℕ) (g₀ : WalkState) (b : Bytes) (ix log others : List ℕ) (g : WalkState) (p : ℕ)
     (go : InSections ix₀ log₀ others₀ g₀ b ix log others g p) (s : MaybeSection) (es : s ≡ nextSection b p) where
   abbrev placedIt : Section → Placed
   placedIt x = record { at = x .offset; bytes = part (x .offset) (x .length) b }
@@ -90,14 +90,14 @@ module _ (ix₀ log₀ others₀ : List ℕ) (g₀ : Going) (b : Bytes) (ix log 
             near = omega (arith, lies .within, go .can .short);
           }
 
-      pub sections-on : (r : Going) (ix′ log′ others′ : List ℕ) → Walked sectionRead ix log others g (at (x .offset) t ∷ []) 1 0 r ix′ log′ others′
+      pub sections-on : (r : WalkState) (ix′ log′ others′ : List ℕ) → Walked sectionRead ix log others g (at (x .offset) t ∷ []) 1 0 r ix′ log′ others′
           → length ix′ ≡ length ix → length log′ ≡ length log → length others′ ≡ length others
           → InSections ix₀ log₀ others₀ g₀ b ix′ log′ others′ r (x .offset + x .length)
       unfolding placedSections
       sections-on r ix′ log′ others′ w li ll lo =
           record {
             goes =
-                goes-on sectionRead ix₀ log₀ others₀ g₀ (placedSections b 0) 0 ix log others g (placedSections b p) 0 (min p (length b)) (go .goes)
+                in-sequence sectionRead ix₀ log₀ others₀ g₀ (placedSections b 0) 0 ix log others g (placedSections b p) 0 (min p (length b)) (go .goes)
                 (placedIt x ∷ []) (placedSections b (x .offset + x .length)) (rest-of (Some x) e) 0 0 refl 1 (min (x .offset + x .length) (length b))
                 (omega (arith, lies .behind, lies .whole, lies .within)) r ix′ log′ others′
                 (subst (λ (z : Bytes). Walked sectionRead ix log others g (at (x .offset) z ∷ []) 1 0 r ix′ log′ others′) et w) li ll lo;

@@ -9,18 +9,18 @@ use lib.ListN.{length, getD, set, take, drop, length-drop}
 use lib.Seq.{length-take-le}
 use Rattle.isdb_mmt.specs.Layout.{sectionPlaces, stateSize}
 use Rattle.isdb_mmt.specs.Lent.{part, over}
-use Rattle.isdb_mmt.specs.Verdict.{indexSize}
+use Rattle.isdb_mmt.specs.TableOutcome.{indexSize}
 use mir.Syntax.{w64}
 use mir.Val.{Fits}
 use borrow.Author.Tests.{lt-ltb, le-ltb}
 use Rattle.isdb_mmt.specs.Session.{limitsOf, usedOf, latestOf}
-use Rattle.isdb_mmt.specs.Start.{recentAt, startOf, goingIn, tablesAsk, CanGo}
+use Rattle.isdb_mmt.specs.Start.{recentAt, startOf, walkStart, tablesAsk, CanGo}
 use Rattle.isdb_mmt.specs.declared.decoder.limits.Limits.{Limits}
 use Rattle.isdb_mmt.specs.declared.decoder.head.Used.{Used}
 use Rattle.isdb_mmt.specs.declared.decoder.head.Latest.{Latest}
 use Rattle.isdb_mmt.specs.declared.decoder.counts.Counters.{Counters}
-use Rattle.isdb_mmt.specs.declared.decoder.verdict.Recent.{Recent}
-use Rattle.isdb_mmt.specs.declared.decoder.walk.Going.{Going}
+use Rattle.isdb_mmt.specs.declared.decoder.table_outcome.Recent.{Recent}
+use Rattle.isdb_mmt.specs.declared.decoder.walk.WalkState.{WalkState}
 use Rattle.isdb_mmt.proofs.Lent.{over-whole, copy-next, copied}
 
 -- ---- the index
@@ -70,12 +70,12 @@ module _ (state t : List ℕ) (can : CanGo state t) (l : Limits) (el : l ≡ lim
   pub go-done : (u : Used) → u ≡ usedOf state → (x : Latest) → x ≡ latestOf state → (c : Counters) (mpt plt tot : Recent)
       → plt ≡ recentAt t ((l .sections + l .«control_ids») * l .«table_area») (x .plt) (x .«plt_length»)
       → tot ≡ recentAt t ((l .sections + l .«control_ids» + 1) * l .«table_area») (x .tot) (x .«tot_length»)
-      → (r : Going) → r ≡ startOf c (u .sections) mpt plt tot → r ≡ goingIn state t c mpt
+      → (r : WalkState) → r ≡ startOf c (u .sections) mpt plt tot → r ≡ walkStart state t c mpt
   go-done u eu x ex c mpt plt tot ep et r er = er ∙ rw (ep, et, eu, ex, el)
 
 -- ---- questions
 
-module _ (l : Limits) (g : Going) where
+module _ (l : Limits) (g : WalkState) where
   pub ask-full : g .full ≡ true → 8 ≡ tablesAsk l g
   unfolding tablesAsk
   ask-full e = rw e

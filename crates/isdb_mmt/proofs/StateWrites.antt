@@ -4,7 +4,7 @@ use Prim.Native.Nat.{ℕ, _+_, _*_, _≤_, _<_}
 use mathlib.Core.Path.{_≡_, sym, ap, _∙_}
 use mathlib.Core.Logic.{inl, inr}
 use mathlib.Core.Bool.{Bool, true, false}
-use mathlib.Core.List.{List, [], map}
+use mathlib.Core.List.{List, map}
 use native.Mathlib.Omega.{arith}
 use lib.ListN.{length, take, drop}
 use lib.Seq.{length-take-le}
@@ -18,7 +18,7 @@ use Rattle.isdb_mmt.specs.Lent.{over, flagByte, placesFrom}
 use Rattle.isdb_mmt.specs.Session.{limitsOf, usedOf, usedFields, latestOf, latestFields, timeOf, countersOf, countersFields, sectionPlaceOf}
 use Rattle.isdb_mmt.specs.Check.{sectionsIn}
 use Rattle.isdb_mmt.specs.MediaPush.{withUsed}
-use Rattle.isdb_mmt.specs.Placing.{tableLength, latestFor}
+use Rattle.isdb_mmt.specs.PlacesOf.{tableLength, latestFor}
 use Rattle.isdb_mmt.specs.Leaves.{keptPlace, usedFor, sectionRows, withSections, withLatest, stateOfTables}
 use Rattle.isdb_mmt.specs.declared.decoder.limits.Limits.{Limits}
 use Rattle.isdb_mmt.specs.declared.decoder.head.Used.{Used}

@@ -11,7 +11,7 @@ use borrow.Author.Tests.{le-leb, leb-true}
 use Rattle.isdb_tlv.specs.Bytes.{be}
 use Rattle.isdb_mmt.specs.Packet.{Bytes}
 use Rattle.isdb_mmt.specs.Objects.{Mfu}
-use Rattle.isdb_mmt.specs.Joins.{PartialMessage}
+use Rattle.isdb_mmt.specs.Reassembly.{PartialMessage}
 use Rattle.isdb_mmt.specs.Needs.{heldLength}
 use Rattle.isdb_mmt.specs.Lent.{part, placesFrom, namesFrom, every, indexed}
 use Rattle.isdb_mmt.specs.Limits.{asked}
@@ -23,7 +23,7 @@ use Rattle.isdb_mmt.specs.declared.decoder.limits.Limits.{Limits}
 use Rattle.isdb_mmt.specs.declared.decoder.media.Media.{Media}
 use Rattle.isdb_mmt.specs.declared.decoder.control.Control.{Control}
 use Rattle.isdb_mmt.specs.declared.decoder.section.KeptSection.{KeptSection}
-use Rattle.isdb_mmt.proofs.Names.{clash}
+use Rattle.isdb_mmt.proofs.Names.{true-not-false}
 use Rattle.isdb_mmt.proofs.Lent.{names-of, length-places}
 use Rattle.isdb_mmt.proofs.Views.{keys, keys-indexed}
 use Rattle.isdb_mmt.proofs.Limits.{passed}
@@ -113,15 +113,15 @@ module _ {A B : Type 0} (of : Bytes → A) (name : A → ℕ) (g : ℕ → A →
 
 held-length : (b : Bool) (u : Mfu) (area : ℕ) → heldLength (given b u) ≤ area → b ≡ true → length (u .bytes) ≤ area
 held-length true u area h e = h
-held-length false u area h e = clash false e refl
+held-length false u area h e = true-not-false false e refl
 
 join-length : (b : Bool) (j : PartialMessage) (area : ℕ) → JoinFits area (given b j) → b ≡ true → length (j .bytes) ≤ area
 join-length true j area h e = h .0
-join-length false j area h e = clash false e refl
+join-length false j area h e = true-not-false false e refl
 
 whole-length : (f : Bytes → Bool) (area : ℕ) (b : Bool) (x : Bytes) → Whole f area (given b x) → b ≡ true → length x ≤ area
 whole-length f area true x h e = h .0
-whole-length f area false x h e = clash false e refl
+whole-length f area false x h e = true-not-false false e refl
 
 module _ (l : Limits) (s : Session) (n : ℕ) (big : n ≤ mostCount) where
   media-sound : (i : ℕ) (m : Media) → AssetFits (l .«mfu_area») n (assetEntry l s i m .1) → mediaThere l s i m → mediaSound l m ≡ true
@@ -132,15 +132,15 @@ module _ (l : Limits) (s : Session) (n : ℕ) (big : n ≤ mostCount) where
       let k = held-length (m .held) (mfuOf (m .object) (part (i * l .«mfu_area») (m .object .length) (s .objects))) (l .«mfu_area») (h .held) t in
       omega (arith, part-length (i * l .«mfu_area») (m .object .length) (s .objects) (e t)))
       (simp (
-        le-leb (m .stats .packets) mostCount (omega (arith, h .packets)),
-        le-leb (m .stats .«packets_lost») mostCount (omega (arith, h .lost)),
-        le-leb (m .stats .«scrambled_packets») mostCount (omega (arith, h .scrambled)),
-        le-leb (m .stats .mfus) mostCount (omega (arith, h .mfus)),
-        le-leb (m .stats .«scrambled_mfus») mostCount (omega (arith, h .scrambledMfus)),
-        le-leb (m .stats .«mfus_dropped») mostCount (omega (arith, h .dropped)),
-        le-leb (m .stats .mpus) mostCount (omega (arith, h .mpus)),
-        le-leb (m .stats .«mpu_sequence_jumps») mostCount (omega (arith, h .jumps)),
-        le-leb (m .stats .malformed) mostCount (omega (arith, h .malformed)),
+        le-leb (m .stats .packets) mostCount (omega (arith, h .counts .packets)),
+        le-leb (m .stats .«packets_lost») mostCount (omega (arith, h .counts .lost)),
+        le-leb (m .stats .«scrambled_packets») mostCount (omega (arith, h .counts .scrambled)),
+        le-leb (m .stats .mfus) mostCount (omega (arith, h .counts .mfus)),
+        le-leb (m .stats .«scrambled_mfus») mostCount (omega (arith, h .counts .scrambledMfus)),
+        le-leb (m .stats .«mfus_dropped») mostCount (omega (arith, h .counts .dropped)),
+        le-leb (m .stats .mpus) mostCount (omega (arith, h .counts .mpus)),
+        le-leb (m .stats .«mpu_sequence_jumps») mostCount (omega (arith, h .counts .jumps)),
+        le-leb (m .stats .malformed) mostCount (omega (arith, h .counts .malformed)),
       ))
 
   control-sound : (i : ℕ) (c : Control) → ControlFits l (controlEntry l s i c .1) → controlThere l s i c → controlSound l c ≡ true
@@ -236,7 +236,7 @@ row-in i k n area m h b w = let q : (i + 1) * area ≤ k * area = mul-le-mul-rig
 
 fits-was : (b : Bool) (n area : ℕ) → lengthFits b n area ≡ true → b ≡ true → n ≤ area
 fits-was true n area e t = leb-true n area e
-fits-was false n area e t = clash false t refl
+fits-was false n area e t = true-not-false false t refl
 
 placed-all : {A : Type 0} (f : A → Bool) (E : ℕ → A → Type 0) (most : ℕ) → ((i : ℕ) (x : A) → i < most → f x ≡ true → E i x)
     → (xs : List A) (k : ℕ) → k + length xs ≤ most → every f xs ≡ true → Placed E k xs

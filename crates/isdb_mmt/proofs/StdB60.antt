@@ -13,18 +13,18 @@ use Rattle.isdb_tlv.specs.Crc.{crcOf}
 use Rattle.isdb_tlv.specs.Fields.{bytesOf, Field, field, bits, packed, written, Fit}
 use Rattle.isdb_tlv.proofs.CrcLinear.{crc-closed}
 use Rattle.isdb_tlv.proofs.Fields.{be-one, length-bytesOf, size, fieldAt, offsetOf, length-written}
-use Rattle.isdb_mmt.specs.Part.{part}
+use Rattle.isdb_mmt.specs.Part.{partAt}
 use Rattle.isdb_mmt.specs.Desc.{lengthWidth, stepAt, Split, splitFrom, splitOf, broken}
 use Rattle.isdb_mmt.specs.Location.{sized, urlOf, locationOf}
 use Rattle.isdb_mmt.specs.Section.{length12, longSectionOf}
 use Rattle.isdb_mmt.specs.StdB60.{Descriptor, descriptorSent, loopSent, DescriptorConforming, LoopConforming, descriptorIn, LoopTheorem}
-use Rattle.isdb_mmt.specs.StdB60.{Place, sameFlow, ipv4, ipv6, mpeg2Ts, mpeg2TsIpv6, url, placeFields, placeBytes, placeSent, PlaceConforming, locationSeen, PlaceTheorem}
-use Rattle.isdb_mmt.specs.StdB60.{Header, headerFields, withCrc, sectionSent, HeaderConforming, headerSeen, SectionTheorem}
+use Rattle.isdb_mmt.specs.StdB60.{SentLocation, sameFlow, ipv4, ipv6, mpeg2Ts, mpeg2TsIpv6, url, locationFields, locationBytes, locationSent, LocationConforming, locationSeen, LocationTheorem}
+use Rattle.isdb_mmt.specs.StdB60.{Header, sectionHeaderFields, withCrc, sectionSent, HeaderConforming, headerSeen, SectionTheorem}
 use Rattle.isdb_mmt.specs.declared.desc.Step.the-variants.{End, Raw}
 use Rattle.isdb_mmt.specs.declared.location.Located.the-variants.{Some as located}
 use Rattle.isdb_mmt.specs.declared.table.section.LongSection.the-variants.{Ok as good}
 use Rattle.isdb_mmt.proofs.Descriptors.{split-at}
-use Rattle.isdb_mmt.proofs.Standing.{Stands, stands-whole, stands-first, stands-part, stands-within, stands-front, stands-rest, field-read, first-read, high-byte}
+use Rattle.isdb_mmt.proofs.BytesAt.{FoundAt, located-whole, located-first, located-part, located-within, located-front, located-rest, field-read, first-read, high-byte}
 
 -- four bits and a length of 12
 abbrev lengthWord : ℕ → ℕ → ℕ
@@ -33,7 +33,7 @@ lengthWord upper n = packed (bits 4 upper ∷ bits 12 n ∷ [])
 abbrev pub lengthField : ℕ → ℕ → List Field
 lengthField upper n = field 2 (lengthWord upper n) ∷ []
 
-module _ {s : List ℕ} {at : ℕ} (upper n : ℕ) (fits : upper < 2 ^ 4) (short : n < 2 ^ 12) (h : Stands s at (written (lengthField upper n))) where
+module _ {s : List ℕ} {at : ℕ} (upper n : ℕ) (fits : upper < 2 ^ 4) (short : n < 2 ^ 12) (h : FoundAt s at (written (lengthField upper n))) where
   pub length-read : length12 s at ≡ n
   length-read = rw (first-read (lengthField upper n) (omega arith) h) (omega arith)
 
@@ -47,28 +47,28 @@ descriptorFields d = field 2 (d .tag) ∷ field (lengthWidth (d .tag)) (length (
 descriptor-length : (d : Descriptor) → length (descriptorSent d) ≡ 2 + lengthWidth (d .tag) + length (d .content)
 descriptor-length d = rw (length-append, length-written (descriptorFields d)) (omega arith)
 
-module _ {s : List ℕ} {at : ℕ} (d : Descriptor) (c : DescriptorConforming d) (h : Stands s at (descriptorSent d)) where
-  head-stands : Stands s at (written (descriptorFields d))
-  head-stands = stands-front (written (descriptorFields d)) (d .content) h
+module _ {s : List ℕ} {at : ℕ} (d : Descriptor) (c : DescriptorConforming d) (h : FoundAt s at (descriptorSent d)) where
+  head-located : FoundAt s at (written (descriptorFields d))
+  head-located = located-front (written (descriptorFields d)) (d .content) h
 
   descriptor-fits : Fit (descriptorFields d)
   descriptor-fits = (c .tag, (c .short, tt))
 
-  content-stands : Stands s (at + 2 + lengthWidth (d .tag)) (d .content)
-  content-stands =
+  content-located : FoundAt s (at + 2 + lengthWidth (d .tag)) (d .content)
+  content-located =
       let e : at + (2 + (lengthWidth (d .tag) + 0)) ≡ at + 2 + lengthWidth (d .tag) = omega arith in
-      rw e at (stands-rest (written (descriptorFields d)) (d .content) h (length-written (descriptorFields d)))
+      rw e at (located-rest (written (descriptorFields d)) (d .content) h (length-written (descriptorFields d)))
 
   descriptor-step : stepAt s at
-      ≡ Raw (d .tag) (part (at + 2 + lengthWidth (d .tag)) (length (d .content))) (at + length (descriptorSent d))
+      ≡ Raw (d .tag) (partAt (at + 2 + lengthWidth (d .tag)) (length (d .content))) (at + length (descriptorSent d))
   unfolding stepAt
   descriptor-step =
       let w = lengthWidth (d .tag) in
       let n = length (d .content) in
-      let long = stands-within (descriptorSent d) h in
+      let long = located-within (descriptorSent d) h in
       let size = descriptor-length d in
-      let tag : be 2 s at ≡ d .tag = first-read (descriptorFields d) descriptor-fits head-stands in
-      let len : be w s (at + 2) ≡ n = rw add-zero at (field-read (descriptorFields d) descriptor-fits head-stands 1) in
+      let tag : be 2 s at ≡ d .tag = first-read (descriptorFields d) descriptor-fits head-located in
+      let len : be w s (at + 2) ≡ n = rw add-zero at (field-read (descriptorFields d) descriptor-fits head-located 1) in
       let next : at + length (descriptorSent d) ≡ at + 2 + w + n = omega arith in
       rw (lt-leb (length s) at (omega arith), le-ltb (length s - at) 2 (omega arith), tag)
       (rw (le-ltb (length s - (at + 2)) w (omega arith), len)
@@ -79,24 +79,24 @@ pub record LoopAt (s : List ℕ) (ds : List Descriptor) (l : Split) : Type 0 whe
   pub found : map (descriptorIn s) (l .found) ≡ ds
   pub whole : l .broke ≡ none
 
-pub loop-at : (s : List ℕ) (at : ℕ) (ds : List Descriptor) → LoopConforming ds → Stands s at (loopSent ds)
+pub loop-at : (s : List ℕ) (at : ℕ) (ds : List Descriptor) → LoopConforming ds → FoundAt s at (loopSent ds)
     → at + length (loopSent ds) ≡ length s → LoopAt s ds (splitFrom s at)
 unfolding stepAt
 loop-at s at [] c h e =
     let end : stepAt s at ≡ End = rw (le-leb (length s) at (omega arith)) in
     rw (split-at s at, end) (record { found = refl; whole = refl })
 loop-at s at (d ∷ ds) c h e =
-    let here = stands-front (descriptorSent d) (loopSent ds) h in
-    let r = loop-at s (at + length (descriptorSent d)) ds (c .1) (stands-rest (descriptorSent d) (loopSent ds) h refl)
+    let here = located-front (descriptorSent d) (loopSent ds) h in
+    let r = loop-at s (at + length (descriptorSent d)) ds (c .1) (located-rest (descriptorSent d) (loopSent ds) h refl)
     (omega (arith, length-append (descriptorSent d) (loopSent ds))) in
-    let body = stands-part (d .content) (content-stands d (c .0) here) in
+    let body = located-part (d .content) (content-located d (c .0) here) in
     rw (split-at s at, descriptor-step d (c .0) here)
     (record { found = rw (body, r .found); whole = r .whole })
 
 pub loops : LoopTheorem
 unfolding splitOf
 loops ds c =
-    let r = loop-at (loopSent ds) 0 ds c (stands-whole (loopSent ds)) (omega arith) in
+    let r = loop-at (loopSent ds) 0 ds c (located-whole (loopSent ds)) (omega arith) in
     record { found = r .found; whole = r .whole }
 
 -- so it does not count as broken
@@ -104,7 +104,7 @@ pub loop-whole : (ds : List Descriptor) → LoopConforming ds → broken (loopSe
 loop-whole ds c = rw (loops ds c .whole)
 
 -- a location's fields
-place-fits : (p : Place) → PlaceConforming p → Fit (placeFields p)
+place-fits : (p : SentLocation) → LocationConforming p → Fit (locationFields p)
 place-fits (sameFlow id) c = omega arith
 place-fits (ipv4 src dst port id) c = omega arith
 place-fits (ipv6 sh sl dh dl port id) c = omega arith
@@ -113,9 +113,9 @@ place-fits (mpeg2TsIpv6 sh sl dh dl port pid) c = omega arith
 place-fits (url b) c = omega arith
 
 -- what stands in them, by index of the field, tells how the location is read
-located-as : (p : Place) (s : List ℕ) → size (placeFields p) + length (placeBytes p) ≤ length s
-    → ((k : ℕ) → be (fieldAt k (placeFields p) .width) s (0 + offsetOf k (placeFields p)) ≡ fieldAt k (placeFields p) .value)
-    → locationOf s ≡ located (locationSeen p) (size (placeFields p) + length (placeBytes p))
+located-as : (p : SentLocation) (s : List ℕ) → size (locationFields p) + length (locationBytes p) ≤ length s
+    → ((k : ℕ) → be (fieldAt k (locationFields p) .width) s (0 + offsetOf k (locationFields p)) ≡ fieldAt k (locationFields p) .value)
+    → locationOf s ≡ located (locationSeen p) (size (locationFields p) + length (locationBytes p))
 unfolding locationOf sized urlOf
 located-as (sameFlow id) s long of =
     rw (le-ltb (length s) 1 (omega arith), be-one s 0, of 0, le-ltb (length s) 3 (omega arith), of 1)
@@ -132,18 +132,18 @@ located-as (url b) s long of =
     rw (le-ltb (length s) 1 (omega arith), be-one s 0, of 0, le-ltb (length s) 2 (omega arith), be-one s 1, of 1)
     (rw (n, le-ltb (length s) (2 + length b) (omega arith)))
 
-place-length : (p : Place) → length (placeSent p) ≡ size (placeFields p) + length (placeBytes p)
-place-length p = rw (length-append, length-written (placeFields p))
+place-length : (p : SentLocation) → length (locationSent p) ≡ size (locationFields p) + length (locationBytes p)
+place-length p = rw (length-append, length-written (locationFields p))
 
-pub places : PlaceTheorem
+pub places : LocationTheorem
 places p c r =
-    let s = placeSent p ++ r in
-    let fields = stands-front (written (placeFields p)) (placeBytes p) (stands-first (placeSent p) r) in
+    let s = locationSent p ++ r in
+    let fields = located-front (written (locationFields p)) (locationBytes p) (located-first (locationSent p) r) in
     record {
       location =
           rw (place-length p)
-          (located-as p s (omega (arith, place-length p, length-append (placeSent p) r)) (field-read (placeFields p) (place-fits p c) fields));
-      rest = drop-at (placeSent p) r (length (placeSent p)) refl;
+          (located-as p s (omega (arith, place-length p, length-append (locationSent p) r)) (field-read (locationFields p) (place-fits p c) fields));
+      rest = drop-at (locationSent p) r (length (locationSent p)) refl;
     }
 
 -- bytes with their CRC behind them
@@ -156,35 +156,35 @@ with-crc m n e = rw (take-all n (withCrc m) (omega (arith, with-crc-length m))) 
 -- a section
 module _ (h : Header) (c : HeaderConforming h) (body : List ℕ) (short : length body + 9 < 2 ^ 12) where
   abbrev message : List ℕ
-  message = written (headerFields h (length body)) ++ body
+  message = written (sectionHeaderFields h (length body)) ++ body
 
-  fields-stand : Stands (sectionSent h body) 0 (written (headerFields h (length body)))
+  fields-located : FoundAt (sectionSent h body) 0 (written (sectionHeaderFields h (length body)))
   unfolding sectionSent
-  fields-stand = stands-front (written (headerFields h (length body))) body (stands-first message (bytesOf 4 (crcOf message)))
+  fields-located = located-front (written (sectionHeaderFields h (length body))) body (located-first message (bytesOf 4 (crcOf message)))
 
-  body-stands : Stands (sectionSent h body) 8 body
+  body-located : FoundAt (sectionSent h body) 8 body
   unfolding sectionSent
-  body-stands =
-      stands-rest (written (headerFields h (length body))) body (stands-first message (bytesOf 4 (crcOf message)))
-      (length-written (headerFields h (length body)))
+  body-located =
+      located-rest (written (sectionHeaderFields h (length body))) body (located-first message (bytesOf 4 (crcOf message)))
+      (length-written (sectionHeaderFields h (length body)))
 
-  header-fits : Fit (headerFields h (length body))
+  header-fits : Fit (sectionHeaderFields h (length body))
   header-fits = omega arith
 
-  of-header : (k : ℕ) → be (fieldAt k (headerFields h (length body)) .width) (sectionSent h body) (0 + offsetOf k (headerFields h (length body)))
-      ≡ fieldAt k (headerFields h (length body)) .value
-  of-header = field-read (headerFields h (length body)) header-fits fields-stand
+  of-header : (k : ℕ) → be (fieldAt k (sectionHeaderFields h (length body)) .width) (sectionSent h body) (0 + offsetOf k (sectionHeaderFields h (length body)))
+      ≡ fieldAt k (sectionHeaderFields h (length body)) .value
+  of-header = field-read (sectionHeaderFields h (length body)) header-fits fields-located
 
   section-length : length (sectionSent h body) ≡ length body + 12
   unfolding sectionSent
   section-length =
-      rw (with-crc-length message, length-append, length-written (headerFields h (length body))) (omega arith)
+      rw (with-crc-length message, length-append, length-written (sectionHeaderFields h (length body))) (omega arith)
 
   section-crc : crcOf (take (length body + 12) (sectionSent h body)) ≡ 0
   unfolding sectionSent
   section-crc =
       with-crc message (length body + 12)
-      (rw (length-append, length-written (headerFields h (length body))) (omega arith))
+      (rw (length-append, length-written (sectionHeaderFields h (length body))) (omega arith))
 
   section-header : longSectionOf (sectionSent h body) ≡ good (headerSeen h (length body))
   unfolding longSectionOf
@@ -203,4 +203,4 @@ module _ (h : Header) (c : HeaderConforming h) (body : List ℕ) (short : length
 
 pub sections : SectionTheorem
 sections h c body short =
-    record { header = section-header h c body short; content = stands-part body (body-stands h c body short) }
+    record { header = section-header h c body short; content = located-part body (body-located h c body short) }

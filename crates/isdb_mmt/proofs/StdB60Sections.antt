@@ -8,9 +8,9 @@ use native.Mathlib.Omega.{arith}
 use lib.ListN.{length, getD, length-append, length-map}
 use borrow.Author.Tests.{le-ltb, lt-leb, le-leb}
 use Rattle.isdb_tlv.specs.Bytes.{be}
-use Rattle.isdb_tlv.specs.Fields.{field, bits, written}
+use Rattle.isdb_tlv.specs.Fields.{written}
 use Rattle.isdb_tlv.proofs.Fields.{be-one, size, fieldAt, offsetOf, length-written}
-use Rattle.isdb_mmt.specs.Part.{part, partOf}
+use Rattle.isdb_mmt.specs.Part.{partAt, partOf}
 use Rattle.isdb_mmt.specs.Desc.{broken}
 use Rattle.isdb_mmt.specs.Section.{entryAt, Loop, entriesFrom}
 use Rattle.isdb_mmt.specs.Eit.{eitOf, eitBody, eventOf, eventsOf}
@@ -27,44 +27,44 @@ use Rattle.isdb_mmt.specs.declared.table.section.Entry.{Entry}
 use Rattle.isdb_mmt.specs.declared.table.section.EntryStep.the-variants.{End, Entry as entry}
 use Rattle.isdb_mmt.proofs.Entries.{entries-at}
 use Rattle.isdb_mmt.proofs.StdB60.{lengthField, length-read, upper-read, loop-whole, sections}
-use Rattle.isdb_mmt.proofs.Standing.{Stands, stands-first, stands-last, last-ends, stands-part, stands-within, stands-front, stands-rest, field-read, high-byte}
+use Rattle.isdb_mmt.proofs.BytesAt.{FoundAt, located-first, located-last, last-ends, located-part, located-within, located-front, located-rest, field-read, high-byte}
 
 -- an entry that was read is one that was sent: it stands there, and its descriptors are the sender's
 pub record Holds (s : List ℕ) (e : SentEntry) (x : Entry) : Type 0 where
-  pub sent : Stands s (x .at) (entrySent e)
+  pub sent : FoundAt s (x .at) (entrySent e)
   pub loop : partOf s (x .descriptors) ≡ e .loop
 
 -- an entry that stands at `at`, of `k` bytes of fields
-module _ {s : List ℕ} {at : ℕ} (k : ℕ) (e : SentEntry) (c : EntryConforming e) (n : size (e .fields) ≡ k) (h : Stands s at (entrySent e)) where
-  head-stands : Stands s at (written (e .fields) ++ written (lengthField (e .upper) (length (e .loop))))
-  head-stands = stands-front (written (e .fields) ++ written (lengthField (e .upper) (length (e .loop)))) (e .loop) h
+module _ {s : List ℕ} {at : ℕ} (k : ℕ) (e : SentEntry) (c : EntryConforming e) (n : size (e .fields) ≡ k) (h : FoundAt s at (entrySent e)) where
+  head-located : FoundAt s at (written (e .fields) ++ written (lengthField (e .upper) (length (e .loop))))
+  head-located = located-front (written (e .fields) ++ written (lengthField (e .upper) (length (e .loop)))) (e .loop) h
 
-  word-stands : Stands s (at + k) (written (lengthField (e .upper) (length (e .loop))))
-  word-stands = stands-rest (written (e .fields)) (written (lengthField (e .upper) (length (e .loop)))) head-stands (length-written (e .fields) ∙ n)
+  word-located : FoundAt s (at + k) (written (lengthField (e .upper) (length (e .loop))))
+  word-located = located-rest (written (e .fields)) (written (lengthField (e .upper) (length (e .loop)))) head-located (length-written (e .fields) ∙ n)
 
   head-length : length (written (e .fields) ++ written (lengthField (e .upper) (length (e .loop)))) ≡ k + 2
   head-length = rw (length-append, length-written (e .fields), length-written (lengthField (e .upper) (length (e .loop))), n)
 
-  loop-stands : Stands s (at + k + 2) (e .loop)
-  loop-stands =
+  loop-located : FoundAt s (at + k + 2) (e .loop)
+  loop-located =
       let place : at + (k + 2) ≡ at + k + 2 = omega arith in
-      rw place at (stands-rest (written (e .fields) ++ written (lengthField (e .upper) (length (e .loop)))) (e .loop) h head-length)
+      rw place at (located-rest (written (e .fields) ++ written (lengthField (e .upper) (length (e .loop)))) (e .loop) h head-length)
 
   -- a field of it
   pub entry-field : (j : ℕ) → be (fieldAt j (e .fields) .width) s (at + offsetOf j (e .fields)) ≡ fieldAt j (e .fields) .value
-  entry-field = field-read (e .fields) (c .fields) (stands-front (written (e .fields)) (written (lengthField (e .upper) (length (e .loop)))) head-stands)
+  entry-field = field-read (e .fields) (c .fields) (located-front (written (e .fields)) (written (lengthField (e .upper) (length (e .loop)))) head-located)
 
   -- the byte behind its fields has the four bits
   pub entry-upper : getD s (at + k) 0 / 16 ≡ e .upper
-  entry-upper = upper-read (e .upper) (length (e .loop)) (c .upper) (c .loop) word-stands
+  entry-upper = upper-read (e .upper) (length (e .loop)) (c .upper) (c .loop) word-located
 
-  entry-step : entryAt s k at ≡ entry (record { at = at; descriptors = part (at + k + 2) (length (e .loop)) }) (at + length (entrySent e))
+  entry-step : entryAt s k at ≡ entry (record { at = at; descriptors = partAt (at + k + 2) (length (e .loop)) }) (at + length (entrySent e))
   unfolding entryAt
   entry-step =
       let m = length (e .loop) in
-      let long = stands-within (entrySent e) h in
+      let long = located-within (entrySent e) h in
       let whole : length (entrySent e) ≡ k + 2 + m = rw (length-append, head-length) in
-      let len = length-read (e .upper) m (c .upper) (c .loop) word-stands in
+      let len = length-read (e .upper) m (c .upper) (c .loop) word-located in
       let next : at + length (entrySent e) ≡ at + k + 2 + m = omega arith in
       rw (lt-leb (length s) at (omega arith), le-ltb (length s - at) (k + 2) (omega arith), len)
       (rw (le-ltb (length s - (at + k + 2)) m (omega arith), next))
@@ -91,17 +91,17 @@ pub record Sized (k : ℕ) (e : SentEntry) : Type 0 where
   pub conforming : EntryConforming e
   pub size : size (e .fields) ≡ k
 
-pub entries-read : (s : List ℕ) (k at : ℕ) (es : List SentEntry) → All (Sized k) es → Stands s at (entriesSent es)
+pub entries-read : (s : List ℕ) (k at : ℕ) (es : List SentEntry) → All (Sized k) es → FoundAt s at (entriesSent es)
     → at + length (entriesSent es) ≡ length s → EntriesAt s es (entriesFrom s k at)
 unfolding entryAt
 entries-read s k at [] c h n =
     let end : entryAt s k at ≡ End = rw (le-leb (length s) at (omega arith)) in
     rw (entries-at s k at, end) (record { found = tt; breaks = refl; whole = refl })
 entries-read s k at (e ∷ es) c h n =
-    let here = stands-front (entrySent e) (entriesSent es) h in
-    let r = entries-read s k (at + length (entrySent e)) es (c .1) (stands-rest (entrySent e) (entriesSent es) h refl)
+    let here = located-front (entrySent e) (entriesSent es) h in
+    let r = entries-read s k (at + length (entrySent e)) es (c .1) (located-rest (entrySent e) (entriesSent es) h refl)
     (omega (arith, length-append (entrySent e) (entriesSent es))) in
-    let loop = stands-part (e .loop) (loop-stands k e (c .0 .conforming) (c .0 .size) here) in
+    let loop = located-part (e .loop) (loop-located k e (c .0 .conforming) (c .0 .size) here) in
     rw (entries-at s k at, entry-step k e (c .0 .conforming) (c .0 .size) here)
     (record { found = (record { sent = here; loop = loop }, r .found); breaks = rw (loop, r .breaks); whole = r .whole })
 
@@ -141,7 +141,7 @@ module _ {A B W : Type 0} {k : ℕ} {conforms : A → Type 0} {sends : A → Sen
       (entriesFrom (a ++ entriesSent (map sends xs)) k n)
   things-at a xs h {n} e =
       let r = entriesSent (map sends xs) in
-      let w = entries-read (a ++ r) k n (map sends xs) (all-sized xs h) (stands-last a r e) (last-ends a r e) in
+      let w = entries-read (a ++ r) k n (map sends xs) (all-sized xs h) (located-last a r e) (last-ends a r e) in
       record {
         values = all-told (a ++ r) xs h _ (w .found);
         count = each-length (Holds (a ++ r)) (map sends xs) _ (w .found) ∙ length-map xs sends;
@@ -177,7 +177,7 @@ eit t c =
     let s = eitBodySent t in
     let r = sections (t .header) (c .header) s (c .short) in
     let l = things-at event-kind (written (eitFields t)) (t .events) (c .events) (length-written (eitFields t)) in
-    let of = field-read (eitFields t) (c .fields) (stands-first (written (eitFields t)) (entriesSent (map eventEntry (t .events)))) in
+    let of = field-read (eitFields t) (c .fields) (located-first (written (eitFields t)) (entriesSent (map eventEntry (t .events)))) in
     let long = length-append (written (eitFields t)) (entriesSent (map eventEntry (t .events))) in
     let whole = unbroken EventConforming eventEntry (λ x d. loop-whole (x .descriptors) (d .descriptors)) (t .events) (c .events) in
     record {
@@ -214,7 +214,7 @@ sdt t c =
     let s = sdtBodySent t in
     let r = sections (t .header) (c .header) s (c .short) in
     let l = things-at service-kind (written (sdtFields t)) (t .services) (c .services) (length-written (sdtFields t)) in
-    let of = field-read (sdtFields t) (c .fields) (stands-first (written (sdtFields t)) (entriesSent (map serviceEntry (t .services)))) in
+    let of = field-read (sdtFields t) (c .fields) (located-first (written (sdtFields t)) (entriesSent (map serviceEntry (t .services)))) in
     let long = length-append (written (sdtFields t)) (entriesSent (map serviceEntry (t .services))) in
     let whole = unbroken ServiceConforming serviceEntry (λ x d. loop-whole (x .descriptors) (d .descriptors)) (t .services) (c .services) in
     record {
@@ -247,19 +247,19 @@ module _ (t : SentBit) (c : BitConforming t) where
   bit-long : length (bitBodySent t) ≡ length (loopSent (t .descriptors)) + 2 + length (entriesSent (map broadcasterEntry (t .broadcasters)))
   bit-long = rw (length-append, bit-front)
 
-  front-stands : Stands (bitBodySent t) 0 bitFront
-  front-stands = stands-first bitFront (entriesSent (map broadcasterEntry (t .broadcasters)))
+  front-located : FoundAt (bitBodySent t) 0 bitFront
+  front-located = located-first bitFront (entriesSent (map broadcasterEntry (t .broadcasters)))
 
-  fields-stand : Stands (bitBodySent t) 0 (written (bitFields t))
-  fields-stand = stands-front (written (bitFields t)) (loopSent (t .descriptors)) front-stands
+  fields-located : FoundAt (bitBodySent t) 0 (written (bitFields t))
+  fields-located = located-front (written (bitFields t)) (loopSent (t .descriptors)) front-located
 
   bit-fits : fieldAt 0 (bitFields t) .value < 2 ^ 16
   bit-fits = omega (arith, bit-long, c .reserved, c .viewPropriety, c .short)
 
-  bit-loop : partOf (bitBodySent t) (part 2 (length (loopSent (t .descriptors)))) ≡ loopSent (t .descriptors)
+  bit-loop : partOf (bitBodySent t) (partAt 2 (length (loopSent (t .descriptors)))) ≡ loopSent (t .descriptors)
   bit-loop =
-      stands-part (loopSent (t .descriptors))
-      (stands-rest (written (bitFields t)) (loopSent (t .descriptors)) front-stands (length-written (bitFields t)))
+      located-part (loopSent (t .descriptors))
+      (located-rest (written (bitFields t)) (loopSent (t .descriptors)) front-located (length-written (bitFields t)))
 
 pub bit : BitTheorem
 unfolding bitOf bitBody broadcastersOf
@@ -268,10 +268,10 @@ bit t c =
     let n = length (loopSent (t .descriptors)) in
     let r = sections (t .header) (c .header) s (c .short) in
     let l = things-at broadcaster-kind (bitFront t c) (t .broadcasters) (c .broadcasters) (bit-front t c) in
-    let word = field-read (bitFields t) (bit-fits t c, tt) (fields-stand t c) 0 in
+    let word = field-read (bitFields t) (bit-fits t c, tt) (fields-located t c) 0 in
     let long = bit-long t c in
     let len : be 2 s 0 % 4096 ≡ n = rw word (omega (arith, c .short)) in
-    let high = high-byte (fieldAt 0 (bitFields t) .value) (bit-fits t c) (fields-stand t c) in
+    let high = high-byte (fieldAt 0 (bitFields t) .value) (bit-fits t c) (fields-located t c) in
     let view : getD s 0 0 / 16 % 2 ≡ t .viewPropriety = rw high (omega (arith, c .reserved, c .viewPropriety, c .short)) in
     let whole =
     unbroken BroadcasterConforming broadcasterEntry (λ x d. loop-whole (x .descriptors) (d .descriptors)) (t .broadcasters) (c .broadcasters) in
@@ -311,20 +311,20 @@ module _ (t : SentNit) (c : NitConforming t) where
   nit-long =
       rw (length-append, nit-front, length-append, length-written (lengthField (t .reserved2) (length (nitStreams t)))) (omega arith)
 
-  nit-first : Stands (nitBodySent t) 0 (nitHead ++ t .descriptors)
-  nit-first = stands-first (nitHead ++ t .descriptors) nitRest
+  nit-first : FoundAt (nitBodySent t) 0 (nitHead ++ t .descriptors)
+  nit-first = located-first (nitHead ++ t .descriptors) nitRest
 
-  nit-last : Stands (nitBodySent t) (length (t .descriptors) + 2) nitRest
-  nit-last = stands-last (nitHead ++ t .descriptors) nitRest nit-front
+  nit-last : FoundAt (nitBodySent t) (length (t .descriptors) + 2) nitRest
+  nit-last = located-last (nitHead ++ t .descriptors) nitRest nit-front
 
-  nit-descriptors : Stands (nitBodySent t) 2 (t .descriptors)
+  nit-descriptors : FoundAt (nitBodySent t) 2 (t .descriptors)
   nit-descriptors =
-      stands-rest nitHead (t .descriptors) nit-first (length-written (lengthField (t .reserved) (length (t .descriptors))))
+      located-rest nitHead (t .descriptors) nit-first (length-written (lengthField (t .reserved) (length (t .descriptors))))
 
-  nit-streams : Stands (nitBodySent t) (length (t .descriptors) + 4) (nitStreams t)
+  nit-streams : FoundAt (nitBodySent t) (length (t .descriptors) + 4) (nitStreams t)
   nit-streams =
       let e : length (t .descriptors) + 2 + 2 ≡ length (t .descriptors) + 4 = omega arith in
-      rw e at (stands-rest (written (lengthField (t .reserved2) (length (nitStreams t)))) (nitStreams t) nit-last
+      rw e at (located-rest (written (lengthField (t .reserved2) (length (nitStreams t)))) (nitStreams t) nit-last
       (length-written (lengthField (t .reserved2) (length (nitStreams t)))))
 
 pub nit : NitTheorem
@@ -336,17 +336,17 @@ nit t c =
     let r = sections (t .header) (c .header) s (c .short) in
     let l = things-at stream-kind [] (t .streams) (c .streams) refl in
     let long = nit-long t c in
-    let first = length-read (t .reserved) n (c .reserved) (omega (arith, c .short)) (stands-front (nitHead t c) (t .descriptors) (nit-first t c)) in
+    let first = length-read (t .reserved) n (c .reserved) (omega (arith, c .short)) (located-front (nitHead t c) (t .descriptors) (nit-first t c)) in
     let second =
     length-read (t .reserved2) m (c .reserved2) (omega (arith, c .short))
-    (stands-front (written (lengthField (t .reserved2) m)) (nitStreams t) (nit-last t c)) in
-    let loop = stands-part (nitStreams t) (nit-streams t c) in
+    (located-front (written (lengthField (t .reserved2) m)) (nitStreams t) (nit-last t c)) in
+    let loop = located-part (nitStreams t) (nit-streams t c) in
     record {
       section =
           rw (r .header, r .content, le-ltb (length s) 2 (omega arith), first)
           (rw (le-ltb (length s) (n + 4) (omega arith), second)
           (rw (le-ltb (length s - (n + 4)) m (omega arith), loop, l .whole, l .count)));
-      descriptors = stands-part (t .descriptors) (nit-descriptors t c);
+      descriptors = located-part (t .descriptors) (nit-descriptors t c);
       loop = loop;
       streams = l .values;
     }

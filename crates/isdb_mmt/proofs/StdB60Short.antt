@@ -13,7 +13,7 @@ use Rattle.isdb_tlv.specs.Bytes.{be}
 use Rattle.isdb_tlv.specs.Crc.{crcOf}
 use Rattle.isdb_tlv.specs.Fields.{bytesOf, Field, field, bits, packed, written, Fit}
 use Rattle.isdb_tlv.proofs.Fields.{be-one, size, fieldAt, offsetOf, length-written}
-use Rattle.isdb_mmt.specs.Part.{part, partOf}
+use Rattle.isdb_mmt.specs.Part.{partAt, partOf}
 use Rattle.isdb_mmt.specs.Section.{length12}
 use Rattle.isdb_mmt.specs.Amt.{addressSize, flowOf, serviceAt, servicesFrom, servicesWhole, amtBody, amtOf}
 use Rattle.isdb_mmt.specs.Tot.{totOf, totFields as totBehind}
@@ -23,7 +23,7 @@ use Rattle.isdb_mmt.specs.StdB60Tables.{Flow, flow4, flow6, flowFields, 
 use Rattle.isdb_mmt.specs.StdB60Tables.{SentTot, totFields, totSent, TotConforming, TotTheorem}
 use Rattle.isdb_mmt.specs.declared.table.amt.AmtStep.the-variants.{Service as service}
 use Rattle.isdb_mmt.proofs.StdB60.{loop-whole, with-crc, with-crc-length, sections}
-use Rattle.isdb_mmt.proofs.Standing.{Stands, stands-whole, stands-first, stands-part, stands-drop, stands-within, stands-front, stands-rest, field-read, first-read}
+use Rattle.isdb_mmt.proofs.BytesAt.{FoundAt, located-whole, located-first, located-part, located-drop, located-within, located-front, located-rest, field-read, first-read}
 
 -- AMT: the addresses of a service
 ipv6-bit : (f : Flow) → isIpv6 f < 2
@@ -51,16 +51,16 @@ flowHead x = field 2 (x .serviceId) ∷ field 2 (flowWord x) ∷ []
 flow-length : (x : SentFlow) → length (flowSent x) ≡ 4 + length (flowLoop x)
 flow-length x = rw (length-append (written (flowHead x)) (flowLoop x), length-written (flowHead x))
 
-flow-step : {s : List ℕ} {at : ℕ} (x : SentFlow) → FlowConforming x → Stands s at (flowSent x)
+flow-step : {s : List ℕ} {at : ℕ} (x : SentFlow) → FlowConforming x → FoundAt s at (flowSent x)
     → serviceAt s at ≡ service (flowSeen x (x .flow)) (at + length (flowSent x))
 unfolding serviceAt
 flow-step {s} {at} x c h =
     let n = length (flowLoop x) in
     let bit = ipv6-bit (x .flow) in
     let fits : Fit (flowHead x) = omega arith in
-    let head = stands-front (written (flowHead x)) (flowLoop x) h in
-    let loop = stands-rest (written (flowHead x)) (flowLoop x) h (length-written (flowHead x)) in
-    let long = stands-within (flowSent x) h in
+    let head = located-front (written (flowHead x)) (flowLoop x) h in
+    let loop = located-rest (written (flowHead x)) (flowLoop x) h (length-written (flowHead x)) in
+    let long = located-within (flowSent x) h in
     let whole = flow-length x in
     let holds : n ≡ size (flowFields (x .flow)) + length (x .private) = rw (length-append, length-written (flowFields (x .flow))) in
     let wide = flow-size (x .flow) in
@@ -70,19 +70,19 @@ flow-step {s} {at} x c h =
     let len : flowWord x % 1024 ≡ n = omega arith in
     let of =
     field-read (flowFields (x .flow)) (c .flow)
-    (stands-front (written (flowFields (x .flow))) (x .private) (stands-first (flowLoop x) (loop .behind))) in
+    (located-front (written (flowFields (x .flow))) (x .private) (located-first (flowLoop x) (loop .behind))) in
     let next : at + length (flowSent x) ≡ at + 4 + n = omega arith in
-    rw (word, version, len, id, stands-drop (flowLoop x) loop, flow-told x (x .flow) (flowLoop x ++ loop .behind) of, next)
+    rw (word, version, len, id, located-drop (flowLoop x) loop, flow-told x (x .flow) (flowLoop x ++ loop .behind) of, next)
     (rw (le-ltb (length s - at) 4 (omega arith), le-ltb (length s - (at + 4)) n (omega arith))
     (rw (le-ltb n (addressSize (isIpv6 (x .flow) =? 1) * 2 + 2) (omega arith))))
 
-flows-read : {s : List ℕ} {at : ℕ} (xs : List SentFlow) → All FlowConforming xs → Stands s at (flowsSent xs)
+flows-read : {s : List ℕ} {at : ℕ} (xs : List SentFlow) → All FlowConforming xs → FoundAt s at (flowsSent xs)
     → servicesFrom (length xs) s at ≡ some (map (λ x. flowSeen x (x .flow)) xs)
 flows-read [] c h = refl
 flows-read (x ∷ xs) c h =
     rw (
-      flow-step x (c .0) (stands-front (flowSent x) (flowsSent xs) h),
-      flows-read xs (c .1) (stands-rest (flowSent x) (flowsSent xs) h refl),
+      flow-step x (c .0) (located-front (flowSent x) (flowsSent xs) h),
+      flows-read xs (c .1) (located-rest (flowSent x) (flowsSent xs) h refl),
     )
 
 abbrev amtHead : SentAmt → List Field
@@ -94,14 +94,14 @@ amt t c =
     let s = amtBodySent t in
     let n = length (t .services) in
     let r = sections (t .header) (c .header) s (c .short) in
-    let whole = stands-first (written (amtHead t)) (flowsSent (t .services)) in
+    let whole = located-first (written (amtHead t)) (flowsSent (t .services)) in
     let fits : Fit (amtHead t) = omega (arith, c .few, c .reserved) in
     let word = first-read (amtHead t) fits whole in
     let count : be 2 s 0 / 64 ≡ n = rw word (omega (arith, c .few, c .reserved)) in
     let long = length-append (written (amtHead t)) (flowsSent (t .services)) in
     let services =
     flows-read (t .services) (c .services)
-    (stands-rest (written (amtHead t)) (flowsSent (t .services)) (stands-whole s) (length-written (amtHead t))) in
+    (located-rest (written (amtHead t)) (flowsSent (t .services)) (located-whole s) (length-written (amtHead t))) in
     record {
       section =
           rw (r .header, r .content, le-ltb (length s) 2 (omega (arith, length-written (amtHead t))), count, services);
@@ -127,18 +127,18 @@ module _ (t : SentTot) (c : TotConforming t) where
   unfolding totSent
   tot-crc = with-crc message (length loop + 14) (omega (arith, tot-message))
 
-  tot-stands : Stands (totSent t) 0 message
+  tot-located : FoundAt (totSent t) 0 message
   unfolding totSent
-  tot-stands = stands-first message (bytesOf 4 (crcOf message))
+  tot-located = located-first message (bytesOf 4 (crcOf message))
 
   tot-fits : Fit (totFields t)
   tot-fits = omega arith
 
   tot-field : (k : ℕ) → be (fieldAt k (totFields t) .width) (totSent t) (0 + offsetOf k (totFields t)) ≡ fieldAt k (totFields t) .value
-  tot-field = field-read (totFields t) tot-fits (stands-front (written (totFields t)) loop tot-stands)
+  tot-field = field-read (totFields t) tot-fits (located-front (written (totFields t)) loop tot-located)
 
-  tot-loop : partOf (totSent t) (part 10 (length loop)) ≡ loop
-  tot-loop = stands-part loop (stands-rest (written (totFields t)) loop tot-stands (length-written (totFields t)))
+  tot-loop : partOf (totSent t) (partAt 10 (length loop)) ≡ loop
+  tot-loop = located-part loop (located-rest (written (totFields t)) loop tot-located (length-written (totFields t)))
 
 pub tot : TotTheorem
 unfolding totOf totBehind

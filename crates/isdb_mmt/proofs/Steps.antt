@@ -7,7 +7,7 @@ use native.Mathlib.Omega.{arith}
 use lib.ListN.{length}
 use Rattle.isdb_tlv.specs.Walk.{turn, Ahead, walk-at}
 use Rattle.isdb_mmt.specs.Steps.{Stood, atEnd, malformed, element, Found, stopped, also, countedOn, counted, onward, toEnd, Gives, Counts, Ends, lastOf, placeOf, elementOf, nth}
-use Rattle.isdb_mmt.proofs.Names.{clash}
+use Rattle.isdb_mmt.proofs.Names.{true-not-false}
 
 -- what holds behind an element that stands there
 abbrev pub Leads : {A : Type 0} → (ℕ → Type 0) → Stood A → Type 0
@@ -19,8 +19,8 @@ Leads Rest (element x next) = Rest next
 module _ {A : Type 0} (step : ℕ → Stood A) where
   counts-on : (n : ℕ) → ((at : ℕ) → counted step n at .whole ≡ true → Counts step n at (counted step n at .found)) → (at : ℕ) (d : Stood A) → step at ≡ d
       → countedOn (counted step n) d .whole ≡ true → Counts step (suc n) at (countedOn (counted step n) d .found)
-  counts-on n h at atEnd e w = clash false w refl
-  counts-on n h at malformed e w = clash false w refl
+  counts-on n h at atEnd e w = true-not-false false w refl
+  counts-on n h at malformed e w = true-not-false false w refl
   counts-on n h at (element x next) e w =
       let r = h next w in
       record { count = ap suc (r .count); stop = r .stop; gives = record { next = next; here = e; rest = r .gives } }

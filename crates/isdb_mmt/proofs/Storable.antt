@@ -10,7 +10,7 @@ use native.Mathlib.Omega.{arith}
 use lib.ListN.{length, getD, drop, length-take}
 use Rattle.isdb_mmt.specs.Packet.{Bytes, MpuPacket, MessagePacket, Packet, ipError, ntp, nonMmtp, media, message, control, other, classify}
 use Rattle.isdb_mmt.specs.Objects.{Mfu, Asset, fresh, assetAfter}
-use Rattle.isdb_mmt.specs.Joins.{PartialMessage, mostMessage, reassemblyAfter, messageCompleted, cutOfAll}
+use Rattle.isdb_mmt.specs.Reassembly.{PartialMessage, mostMessage, reassemblyAfter, messageCompleted, cutOfAll}
 use Rattle.isdb_mmt.specs.Kept.{tableRead, mptAfterAll}
 use Rattle.isdb_mmt.specs.GivenTables.{tablesGiven, controlTables}
 use Rattle.isdb_mmt.specs.Model.{State, Control as ControlState, idleControl, assetOf, controlOf, reassemblyOf, packetCounted, timeAfter, pushed}
@@ -21,7 +21,7 @@ use Rattle.isdb_mmt.specs.Session.{Session, limitsOf, usedOf, latestOf, 
 use Rattle.isdb_mmt.specs.Check.{statsCounts, packetCounts, tableCounts, mediaSound, controlSound, sectionSound, mediaIn, controlsIn, sectionsIn, Sound, lengthsOf}
 use Rattle.isdb_mmt.specs.View.{given, headerGiven, itemGiven, mfuOf, assetOfPlace, controlStateOf, assetEntry, controlEntry, sectionEntry, viewBy, view}
 use Rattle.isdb_mmt.specs.Octets.{Octets, Lent}
-use Rattle.isdb_mmt.specs.Placing.{firstIn}
+use Rattle.isdb_mmt.specs.PlacesOf.{firstIn}
 use Rattle.isdb_mmt.specs.declared.mpu.MfuHeader.{MfuHeader}
 use Rattle.isdb_mmt.specs.declared.decoder.limits.Limits.{Limits}
 use Rattle.isdb_mmt.proofs.Checks.{media-was, control-was, section-was, count-was}
@@ -30,22 +30,22 @@ use Rattle.isdb_mmt.proofs.Every.{Every, every-put, every-found, every-
 use Rattle.isdb_mmt.proofs.Brief.{octets-drop, octets-take, Plain, plain-of}
 use Rattle.isdb_mmt.proofs.Fits.{mostAdded, asset-more}
 use Rattle.isdb_mmt.proofs.Stores.{breaksIn, breaks-read, breaks-control, CountersFit, counters-more, counted-fit}
-use Rattle.isdb_mmt.proofs.Ready.{JoinFits, line-fits, gives-fits, Given, given-cut, length-map, length-control, packet-fits, line-counts}
+use Rattle.isdb_mmt.proofs.Ready.{JoinFits, reassembly-fits, gives-fits, Given, given-cut, length-map, length-control, packet-fits, reassembly-counts}
 use Rattle.isdb_mmt.proofs.Outs.{be-small, HeaderOk, MfuOk, ItemOk, ObjectOk, HeldOk, MediaOk, TimeOk, PacketOk, packet-ok}
-use Rattle.isdb_mmt.proofs.PlaceFits.{NumberOk, AssetOk, fresh-ok, asset-after, TableOk, KeptOk, StoreOk, store-ok-more, others-counted, tables-ok, control-ok, stores-ok, mpts-ok, ControlOk, idle-ok}
+use Rattle.isdb_mmt.proofs.PlaceFits.{NumberOk, AssetOk, fresh-ok, asset-after, TableOk, KeptOk, StoreOk, store-ok-more, tables-ok, control-ok, stores-ok, mpts-ok, ControlOk, idle-ok}
 
 -- ---- a state
 
 abbrev pub MediaFits : Limits → ℕ → ℕ → Asset → Type 0
 MediaFits l n i a = (i < 4294967296) × AssetOk (l .«mfu_area») n a
 
-abbrev pub LineFits : Limits → ℕ → ControlState → Type 0
-LineFits l i c = (i < 4294967296) × ControlOk (l .«message_area») (l .«table_area») c
+abbrev pub ReassemblyFits : Limits → ℕ → ControlState → Type 0
+ReassemblyFits l i c = (i < 4294967296) × ControlOk (l .«message_area») (l .«table_area») c
 
 -- `n` is the most of a count
 pub record Storable (l : Limits) (n : ℕ) (s : State) : Type 0 where
   pub assets : Every (MediaFits l n) (s .assets)
-  pub controls : Every (LineFits l) (s .controls)
+  pub controls : Every (ReassemblyFits l) (s .controls)
   pub store : StoreOk (l .«table_area») n (s .store)
   pub time : TimeOk (s .time)
   pub counters : CountersFit n n n (s .counters)
@@ -64,7 +64,7 @@ asset-ok-more area n m a l h =
 abbrev pub controlAfter : State → MessagePacket → ControlState
 controlAfter s c =
     record {
-      line = reassemblyAfter (reassemblyOf (c .id) s) c;
+      reassembly = reassemblyAfter (reassemblyOf (c .id) s) c;
       mpt = mptAfterAll (controlOf (c .id) s .mpt) (tablesGiven (reassemblyOf (c .id) s) c);
     }
 
@@ -93,9 +93,9 @@ module _ (l : Limits) (n : ℕ) (s : State) (h : Storable l n s) where
   unfolding assetOf
   asset-of i q = every-found (MediaFits l n) fresh i (q, fresh-ok (l .«mfu_area») n) (s .assets) (h .assets)
 
-  pub control-of : (i : ℕ) → i < 4294967296 → LineFits l i (controlOf i s)
+  pub control-of : (i : ℕ) → i < 4294967296 → ReassemblyFits l i (controlOf i s)
   unfolding controlOf
-  control-of i q = every-found (LineFits l) idleControl i (q, idle-ok (l .«message_area») (l .«table_area»)) (s .controls) (h .controls)
+  control-of i q = every-found (ReassemblyFits l) idleControl i (q, idle-ok (l .«message_area») (l .«table_area»)) (s .controls) (h .controls)
 
   pub asset-next : (m : MpuPacket) → MediaOk m → Plain (media m) → needs s (media m) .object ≤ l .«mfu_area»
       → MediaFits l (n + mostAdded) (m .id) (assetAfter (assetOf (m .id) s) m)
@@ -110,7 +110,7 @@ module _ (l : Limits) (n : ℕ) (s : State) (h : Storable l n s) where
       given-cut (messageCompleted (reassemblyOf (c .id) s) c)
       (gives-fits (l .«message_area») (reassemblyOf (c .id) s) c (control-of (c .id) (omega (arith, o .0)) .1 .joins) (q .0) (q .1))
 
-  pub control-next : (c : MessagePacket) → PacketOk (message c) → Plain (message c) → HasAreas l s (message c) → LineFits l (c .id) (controlAfter s c)
+  pub control-next : (c : MessagePacket) → PacketOk (message c) → Plain (message c) → HasAreas l s (message c) → ReassemblyFits l (c .id) (controlAfter s c)
   unfolding needs tablesGiven reassemblyAfter
   control-next c o q a =
       let i : c .id < 4294967296 = omega (arith, o .0) in
@@ -119,7 +119,7 @@ module _ (l : Limits) (n : ℕ) (s : State) (h : Storable l n s) where
         i,
         record {
           number = o .1;
-          joins = line-fits (l .«message_area») (reassemblyOf (c .id) s) c (old .joins) (q .1) (a .message);
+          joins = reassembly-fits (l .«message_area») (reassemblyOf (c .id) s) c (old .joins) (q .1) (a .message);
           mpt =
               mpts-ok (l .«table_area») (map tableRead bs) (controlOf (c .id) s .mpt) (s .store) (old .mpt)
               (tables-ok bs (tables-given c o q .octets)) (a .table);
@@ -142,14 +142,14 @@ module _ (l : Limits) (n : ℕ) (s : State) (h : Storable l n s) where
       → CountersFit (n + mostAdded) (n + mostAdded) (n + mostAdded) (pushed s (message c) .counters)
   unfolding pushed tablesGiven
   message-counted c o q =
-      let line = reassemblyOf (c .id) s in
+      let reassembly = reassemblyOf (c .id) s in
       let g = tables-given c o q in
-      let bs = cutOfAll (messageCompleted line c) .tables in
+      let bs = cutOfAll (messageCompleted reassembly c) .tables in
       let many = length-map bs in
       counters-more (n + 1 + (mostMessage + 2)) (n + length (map tableRead bs)) (n + breaksIn (map tableRead bs)) (n + mostAdded) (n + mostAdded) (n + mostAdded)
       _ (omega arith) (omega (arith, many, g .many)) (omega (arith, breaks-read bs, g .long))
       (counted-fit (map tableRead bs) (n + 1 + (mostMessage + 2)) n n (controlOf (c .id) s .mpt) (s .store) _
-      (line-counts (n + 1) n n _ line c (g .malformed)
+      (reassembly-counts (n + 1) n n _ reassembly c (g .malformed)
       (packet-fits n n n 0 0 0 (s .counters) (omega arith) (omega arith) (omega arith) (h .counters))))
 
   control-counted : (bs : List Bytes) → Plain (control bs)
@@ -173,31 +173,17 @@ module _ (l : Limits) (n : ℕ) (s : State) (h : Storable l n s) where
   counters-next (control bs) o q = control-counted bs q
   counters-next other o q = counted 0 0 0 (omega arith) (omega arith) (omega arith)
 
-  -- nor do those of table ids
-  pub others-next : (p : Packet) → PacketOk p → Plain p → (i : ℕ) → getD (pushed s p .store .others) i 0 ≤ n + mostAdded
-  unfolding pushed tablesGiven
-  others-next ipError o q i = omega (arith, h .store .others i)
-  others-next (ntp t) o q i = omega (arith, h .store .others i)
-  others-next nonMmtp o q i = omega (arith, h .store .others i)
-  others-next (media m) o q i = omega (arith, h .store .others i)
-  others-next (message c) o q i =
-      let g = tables-given c o q in
-      let bs = cutOfAll (messageCompleted (reassemblyOf (c .id) s) c) .tables in
-      omega (arith, length-map bs, g .many, others-counted (map tableRead bs) n (s .store) (h .store .others) i)
-  others-next (control bs) o q i = omega (arith, length-control bs, q .0, others-counted (controlTables bs) n (s .store) (h .store .others) i)
-  others-next other o q i = omega (arith, h .store .others i)
-
   message-stored : (c : MessagePacket) → PacketOk (message c) → Plain (message c) → HasAreas l s (message c)
       → Storable l (n + mostAdded) (pushed s (message c))
   unfolding pushed needs tablesGiven
   message-stored c o q a =
-      let line = reassemblyOf (c .id) s in
+      let reassembly = reassemblyOf (c .id) s in
       let g = tables-given c o q in
-      let bs = cutOfAll (messageCompleted line c) .tables in
+      let bs = cutOfAll (messageCompleted reassembly c) .tables in
       let many = length-map bs in
       record {
         assets = others-fit;
-        controls = every-put (LineFits l) (c .id) _ (control-next c o q a) (s .controls) (h .controls);
+        controls = every-put (ReassemblyFits l) (c .id) _ (control-next c o q a) (s .controls) (h .controls);
         store =
             store-ok-more (l .«table_area») (n + length (map tableRead bs)) (n + mostAdded) _ (omega (arith, many, g .many))
             (stores-ok (l .«table_area») (map tableRead bs) n (s .store) (h .store) (tables-ok bs (g .octets)) (a .table));
@@ -323,15 +309,18 @@ module _ (l : Limits) (s : Session) (h : Lent s) where
           counts =
               record {
                 held = length-given (m .held) (mfuOf (m .object) b) (m .object .length) (l .«mfu_area») (part-le (i * l .«mfu_area») (m .object .length) (s .objects)) (w .0);
-                packets = k 0;
-                lost = k 1;
-                scrambled = k 2;
-                mfus = k 3;
-                scrambledMfus = k 4;
-                dropped = k 5;
-                mpus = k 6;
-                jumps = k 7;
-                malformed = k 8;
+                counts =
+                    record {
+                    packets = k 0;
+                    lost = k 1;
+                    scrambled = k 2;
+                    mfus = k 3;
+                    scrambledMfus = k 4;
+                    dropped = k 5;
+                    mpus = k 6;
+                    jumps = k 7;
+                    malformed = k 8;
+                    };
               };
           number = number-given (m .seen) (m .sequence) (be-small p o 4 5);
           mpu = number-given (m .«mpu_seen») (m .mpu) (be-small p o 4 10);
@@ -341,7 +330,7 @@ module _ (l : Limits) (s : Session) (h : Lent s) where
       )
 
   control-view : (i : ℕ) (p : Bytes) → Octets p → controlSound l (controlPlaceOf p) ≡ true
-      → LineFits l (controlEntry l s i (controlPlaceOf p) .0) (controlEntry l s i (controlPlaceOf p) .1)
+      → ReassemblyFits l (controlEntry l s i (controlPlaceOf p) .0) (controlEntry l s i (controlPlaceOf p) .1)
   unfolding controlPlaceOf controlStateOf
   control-view i p o e =
       let c = controlPlaceOf p in
@@ -385,7 +374,7 @@ storable-view s q h =
           places-all mediaPlaceOf (assetEntry l s) (mediaSound l) (MediaFits l mostCount) mediaSize (s .state) (h .state) (media-view l s h)
           (u .«media_ids») mediaPlaces 0 (q .objects);
       controls =
-          places-all controlPlaceOf (controlEntry l s) (controlSound l) (LineFits l) controlSize (s .state) (h .state) (control-view l s h)
+          places-all controlPlaceOf (controlEntry l s) (controlSound l) (ReassemblyFits l) controlSize (s .state) (h .state) (control-view l s h)
           (u .«control_ids») controlPlaces 0 (q .messages);
       store =
           record {

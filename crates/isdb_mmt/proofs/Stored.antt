@@ -1,6 +1,6 @@
 -- The layout of a session's state: what is stored is read back, and each of the readings depends on its own bytes alone.
 -- Assumes nothing.
-use Prim.Native.Nat.{ℕ, _+_, _*_, _-_, _≤_, _<_}
+use Prim.Native.Nat.{ℕ, _+_, _-_, _≤_}
 use mathlib.Core.Path.{_≡_, refl, sym, ap, _∙_}
 use mathlib.Core.Bool.{Bool, true, false, not}
 use mathlib.Core.Logic.{_⊎_}
@@ -17,8 +17,8 @@ use Rattle.isdb_tlv.specs.Fields.{Field, written, Fit, puts}
 use Rattle.isdb_tlv.proofs.Numbers.{be-drop, be-take}
 use Rattle.isdb_tlv.proofs.Fields.{be-behind, fieldAt, offsetOf, size, read, length-written}
 use Rattle.isdb_mmt.specs.Lent.{part, over, flag, flagByte}
-use Rattle.isdb_mmt.specs.Session.{limitsOf, limitsFields, usedOf, usedFields, latestOf, latestFields, timeOf, timeFields, countersOf, countersFields, heldObjectOf, statsOf, mediaPlaceOf, mediaFields, mediaAt, controlPlaceOf, controlFields, controlAt, sectionPlaceOf, sectionFields, sectionAt}
-use Rattle.isdb_mmt.specs.Layout.{mostMediaIds, mostControlIds, mostSections, usedPlace, latestPlace, timePlace, countersPlace, mediaPlaces, mediaSize, controlPlaces, controlSize, sectionPlaces, sectionSize, stateSize}
+use Rattle.isdb_mmt.specs.Session.{limitsOf, limitsFields, usedOf, usedFields, latestOf, latestFields, timeOf, timeFields, countersOf, countersFields, heldObjectOf, statsOf, mediaPlaceOf, mediaFields, controlPlaceOf, controlFields, sectionPlaceOf, sectionFields}
+use Rattle.isdb_mmt.specs.Layout.{usedPlace, latestPlace, timePlace, countersPlace, stateSize}
 use Rattle.isdb_mmt.specs.declared.decoder.limits.Limits.{Limits}
 use Rattle.isdb_mmt.specs.declared.decoder.counts.Counters.{Counters}
 use Rattle.isdb_mmt.specs.declared.decoder.head.Used.{Used}
@@ -27,7 +27,7 @@ use Rattle.isdb_mmt.specs.declared.decoder.head.Time.{Time}
 use Rattle.isdb_mmt.specs.declared.decoder.media.Media.{Media}
 use Rattle.isdb_mmt.specs.declared.decoder.control.Control.{Control}
 use Rattle.isdb_mmt.specs.declared.decoder.section.KeptSection.{KeptSection}
-use Rattle.isdb_mmt.proofs.Lent.{part-over, part-apart, part-take, puts-over, puts-whole, lent-at}
+use Rattle.isdb_mmt.proofs.Lent.{part-apart, part-take, puts-over, puts-whole, lent-at}
 
 -- ---- a store
 
@@ -197,9 +197,6 @@ back : {A : Type 0} (of : List ℕ → A) (fields : A → List Field) (at : ℕ)
     → ((l : List ℕ) → Holds at (fields x) l → of l ≡ x) → at ≤ length s → Fit (fields x) → of (over at (written (fields x)) s) ≡ x
 back of fields at x s held h f = held (over at (written (fields x)) s) (holds-over at (fields x) s f h)
 
-pub limits-back : (x : Limits) (s : List ℕ) → Fit (limitsFields x) → stateSize ≤ length s → limitsOf (over 0 (written (limitsFields x)) s) ≡ x
-limits-back x s f h = back limitsOf limitsFields 0 x s (limits-held x) (omega arith) f
-
 pub used-back : (x : Used) (s : List ℕ) → Fit (usedFields x) → stateSize ≤ length s → usedOf (over usedPlace (written (usedFields x)) s) ≡ x
 used-back x s f h = back usedOf usedFields usedPlace x s (used-held x) (omega arith) f
 
@@ -211,26 +208,6 @@ time-back x s f h = back timeOf timeFields timePlace x s (time-held x) (omega ar
 
 pub counters-back : (x : Counters) (s : List ℕ) → Fit (countersFields x) → stateSize ≤ length s → countersOf (over countersPlace (written (countersFields x)) s) ≡ x
 counters-back x s f h = back countersOf countersFields countersPlace x s (counters-held x) (omega arith) f
-
--- of a place of the state
-back-at : {A : Type 0} (of : List ℕ → A) (fs : List Field) (at : ℕ) (x : A) (s : List ℕ)
-    → of (written fs) ≡ x → at + size fs ≤ length s → of (part at (size fs) (over at (written fs) s)) ≡ x
-back-at of fs at x s e h =
-    let n : length (written fs) ≡ size fs = length-written fs in
-    let p : part at (length (written fs)) (over at (written fs) s) ≡ written fs = part-over at (written fs) s (omega arith) in
-    ap of (rw n at p) ∙ e
-
-pub media-at-back : (x : Media) (i : ℕ) (s : List ℕ) → Fit (mediaFields x) → i < mostMediaIds → stateSize ≤ length s
-    → mediaAt (over (mediaPlaces + mediaSize * i) (written (mediaFields x)) s) i ≡ x
-media-at-back x i s f b h = back-at mediaPlaceOf (mediaFields x) (mediaPlaces + mediaSize * i) x s (media-back x f) (omega arith)
-
-pub control-at-back : (x : Control) (i : ℕ) (s : List ℕ) → Fit (controlFields x) → i < mostControlIds → stateSize ≤ length s
-    → controlAt (over (controlPlaces + controlSize * i) (written (controlFields x)) s) i ≡ x
-control-at-back x i s f b h = back-at controlPlaceOf (controlFields x) (controlPlaces + controlSize * i) x s (control-back x f) (omega arith)
-
-pub section-at-back : (x : KeptSection) (i : ℕ) (s : List ℕ) → Fit (sectionFields x) → i < mostSections → stateSize ≤ length s
-    → sectionAt (over (sectionPlaces + sectionSize * i) (written (sectionFields x)) s) i ≡ x
-section-at-back x i s f b h = back-at sectionPlaceOf (sectionFields x) (sectionPlaces + sectionSize * i) x s (section-back x f) (omega arith)
 
 -- ---- what is written elsewhere leaves it
 
@@ -246,9 +223,6 @@ apart of at n own b bs l d h = own (over b bs l) l (part-apart at n b bs l d h)
 -- and it is read of the first `k` bytes alone
 pub own-front : {A : Type 0} (of : List ℕ → A) (at n k : ℕ) → Own of at n → at + n ≤ k → (l : List ℕ) → of (take k l) ≡ of l
 own-front of at n k own h l = own (take k l) l (part-take at n k l h)
-
-pub part-own : {A : Type 0} (f : List ℕ → A) (at n : ℕ) → Own (λ l. f (part at n l)) at n
-part-own f at n l m e = ap f e
 
 module _ (at n : ℕ) (l m : List ℕ) (e : part at n l ≡ part at n m) where
   same : (w k : ℕ) → leb (k + w) n ≡ true → be w l (at + k) ≡ be w m (at + k)

@@ -17,7 +17,7 @@ use Rattle.isdb_mmt.specs.Layout.{sectionSize}
 use Rattle.isdb_mmt.specs.Lent.{part, over, placesFrom, indexed}
 use Rattle.isdb_mmt.specs.Session.{sectionPlaceOf, sectionFields}
 use Rattle.isdb_mmt.specs.View.{given}
-use Rattle.isdb_mmt.specs.Placing.{tableLength}
+use Rattle.isdb_mmt.specs.PlacesOf.{tableLength}
 use Rattle.isdb_mmt.specs.Leaves.{keptPlace, sectionRows, bytesOver, keptOver}
 use Rattle.isdb_mmt.specs.declared.decoder.section.KeptSection.{KeptSection}
 use Rattle.isdb_mmt.proofs.Lent.{length-over, part-over}

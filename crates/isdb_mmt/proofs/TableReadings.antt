@@ -24,7 +24,7 @@ use Rattle.isdb_mmt.specs.Session.{Session, limitsOf, usedOf, latestOf, 
 use Rattle.isdb_mmt.specs.Check.{controlsIn, sectionsIn, controlSound, sectionSound, lengthsOf, sound, Sound}
 use Rattle.isdb_mmt.specs.Model.{Control as ControlState}
 use Rattle.isdb_mmt.specs.View.{given, controlStateOf, viewBy, view}
-use Rattle.isdb_mmt.specs.Readings.{areaPart, sectionFound, sectionPart, controlFound, mptAt, mptPart, pltPart, totPart, tableIf, tableRead, tableIdOf, sectionRead, mptRead, pltRead, totRead, controlNames, ascending, firstCarried, carried, assetIn, assetIf, assetAmong, assetRead, nothing, toldBy}
+use Rattle.isdb_mmt.specs.Readings.{areaPart, sectionFound, sectionPart, controlFound, mptAt, mptPart, pltPart, totPart, tableIf, tableRead, tableIdOf, sectionRead, mptRead, pltRead, totRead, controlNames, ascending, firstCarried, carried, assetIn, assetIf, assetAmong, assetRead, toldBy}
 use Rattle.isdb_mmt.specs.ReadingLaws.{namesIn, rises, InOrder}
 use Rattle.isdb_mmt.specs.TableReadingLaws.{saysOf, sectionBytes, mptBytes, Inside, Reads, TablesAreTold, SaysAsset, saysAsset, carriedBy, mptSays, keptSays, carriedAmong, InsideMpt, AssetRead, CarriedAssets, Passes, PassedBelow, AnswerIs, FirstCarriers}
 use Rattle.isdb_mmt.specs.declared.part.Part.{Part}
@@ -39,7 +39,7 @@ use Rattle.isdb_mmt.specs.declared.decoder.control.Control.{Control}
 use Rattle.isdb_mmt.specs.declared.decoder.place.Found.{Found}
 use Rattle.isdb_mmt.specs.declared.decoder.place.Found.the-variants.{At, Nothing}
 use Rattle.isdb_mmt.proofs.Guards.{was-both}
-use Rattle.isdb_mmt.proofs.Names.{clash}
+use Rattle.isdb_mmt.proofs.Names.{true-not-false}
 use Rattle.isdb_mmt.proofs.PlacesFor.{none-some}
 use Rattle.isdb_mmt.proofs.MessageLeaves.{control-names}
 use Rattle.isdb_mmt.proofs.Said.{controlAtPlace, keptEntry, control-found, section-found}
@@ -246,7 +246,7 @@ some-same x y e = cc
 
 above-these : (c j : ℕ) (ids : List ℕ) → rises c ids ≡ true → among j ids ≡ true → c ≤ j
 unfolding rises among
-above-these c j [] r m = clash false m refl
+above-these c j [] r m = true-not-false false m refl
 above-these c j (x ∷ ids) r m =
     let q = was-both (leb c x) (rises (x + 1) ids) r in
     let b = leb-true c x (q .0) in
@@ -310,7 +310,7 @@ module _ (p : ℕ) (m : List (ℕ × ControlState)) where
 
   answer : (a : ℕ) (ids : List ℕ) → rises a ids ≡ true → PassedBelow p m a → Listed a ids → AnswerIs p m (carriedAmong p m ids)
   unfolding carriedAmong among
-  answer a [] r below listed = λ id b e. either (ltb id a) (λ t. below id b (ltb-true id a t) e) (λ f. clash false (listed id b e (ltb-false id a f)) refl)
+  answer a [] r below listed = λ id b e. either (ltb id a) (λ t. below id b (ltb-true id a t) e) (λ f. true-not-false false (listed id b e (ltb-false id a f)) refl)
   answer a (x ∷ ids) r below listed =
       of-kept a x ids r below listed (carriedAmong p m ids)
       (λ f. answer (x + 1) ids (rise a x ids r below listed .1) (below-next a x ids r below listed f) (listed-on a x ids r below listed))

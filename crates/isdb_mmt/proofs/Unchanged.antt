@@ -17,11 +17,11 @@ use Rattle.isdb_mmt.specs.Lent.{part, over, placesFrom, indexed}
 use Rattle.isdb_mmt.specs.Layout.{sectionPlaces, sectionSize}
 use Rattle.isdb_mmt.specs.Session.{Session, limitsOf, usedOf, latestOf, sectionPlaceOf, sectionFields}
 use Rattle.isdb_mmt.specs.Check.{Sound, lengthsOf, sectionsIn, sound}
-use Rattle.isdb_mmt.specs.View.{given, sectionEntry, tableAt, viewBy, view}
+use Rattle.isdb_mmt.specs.View.{given, sectionEntry, keptTableAt, viewBy, view}
 use Rattle.isdb_mmt.specs.Octets.{Octets}
-use Rattle.isdb_mmt.specs.Placing.{tableLength, latestFor}
+use Rattle.isdb_mmt.specs.PlacesOf.{tableLength, latestFor}
 use Rattle.isdb_mmt.specs.Leaves.{keptPlace, sectionRows, withSections, bytesOver, keptOver, latestOver}
-use Rattle.isdb_mmt.specs.Lines.{lengthIf, tidyLatest}
+use Rattle.isdb_mmt.specs.FragmentPush.{lengthIf, normalLatest}
 use Rattle.isdb_mmt.specs.declared.decoder.limits.Limits.{Limits}
 use Rattle.isdb_mmt.specs.declared.decoder.section.KeptSection.{KeptSection}
 use Rattle.isdb_mmt.proofs.Checks.{is-sound}
@@ -139,12 +139,12 @@ module _ (s : Session) (ok : Sound (s .state) (s .others) (lengthsOf s)) where
       (laid-same (latestOf (s .state) .plt) ((l .sections + l .«control_ids») * l .«table_area») (latestOf (s .state) .«plt_length») (s .tables))
       ∙ laid-same (latestOf (s .state) .tot) ((l .sections + l .«control_ids» + 1) * l .«table_area») (latestOf (s .state) .«tot_length») (s .tables)
 
-  pub latest-same : latestFor (view s .store) ≡ tidyLatest (latestOf (s .state))
+  pub latest-same : latestFor (view s .store) ≡ normalLatest (latestOf (s .state))
   unfolding latestFor view viewBy
   latest-same =
       let x = latestOf (s .state) in
-      let p = is-there (x .plt) (tableAt l s (l .sections + l .«control_ids») (x .«plt_length»)) in
-      let t = is-there (x .tot) (tableAt l s (l .sections + l .«control_ids» + 1) (x .«tot_length»)) in
+      let p = is-there (x .plt) (keptTableAt l s (l .sections + l .«control_ids») (x .«plt_length»)) in
+      let t = is-there (x .tot) (keptTableAt l s (l .sections + l .«control_ids» + 1) (x .«tot_length»)) in
       let pl = given-length (x .plt) ((l .sections + l .«control_ids») * l .«table_area») (x .«plt_length») (s .tables) (exact .plt) in
       let tl = given-length (x .tot) ((l .sections + l .«control_ids» + 1) * l .«table_area») (x .«tot_length») (s .tables) (exact .tot) in
       λ i. record { plt = p i; «plt_length» = pl i; tot = t i; «tot_length» = tl i }

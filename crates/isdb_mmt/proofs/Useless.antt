@@ -14,7 +14,7 @@ use Rattle.isdb_mmt.specs.Objects.{fresh as freshAsset}
 use Rattle.isdb_mmt.specs.Kept.{Section}
 use Rattle.isdb_mmt.specs.Model.{opened, assetOf}
 use Rattle.isdb_mmt.specs.Book.{book, isHeld, deliveredOf, wellFormed, wellFormedIn, reaching, allIdle, sectionsFrom, reassembliesAfter, sectionsAmong}
-use Rattle.isdb_mmt.specs.Demand.{bytesOf}
+use Rattle.isdb_mmt.specs.Demand.{heldBytes}
 use Rattle.isdb_mmt.specs.Lent.{every}
 use Rattle.isdb_mmt.specs.Layout.{stateSize}
 use Rattle.isdb_mmt.specs.Limits.{asked}
@@ -116,7 +116,7 @@ module _ (d : Decoder) (h : Demand3 d) where
       at (both .holds .ids mediaId .delivered)
 
   stays-none : heldIn start mediaId ≡ none
-  unfolding opened assetOf find orElse freshAsset bytesOf
+  unfolding opened assetOf find orElse freshAsset heldBytes
   stays-none = rw (held-said start mediaId, opening (small 9) (blank 2) fits .state) refl
 
   not-useless : NotUseless d

@@ -10,15 +10,14 @@ use mathlib.Core.List.{List, [], _∷_, _++_, map}
 use native.Mathlib.Omega.{arith}
 use lib.Dec.{eqb, ltb}
 use lib.Arith.{lt-of-le-ne}
-use lib.Seq.{drop-drop, take-add}
-use lib.ListN.{length, getD, set, take, drop}
+use lib.ListN.{length, getD, set}
 use borrow.Author.Tests.{eq-eqb, ne-eqb, eqb-true, eqb-false, ltb-true, ltb-false}
 use Rattle.isdb_tlv.proofs.Guards.{either}
 use Rattle.isdb_mmt.specs.Maps.{find, put}
 use Rattle.isdb_mmt.specs.Lent.{part, over, placesFrom, foundFrom, indexed}
 use Rattle.isdb_mmt.specs.declared.decoder.place.Found.the-variants.{At, Nothing}
-use Rattle.isdb_mmt.proofs.Lent.{places-set, places-snoc, part-apart, part-over}
-use Rattle.isdb_mmt.proofs.Names.{clash, there, indexIn}
+use Rattle.isdb_mmt.proofs.Lent.{places-set, places-snoc, part-apart}
+use Rattle.isdb_mmt.proofs.Names.{true-not-false, there, indexIn}
 
 -- ---- a map's entries by their names
 
@@ -30,15 +29,15 @@ module _ {A : Type 0} where
   entry es i d = getD es i (0, d) .1
 
   -- `e` is found `i` places behind the first
-  pub record Stands (es : List (ℕ × A)) (x i : ℕ) : Type 0 where
+  pub record FoundAt (es : List (ℕ × A)) (x i : ℕ) : Type 0 where
     pub within : i < length es
     pub found : (d : A) → find x es ≡ some (entry es i d)
     pub stored : (a : A) → put x a es ≡ set es i (x, a)
 
-  pub stands : (es : List (ℕ × A)) (x k j : ℕ) → foundFrom k (keys es) x ≡ At j → (k ≤ j) × Stands es x (j - k)
+  pub found-at : (es : List (ℕ × A)) (x k j : ℕ) → foundFrom k (keys es) x ≡ At j → (k ≤ j) × FoundAt es x (j - k)
   unfolding foundFrom find put
-  stands [] x k j e = clash true refl (ap there (sym e))
-  stands (y ∷ es) x k j e =
+  found-at [] x k j e = true-not-false true refl (ap there (sym e))
+  found-at (y ∷ es) x k j e =
       either (eqb (y .0) x)
       (λ t.
       let n : k ≡ j = ap indexIn (rw t at e) in
@@ -46,7 +45,7 @@ module _ {A : Type 0} where
       let q : eqb x (y .0) ≡ true = eq-eqb x (y .0) (sym (eqb-true (y .0) x t)) in
       (omega arith, rw z (record { within = omega arith; found = λ d. rw q; stored = λ a. rw q })))
       (λ f.
-      let r = stands es x (k + 1) j (rw f at e) in
+      let r = found-at es x (k + 1) j (rw f at e) in
       let z : j - k ≡ suc (j - (k + 1)) = omega (arith, r .0) in
       let q : eqb x (y .0) ≡ false = ne-eqb x (y .0) (λ p. eqb-false (y .0) x f (sym p)) in (
         omega (arith, r .0),
@@ -63,7 +62,7 @@ module _ {A : Type 0} where
   unfolding foundFrom find put
   absent [] x k e = (refl, λ a. refl)
   absent (y ∷ es) x k e =
-      either (eqb (y .0) x) (λ t. clash true refl (ap there (rw t at e)))
+      either (eqb (y .0) x) (λ t. true-not-false true refl (ap there (rw t at e)))
       (λ f.
       let r = absent es x (k + 1) (rw f at e) in
       let q : eqb x (y .0) ≡ false = ne-eqb x (y .0) (λ p. eqb-false (y .0) x f (sym p)) in
@@ -148,12 +147,3 @@ module _ (area : ℕ) (l bs : List ℕ) (i from : ℕ) (h : from + length bs ≤
       let k : (i + 1) * area ≤ j * area = mul-le-mul-right area (omega arith) in
       inr (omega arith)))
       within-area
-
--- what an area has, with more behind it
-pub area-grown : (at n : ℕ) (l bs : List ℕ) → at + n + length bs ≤ length l → part at (n + length bs) (over (at + n) bs l) ≡ part at n l ++ bs
-area-grown at n l bs h =
-    let m : List ℕ = over (at + n) bs l in
-    let e0 : part at n m ≡ part at n l = part-apart at n (at + n) bs l (inl (omega arith)) (omega arith) in
-    let e1 : take (length bs) (drop n (drop at m)) ≡ bs =
-    ap (λ (r : List ℕ). take (length bs) r) (drop-drop n at m) ∙ part-over (at + n) bs l (omega arith) in
-    take-add n (length bs) (drop at m) ∙ ap (λ (r : List ℕ). r ++ take (length bs) (drop n (drop at m))) e0 ∙ ap (λ (r : List ℕ). part at n l ++ r) e1

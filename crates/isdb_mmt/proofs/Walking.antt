@@ -11,17 +11,17 @@ use Rattle.isdb_mmt.specs.Layout.{mostSections}
 use Rattle.isdb_mmt.specs.Packet.{Bytes}
 use Rattle.isdb_mmt.specs.Kept.{Table}
 use Rattle.isdb_mmt.specs.declared.decoder.section.KeptSection.{KeptSection}
-use Rattle.isdb_mmt.specs.declared.decoder.verdict.Act.{Act}
-use Rattle.isdb_mmt.specs.declared.decoder.verdict.Act.the-variants.{Nothing, Other, Mpt, Plt, Tot, Put}
-use Rattle.isdb_mmt.specs.declared.decoder.verdict.Told.{Told}
-use Rattle.isdb_mmt.specs.declared.decoder.walk.Going.{Going}
+use Rattle.isdb_mmt.specs.declared.decoder.table_outcome.TableAction.{TableAction}
+use Rattle.isdb_mmt.specs.declared.decoder.table_outcome.TableAction.the-variants.{Nothing, Other, Mpt, Plt, Tot, Put}
+use Rattle.isdb_mmt.specs.declared.decoder.table_outcome.TableOutcome.{TableOutcome}
+use Rattle.isdb_mmt.specs.declared.decoder.walk.WalkState.{WalkState}
 use Rattle.isdb_mmt.specs.Placed.{Placed}
-use Rattle.isdb_mmt.specs.Verdict.{indexOf, toldOf}
-use Rattle.isdb_mmt.specs.Dry.{mostAdded, Logged, logged, withLog, placesOf, Dry, dryOf, indexAfter, afterTable, notedOne, notedAll, Room, Copies, cutShort, WalkedTo, Noted, Walked}
-use Rattle.isdb_mmt.proofs.Names.{clash}
-use Rattle.isdb_mmt.proofs.Notes.{log-places}
+use Rattle.isdb_mmt.specs.TableOutcome.{indexOf, tableOutcome}
+use Rattle.isdb_mmt.specs.PendingTables.{mostAdded, Logged, logged, withLog, placesOf, PendingTables, pendingOf, indexAfter, pendingAfter, pendingWith, pendingWithAll, Room, Copies, cutShort, WalkedTo, Applied, Walked}
+use Rattle.isdb_mmt.proofs.Names.{true-not-false}
+use Rattle.isdb_mmt.proofs.Applied.{log-places}
 
-pub room-more : (g : Going) (others : List ℕ) (n k : ℕ) → n ≤ k → Room g others n → Room g others k
+pub room-more : (g : WalkState) (others : List ℕ) (n k : ℕ) → n ≤ k → Room g others n → Room g others k
 room-more g others n k h r =
     record {
       tables = omega (arith, r .tables);
@@ -35,7 +35,7 @@ room-more g others n k h r =
 
 -- ---- the index grows
 
-after-mono : (es : List Logged) (z : Act) (f : ℕ) → length es ≤ length (indexAfter es z f)
+after-mono : (es : List Logged) (z : TableAction) (f : ℕ) → length es ≤ length (indexAfter es z f)
 after-mono es Nothing f = omega arith
 after-mono es (Other id) f = omega arith
 after-mono es (Mpt v n) f = omega arith
@@ -46,36 +46,36 @@ after-mono es (Put i x) f =
     (λ t. rw t (omega (arith, length-append es (logged x f ∷ []))))
 
 module _ (read : Bytes → Table) where
-  pub mono : (xs : List Placed) (d : Dry) → length (d .index) ≤ length (notedAll read d xs .index)
-  unfolding notedAll
+  pub mono : (xs : List Placed) (d : PendingTables) → length (d .index) ≤ length (pendingWithAll read d xs .index)
+  unfolding pendingWithAll
   mono [] d = omega arith
   mono (x ∷ xs) d =
-      let t : Told = toldOf (placesOf (d .index)) (d .mpt) (d .plt) (read (x .bytes)) in
-      omega (arith, after-mono (d .index) (t .act) (x .at + 1), mono xs (notedOne read d x))
+      let t : TableOutcome = tableOutcome (placesOf (d .index)) (d .mpt) (d .plt) (read (x .bytes)) in
+      omega (arith, after-mono (d .index) (t .act) (x .at + 1), mono xs (pendingWith read d x))
 
-  noted-append : (xs ys : List Placed) (d : Dry) → notedAll read d (xs ++ ys) ≡ notedAll read (notedAll read d xs) ys
-  unfolding notedAll
-  noted-append [] ys d = refl
-  noted-append (x ∷ xs) ys d = noted-append xs ys (notedOne read d x)
+  applied-append : (xs ys : List Placed) (d : PendingTables) → pendingWithAll read d (xs ++ ys) ≡ pendingWithAll read (pendingWithAll read d xs) ys
+  unfolding pendingWithAll
+  applied-append [] ys d = refl
+  applied-append (x ∷ xs) ys d = applied-append xs ys (pendingWith read d x)
 
   -- ---- no table, and a message or table that is cut short
 
-  module _ (ix log others : List ℕ) (g : Going) (u : g .used ≤ mostSections) where
+  module _ (ix log others : List ℕ) (g : WalkState) (u : g .used ≤ mostSections) where
     pub none-walked : Walked read ix log others g [] 0 0 g ix log others
-    unfolding notedAll
+    unfolding pendingWithAll
     none-walked =
         record {
-          to = record { stays = λ y. y; over = λ y z. clash (g .full) z y; now = λ y. (y, refl); used = u };
+          to = record { stays = λ y. y; over = λ y z. true-not-false (g .full) z y; now = λ y. (y, refl); used = u };
           room = λ most r. room-more g others most (most + 0 * mostAdded) (omega arith) r;
           bad = omega arith;
         }
 
-    pub cut-walked : (r : Going) → r ≡ cutShort g → Walked read ix log others g [] 1 1 r ix log others
-    unfolding notedAll
+    pub cut-walked : (r : WalkState) → r ≡ cutShort g → Walked read ix log others g [] 1 1 r ix log others
+    unfolding pendingWithAll
     cut-walked r er =
         rw er
         (record {
-          to = record { stays = λ y. y; over = λ y z. clash (g .full) z y; now = λ y. (y, refl); used = u };
+          to = record { stays = λ y. y; over = λ y z. true-not-false (g .full) z y; now = λ y. (y, refl); used = u };
           room =
               λ most r.
               record {
@@ -91,21 +91,21 @@ module _ (read : Bytes → Table) where
         })
 
   -- one table
-  pub one-walked : (ix log others : List ℕ) (g : Going) (x : Placed) (t : Told)
-      → t ≡ toldOf (indexOf (g .used) ix) (g .mpt) (g .plt) (read (x .bytes)) → (r : Going) (ix′ log′ others′ : List ℕ)
-      → Noted ix log others g t (x .at + 1) r ix′ log′ others′ → Walked read ix log others g (x ∷ []) 1 0 r ix′ log′ others′
-  unfolding notedAll
+  pub one-walked : (ix log others : List ℕ) (g : WalkState) (x : Placed) (t : TableOutcome)
+      → t ≡ tableOutcome (indexOf (g .used) ix) (g .mpt) (g .plt) (read (x .bytes)) → (r : WalkState) (ix′ log′ others′ : List ℕ)
+      → Applied ix log others g t (x .at + 1) r ix′ log′ others′ → Walked read ix log others g (x ∷ []) 1 0 r ix′ log′ others′
+  unfolding pendingWithAll
   one-walked ix log others g x t et r ix′ log′ others′ n =
-      let e : t ≡ toldOf (placesOf (withLog (indexOf (g .used) ix) log)) (g .mpt) (g .plt) (read (x .bytes)) =
-      et ∙ ap (λ (ks : List KeptSection). toldOf ks (g .mpt) (g .plt) (read (x .bytes))) (sym (log-places (indexOf (g .used) ix) log)) in
+      let e : t ≡ tableOutcome (placesOf (withLog (indexOf (g .used) ix) log)) (g .mpt) (g .plt) (read (x .bytes)) =
+      et ∙ ap (λ (ks : List KeptSection). tableOutcome ks (g .mpt) (g .plt) (read (x .bytes))) (sym (log-places (indexOf (g .used) ix) log)) in
       record {
-        to = subst (λ (z : Told). WalkedTo (afterTable (dryOf ix log others g) z (x .at + 1)) g r ix′ log′ others′) e (n .to);
+        to = subst (λ (z : TableOutcome). WalkedTo (pendingAfter (pendingOf ix log others g) z (x .at + 1)) g r ix′ log′ others′) e (n .to);
         room = n .room;
         bad = omega (arith, n .bad);
       }
 
 -- a walk in more bytes
-pub walked-more : (read : Bytes → Table) (ix log others : List ℕ) (g : Going) (xs : List Placed) (n k : ℕ) (r : Going) (ix′ log′ others′ : List ℕ)
+pub walked-more : (read : Bytes → Table) (ix log others : List ℕ) (g : WalkState) (xs : List Placed) (n k : ℕ) (r : WalkState) (ix′ log′ others′ : List ℕ)
     → Walked read ix log others g xs n k r ix′ log′ others′ → (m : ℕ) → n ≤ m → Walked read ix log others g xs m k r ix′ log′ others′
 walked-more read ix log others g xs n k r ix′ log′ others′ w m h =
     record {
@@ -116,15 +116,15 @@ walked-more read ix log others g xs n k r ix′ log′ others′ w m h =
 
 -- ---- the loop: `rest` is still to be noted, and `left` is cut short in it
 
-pub record Goes (read : Bytes → Table) (ix₀ log₀ others₀ : List ℕ) (g₀ : Going) (all : List Placed) (bads : ℕ) (ix log others : List ℕ) (g : Going) (rest : List Placed) (left n : ℕ) : Type 0 where
+pub record Goes (read : Bytes → Table) (ix₀ log₀ others₀ : List ℕ) (g₀ : WalkState) (all : List Placed) (bads : ℕ) (ix log others : List ℕ) (g : WalkState) (rest : List Placed) (left n : ℕ) : Type 0 where
   pub copies : Copies ix log others g
   pub room : (most : ℕ) → Room g₀ others₀ most → Room g others (most + n * mostAdded)
   pub bad : g .«message_malformed» + left ≡ g₀ .«message_malformed» + bads
   pub stays : g₀ .full ≡ true → g .full ≡ true
-  pub over : g₀ .full ≡ false → g .full ≡ true → mostSections < length (notedAll read (dryOf ix₀ log₀ others₀ g₀) all .index)
-  pub now : g .full ≡ false → (g₀ .full ≡ false) × (notedAll read (dryOf ix log others g) rest ≡ notedAll read (dryOf ix₀ log₀ others₀ g₀) all)
+  pub over : g₀ .full ≡ false → g .full ≡ true → mostSections < length (pendingWithAll read (pendingOf ix₀ log₀ others₀ g₀) all .index)
+  pub now : g .full ≡ false → (g₀ .full ≡ false) × (pendingWithAll read (pendingOf ix log others g) rest ≡ pendingWithAll read (pendingOf ix₀ log₀ others₀ g₀) all)
 
-pub goes-start : (read : Bytes → Table) (ix log others : List ℕ) (g : Going) → Copies ix log others g → (all : List Placed) (bads n : ℕ)
+pub goes-start : (read : Bytes → Table) (ix log others : List ℕ) (g : WalkState) → Copies ix log others g → (all : List Placed) (bads n : ℕ)
     → Goes read ix log others g all bads ix log others g all bads n
 goes-start read ix log others g c all bads n =
     record {
@@ -132,21 +132,21 @@ goes-start read ix log others g c all bads n =
       room = λ most r. room-more g others most (most + n * mostAdded) (omega arith) r;
       bad = refl;
       stays = λ y. y;
-      over = λ y z. clash (g .full) z y;
+      over = λ y z. true-not-false (g .full) z y;
       now = λ y. (y, refl);
     }
 
-module _ (read : Bytes → Table) (ix₀ log₀ others₀ : List ℕ) (g₀ : Going) (all : List Placed) (bads : ℕ) (ix log others : List ℕ) (g : Going)
+module _ (read : Bytes → Table) (ix₀ log₀ others₀ : List ℕ) (g₀ : WalkState) (all : List Placed) (bads : ℕ) (ix log others : List ℕ) (g : WalkState)
     (rest : List Placed) (left n : ℕ) (go : Goes read ix₀ log₀ others₀ g₀ all bads ix log others g rest left n) where
-  pub goes-on : (xs rest′ : List Placed) → rest ≡ xs ++ rest′ → (k left′ : ℕ) → left ≡ k + left′ → (c n′ : ℕ) → n + c ≤ n′
-      → (r : Going) (ix′ log′ others′ : List ℕ) → Walked read ix log others g xs c k r ix′ log′ others′
+  pub in-sequence : (xs rest′ : List Placed) → rest ≡ xs ++ rest′ → (k left′ : ℕ) → left ≡ k + left′ → (c n′ : ℕ) → n + c ≤ n′
+      → (r : WalkState) (ix′ log′ others′ : List ℕ) → Walked read ix log others g xs c k r ix′ log′ others′
       → length ix′ ≡ length ix → length log′ ≡ length log → length others′ ≡ length others
       → Goes read ix₀ log₀ others₀ g₀ all bads ix′ log′ others′ r rest′ left′ n′
-  goes-on xs rest′ er k left′ el c n′ h r ix′ log′ others′ w li ll lo =
-      let d : Dry = dryOf ix log others g in
-      let D : Dry = notedAll read (dryOf ix₀ log₀ others₀ g₀) all in
-      let step : g .full ≡ false → notedAll read (notedAll read d xs) rest′ ≡ D =
-      λ y. sym (noted-append read xs rest′ d) ∙ ap (λ (zs : List Placed). notedAll read d zs) (sym er) ∙ go .now y .1 in
+  in-sequence xs rest′ er k left′ el c n′ h r ix′ log′ others′ w li ll lo =
+      let d : PendingTables = pendingOf ix log others g in
+      let D : PendingTables = pendingWithAll read (pendingOf ix₀ log₀ others₀ g₀) all in
+      let step : g .full ≡ false → pendingWithAll read (pendingWithAll read d xs) rest′ ≡ D =
+      λ y. sym (applied-append read xs rest′ d) ∙ ap (λ (zs : List Placed). pendingWithAll read d zs) (sym er) ∙ go .now y .1 in
       record {
         copies =
             record {
@@ -165,25 +165,25 @@ module _ (read : Bytes → Table) (ix₀ log₀ others₀ : List ℕ) (g₀ : Go
             λ y z.
             either (g .full) (λ v. go .over y v)
             (λ v.
-            let m = mono read rest′ (notedAll read d xs) in
+            let m = mono read rest′ (pendingWithAll read d xs) in
             let o = w .to .over v z in
-            let e : length (notedAll read (notedAll read d xs) rest′ .index) ≡ length (D .index) = ap (λ (z : Dry). length (z .index)) (step v) in
+            let e : length (pendingWithAll read (pendingWithAll read d xs) rest′ .index) ≡ length (D .index) = ap (λ (z : PendingTables). length (z .index)) (step v) in
             omega (arith, m, o, e));
         now =
             λ y.
             let q = w .to .now y in
-            (go .now (q .0) .0, ap (λ (z : Dry). notedAll read z rest′) (q .1) ∙ step (q .0));
+            (go .now (q .0) .0, ap (λ (z : PendingTables). pendingWithAll read z rest′) (q .1) ∙ step (q .0));
       }
 
   pub goes-end : rest ≡ [] → left ≡ 0 → (m : ℕ) → n ≤ m → Walked read ix₀ log₀ others₀ g₀ all m bads g ix log others
-  unfolding notedAll
+  unfolding pendingWithAll
   goes-end er el m h =
       record {
         to =
             record {
               stays = go .stays;
               over = go .over;
-              now = λ y. let q = go .now y in (q .0, sym (ap (λ (xs : List Placed). notedAll read (dryOf ix log others g) xs) er) ∙ q .1);
+              now = λ y. let q = go .now y in (q .0, sym (ap (λ (xs : List Placed). pendingWithAll read (pendingOf ix log others g) xs) er) ∙ q .1);
               used = go .copies .used;
             };
         room = λ most q. room-more g others (most + n * mostAdded) (most + m * mostAdded) (omega arith) (go .room most q);
@@ -191,20 +191,20 @@ module _ (read : Bytes → Table) (ix₀ log₀ others₀ : List ℕ) (g₀ : Go
       }
 
   -- what is left is cut short
-  pub goes-cut : rest ≡ [] → left ≡ 1 → (m : ℕ) → n < m → (r : Going) → r ≡ cutShort g → Walked read ix₀ log₀ others₀ g₀ all m bads r ix log others
-  unfolding notedAll
+  pub goes-cut : rest ≡ [] → left ≡ 1 → (m : ℕ) → n < m → (r : WalkState) → r ≡ cutShort g → Walked read ix₀ log₀ others₀ g₀ all m bads r ix log others
+  unfolding pendingWithAll
   goes-cut er el m h r e =
       let w = cut-walked read ix log others g (go .copies .used) r e in
       record {
         to =
             record {
               stays = λ y. w .to .stays (go .stays y);
-              over = λ y z. either (g .full) (λ v. go .over y v) (λ v. clash (r .full) z (ap (λ (x : Going). x .full) e ∙ v));
+              over = λ y z. either (g .full) (λ v. go .over y v) (λ v. true-not-false (r .full) z (ap (λ (x : WalkState). x .full) e ∙ v));
               now =
                   λ y.
                   let q = w .to .now y in
                   let p = go .now (q .0) in
-                  (p .0, q .1 ∙ sym (ap (λ (xs : List Placed). notedAll read (dryOf ix log others g) xs) er) ∙ p .1);
+                  (p .0, q .1 ∙ sym (ap (λ (xs : List Placed). pendingWithAll read (pendingOf ix log others g) xs) er) ∙ p .1);
               used = w .to .used;
             };
         room =

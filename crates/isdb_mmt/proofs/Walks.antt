@@ -20,8 +20,8 @@ use Rattle.isdb_mmt.specs.Whole.{assetTold, assetSeen, packageTold, pack
 use Rattle.isdb_mmt.specs.Walks.{AssetsWalk, LocationsWalk, MptTheorem, AssetTheorem, PltWalks, PltTheorem}
 use Rattle.isdb_mmt.specs.declared.location.Located.{Located}
 use Rattle.isdb_mmt.specs.declared.location.Located.the-variants.{None as notLocated, Some as located}
-use Rattle.isdb_mmt.specs.declared.table.mpt.Place.{Place}
-use Rattle.isdb_mmt.specs.declared.table.mpt.Place.the-variants.{None as nowhere, At}
+use Rattle.isdb_mmt.specs.declared.maybe.MaybeUsize.{MaybeUsize}
+use Rattle.isdb_mmt.specs.declared.maybe.MaybeUsize.the-variants.{None as nowhere, Some as At}
 use Rattle.isdb_mmt.specs.declared.table.mpt.AssetStep.{AssetStep}
 use Rattle.isdb_mmt.specs.declared.table.mpt.AssetStep.the-variants.{Malformed as noAsset, Asset as asset}
 use Rattle.isdb_mmt.specs.declared.table.mpt.MaybeMpt.{MaybeMpt}
@@ -34,11 +34,11 @@ use Rattle.isdb_mmt.specs.declared.table.plt.DeliveryStep.{DeliveryStep}
 use Rattle.isdb_mmt.specs.declared.table.plt.DeliveryStep.the-variants.{Malformed as noDelivery, Delivery as delivery}
 use Rattle.isdb_mmt.specs.declared.table.plt.MaybePlt.{MaybePlt}
 use Rattle.isdb_mmt.specs.declared.table.plt.MaybePlt.the-variants.{None as noPlt, Some as somePlt}
-use Rattle.isdb_mmt.proofs.Names.{clash}
+use Rattle.isdb_mmt.proofs.Names.{true-not-false}
 use Rattle.isdb_mmt.proofs.Steps.{Leads, counts, whole-by}
 
 -- a place that is there
-abbrev There : Place → Type 0
+abbrev There : MaybeUsize → Type 0
 There nowhere = ⊥
 There (At p) = Unit {0}
 
@@ -54,7 +54,7 @@ module _ (s : List ℕ) where
       whole-by (locationSeen s) (λ n at. There (locationsEnd n s at)) (λ n at. location-leads n at (locationOf (drop at s)))
 
   asset-leads : (n : ℕ) (d : AssetStep) → assetThen s (assetsFrom n s) d .whole ≡ true → Leads (λ p. assetsFrom n s p .whole ≡ true) (assetTold s d)
-  asset-leads n noAsset w = clash false w refl
+  asset-leads n noAsset w = true-not-false false w refl
   asset-leads n (asset a next) w = w
 
   assets-whole : (n at : ℕ) → assetsFrom n s at .whole ≡ true → counted (assetSeen s) n at .whole ≡ true
@@ -73,7 +73,7 @@ module _ (s : List ℕ) where
 
   delivery-leads : (n : ℕ) (d : DeliveryStep) → isSome (deliveryThen (deliveriesFrom n s) d) ≡ true
       → Leads (λ p. isSome (deliveriesFrom n s p) ≡ true) (deliveryTold d)
-  delivery-leads n noDelivery w = clash false w refl
+  delivery-leads n noDelivery w = true-not-false false w refl
   delivery-leads n (delivery x next) w = also-some x (deliveriesFrom n s next) w
 
   deliveries-whole : (n at : ℕ) → deliveriesWhole n s at ≡ true → counted (deliverySeen s) n at .whole ≡ true
@@ -94,7 +94,7 @@ module _ (s : List ℕ) where
       cond-elim AssetGood (ltb (length s - (end + 2)) (be 2 s end)) (λ e1. tt) (λ e1.
       counts (locationSeen s) (getD s (q + 5) 0) (q + 6) (locations-whole (getD s (q + 5) 0) (q + 6) w)))
 
-  behind-good : (p q : ℕ) (d : Place) → locationsEnd (getD s (q + 5) 0) s (q + 6) ≡ d → AssetGood (assetBehind s p q d)
+  behind-good : (p q : ℕ) (d : MaybeUsize) → locationsEnd (getD s (q + 5) 0) s (q + 6) ≡ d → AssetGood (assetBehind s p q d)
   behind-good p q nowhere e = tt
   behind-good p q (At end) e = fields-good p q end (rw e tt)
 
@@ -149,9 +149,9 @@ module _ (s : List ℕ) where
       let h = deliveriesWhole (getD s at 0) s (at + 1) in
       cond-elim PltGood (eqb (length s - at) 0) (λ e. with-good w 0 at refl) (λ e.
       cond-elim PltGood (not h) (λ e1. tt) (λ e1.
-      with-good w (getD s at 0) (at + 1) (either h (λ d. d) (λ d. clash true refl (rw d at e1)))))
+      with-good w (getD s at 0) (at + 1) (either h (λ d. d) (λ d. true-not-false true refl (rw d at e1)))))
 
-  packages-good : (d : Place) → packagesEnd (getD s 4 0) s 5 ≡ d → PltGood (pltBehind s d)
+  packages-good : (d : MaybeUsize) → packagesEnd (getD s 4 0) s 5 ≡ d → PltGood (pltBehind s d)
   packages-good nowhere e = tt
   packages-good (At at) e = deliveries-good (rw e tt) at
 
@@ -162,7 +162,7 @@ module _ (s : List ℕ) where
 
 -- ---- the tables, cut to what they declare
 
-pub cut-elim : (s : List ℕ) (P : Place → Type 0) → P nowhere → P (At (be 2 s 2 + 4)) → P (declaredLength s)
+pub cut-elim : (s : List ℕ) (P : MaybeUsize → Type 0) → P nowhere → P (At (be 2 s 2 + 4)) → P (declaredLength s)
 unfolding declaredLength
 cut-elim s P x y =
     cond-elim P (ltb (length s) 4) (λ e. x) (λ e. cond-elim P (ltb (length s) (be 2 s 2 + 4)) (λ e1. x) (λ e1. y))

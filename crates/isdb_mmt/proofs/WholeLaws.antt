@@ -3,7 +3,7 @@ use Prim.Native.Nat.{ℕ, zero, suc, _+_, _-_, _*_, _≤_, _<_}
 use mathlib.Core.Path.{_≡_, refl, sym, ap, _∙_, subst}
 use mathlib.Core.Bool.{Bool, true, false, not}
 use mathlib.Core.Option.{Option, some}
-use mathlib.Core.List.{List, [], _++_, map}
+use mathlib.Core.List.{List, _++_, map}
 use native.Mathlib.Omega.{arith}
 use native.Mathlib.Nat.{add-zero, mul-le-mul-right}
 use lib.Dec.{ltb}
@@ -16,7 +16,7 @@ use Rattle.isdb_tlv.proofs.Guards.{either, cond-elim}
 use Rattle.isdb_mmt.specs.Layout.{mostSections, mostMessageArea, tableIds, controlPlaces, controlSize, sectionPlaces, sectionSize}
 use Rattle.isdb_mmt.specs.Packet.{Bytes, MessagePacket, message}
 use Rattle.isdb_mmt.specs.Maps.{one, isSome}
-use Rattle.isdb_mmt.specs.Joins.{PartialMessage, Reassembly, mostMessage, short, cutOf, cutOfAll, messageCompleted}
+use Rattle.isdb_mmt.specs.Reassembly.{PartialMessage, Reassembly, mostMessage, short, cutOf, cutOfAll, messageCompleted}
 use Rattle.isdb_mmt.specs.Kept.{KeptTables, Table, tableRead, mptAfterAll, storedAll, countedAll}
 use Rattle.isdb_mmt.specs.GivenTables.{tablesGiven}
 use Rattle.isdb_mmt.specs.Model.{State, Control as ControlState, packetCounted, messageCounted, reassemblyCounted, controlOf, reassemblyOf, pushed}
@@ -26,80 +26,80 @@ use Rattle.isdb_mmt.specs.Session.{Session, limitsOf, usedOf, countersOf
 use Rattle.isdb_mmt.specs.Check.{packetCounts, tableCounts, controlSound, controlsIn, lengthsOf, Sound}
 use Rattle.isdb_mmt.specs.View.{given, viewBy, view}
 use Rattle.isdb_mmt.specs.Opening.{lent}
-use Rattle.isdb_mmt.specs.Placing.{tableLength, latestFor}
+use Rattle.isdb_mmt.specs.PlacesOf.{tableLength, latestFor}
 use Rattle.isdb_mmt.specs.Leaves.{sectionRows, bytesOver, keptOver, latestOver, controlPlaceFor, messageAt, messageIn, packetLeaves}
 use Rattle.isdb_mmt.specs.Push.{asksOf, QuietPushed}
-use Rattle.isdb_mmt.specs.Fragments.{fateOf, byDivision, flagsIn, continued, continuedBy, grownLength, joinedBy, noneJoined, controlWith, laidBy, areaBy, wholeBy, completes, faultsOf, fragmentCounted, CanCount}
-use Rattle.isdb_mmt.specs.Lines.{placeIn, withLine, withCounts, meetingOf}
-use Rattle.isdb_mmt.specs.Verdict.{indexSize}
+use Rattle.isdb_mmt.specs.Fragments.{fragmentOutcome, byDivision, flagsIn, continued, inSequence, grownLength, joinedBy, noneJoined, controlWith, laidBy, areaBy, wholeBy, completes, faultsOf, fragmentCounted, CanCount}
+use Rattle.isdb_mmt.specs.FragmentPush.{placeIn, withReassembly, withCounts, receivedFragment}
+use Rattle.isdb_mmt.specs.TableOutcome.{indexSize}
 use Rattle.isdb_mmt.specs.Commit.{putAreas, loggedFrom, CanStoreAreas}
 use Rattle.isdb_mmt.specs.Start.{recentLength, latestWith, countersWith, tablesAsk, malformedMore, CountsFit}
 use Rattle.isdb_mmt.specs.WholeMessage.{isLast, beforeBy, joinBy, heldIn, WalkedWhole, CanWalkWhole, wholeAsk, placeWhole, stateLeft, CanLeaveState, placeForAt, CanPushWhole, CanPushAt}
 use Rattle.isdb_mmt.specs.declared.decoder.limits.Limits.{Limits}
 use Rattle.isdb_mmt.specs.declared.decoder.counts.Counters.{Counters}
 use Rattle.isdb_mmt.specs.declared.decoder.control.Control.{Control}
-use Rattle.isdb_mmt.specs.declared.decoder.messages.Fate.{Fate}
-use Rattle.isdb_mmt.specs.declared.decoder.messages.Fate.the-variants.{Short, Undivided, First, Orphan, Oversize, Grown, Whole}
+use Rattle.isdb_mmt.specs.declared.decoder.messages.FragmentOutcome.{FragmentOutcome}
+use Rattle.isdb_mmt.specs.declared.decoder.messages.FragmentOutcome.the-variants.{Short, Undivided, First, Orphan, Oversize, Grown, Whole}
 use Rattle.isdb_mmt.specs.declared.decoder.messages.Joined.{Joined}
-use Rattle.isdb_mmt.specs.declared.decoder.messages.Meeting.{Meeting}
+use Rattle.isdb_mmt.specs.declared.decoder.messages.ReceivedFragment.{ReceivedFragment}
 use Rattle.isdb_mmt.specs.declared.message.Division.{Division}
 use Rattle.isdb_mmt.specs.declared.message.Division.the-variants.{Undivided as undivided, First as first, Middle as middle, Last as lastPart}
 use Rattle.isdb_mmt.specs.declared.decoder.place.PlaceFor.the-variants.{NoneFree}
-use Rattle.isdb_mmt.specs.declared.decoder.walk.Going.{Going}
-use Rattle.isdb_mmt.proofs.Names.{clash}
+use Rattle.isdb_mmt.specs.declared.decoder.walk.WalkState.{WalkState}
+use Rattle.isdb_mmt.proofs.Names.{true-not-false}
 use Rattle.isdb_mmt.proofs.Lent.{length-names}
 use Rattle.isdb_mmt.proofs.Limits.{Passed, passed}
 use Rattle.isdb_mmt.proofs.Checks.{count-was, place-was, control-was}
 use Rattle.isdb_mmt.proofs.PlacesFor.{place-for-was-old}
 use Rattle.isdb_mmt.proofs.Fragments.{Does}
-use Rattle.isdb_mmt.proofs.LinePlaces.{Sits, sits-old, sits-new, does, own, mpt-before, asks-message, leaves-parts, length-kept, no-place}
-use Rattle.isdb_mmt.proofs.Verdicts.{found-within}
+use Rattle.isdb_mmt.proofs.ControlPlaces.{Sits, sits-old, sits-new, does, own, mpt-before, asks-message, leaves-parts, length-kept, no-place}
+use Rattle.isdb_mmt.proofs.TableOutcomes.{found-within}
 use Rattle.isdb_mmt.proofs.Loaded.{can-go}
 use Rattle.isdb_mmt.proofs.MessageTables.{message-can, message-full, message-grows, message-used, message-longest, message-others, message-counters, message-areas-can, message-rows, message-mpt-there, message-mpt-long, message-latest, message-areas}
 
 -- ---- by the fragment's fate
 
-whole-is : (f : Fate) → completes f ≡ true → (c : Control) (m b : Bytes) → wholeBy f c m b ≡ some (joinBy (isLast f) c m b)
+whole-is : (f : FragmentOutcome) → completes f ≡ true → (c : Control) (m b : Bytes) → wholeBy f c m b ≡ some (joinBy (isLast f) c m b)
 unfolding wholeBy
-whole-is Short e c m b = clash false e refl
+whole-is Short e c m b = true-not-false false e refl
 whole-is Undivided e c m b = refl
-whole-is First e c m b = clash false e refl
-whole-is Orphan e c m b = clash false e refl
-whole-is Oversize e c m b = clash false e refl
-whole-is Grown e c m b = clash false e refl
+whole-is First e c m b = true-not-false false e refl
+whole-is Orphan e c m b = true-not-false false e refl
+whole-is Oversize e c m b = true-not-false false e refl
+whole-is Grown e c m b = true-not-false false e refl
 whole-is Whole e c m b = refl
 
-no-fault : (f : Fate) → completes f ≡ true → (a : Counters) → fragmentCounted f a ≡ fragmentCounted Undivided a
-no-fault Short e a = clash false e refl
+no-fault : (f : FragmentOutcome) → completes f ≡ true → (a : Counters) → fragmentCounted f a ≡ fragmentCounted Undivided a
+no-fault Short e a = true-not-false false e refl
 no-fault Undivided e a = refl
-no-fault First e a = clash false e refl
-no-fault Orphan e a = clash false e refl
-no-fault Oversize e a = clash false e refl
-no-fault Grown e a = clash false e refl
+no-fault First e a = true-not-false false e refl
+no-fault Orphan e a = true-not-false false e refl
+no-fault Oversize e a = true-not-false false e refl
+no-fault Grown e a = true-not-false false e refl
 no-fault Whole e a = refl
 
-none-after : (f : Fate) → completes f ≡ true → (c : Control) (b : Bytes) → joinedBy f c b ≡ noneJoined
+none-after : (f : FragmentOutcome) → completes f ≡ true → (c : Control) (b : Bytes) → joinedBy f c b ≡ noneJoined
 unfolding joinedBy
-none-after Short e c b = clash false e refl
+none-after Short e c b = true-not-false false e refl
 none-after Undivided e c b = refl
-none-after First e c b = clash false e refl
-none-after Orphan e c b = clash false e refl
-none-after Oversize e c b = clash false e refl
-none-after Grown e c b = clash false e refl
+none-after First e c b = true-not-false false e refl
+none-after Orphan e c b = true-not-false false e refl
+none-after Oversize e c b = true-not-false false e refl
+none-after Grown e c b = true-not-false false e refl
 none-after Whole e c b = refl
 
-none-laid : (f : Fate) → completes f ≡ true → (at : ℕ) (c : Control) (b l : Bytes) → laidBy f at c b l ≡ l
+none-laid : (f : FragmentOutcome) → completes f ≡ true → (at : ℕ) (c : Control) (b l : Bytes) → laidBy f at c b l ≡ l
 unfolding laidBy
 none-laid Short e at c b l = refl
 none-laid Undivided e at c b l = refl
-none-laid First e at c b l = clash false e refl
+none-laid First e at c b l = true-not-false false e refl
 none-laid Orphan e at c b l = refl
 none-laid Oversize e at c b l = refl
-none-laid Grown e at c b l = clash false e refl
+none-laid Grown e at c b l = true-not-false false e refl
 none-laid Whole e at c b l = refl
 
 -- a message that is whole with its last fragment is not too long
-abbrev NotLong : Control → Bytes → Fate → Type 0
+abbrev NotLong : Control → Bytes → FragmentOutcome → Type 0
 NotLong c b Short = Unit {0}
 NotLong c b Undivided = Unit {0}
 NotLong c b First = Unit {0}
@@ -111,12 +111,12 @@ NotLong c b Whole = grownLength c b ≤ mostMessage
 goes : (c : Control) (n : ℕ) (b : Bytes) (ends : Bool) → NotLong c b (continued ends c n b)
 unfolding continued
 goes c n b ends =
-    cond-elim (NotLong c b) (not (continuedBy c n)) (λ e. tt) (λ e.
+    cond-elim (NotLong c b) (not (inSequence c n)) (λ e. tt) (λ e.
     cond-elim (NotLong c b) (mostMessage <? grownLength c b) (λ d. tt) (λ d.
     cond-elim (NotLong c b) ends (λ z. ltb-false mostMessage (grownLength c b) d) (λ z. tt)))
 
-not-long : (c : Control) (n : ℕ) (b : Bytes) → NotLong c b (fateOf c n b)
-unfolding fateOf
+not-long : (c : Control) (n : ℕ) (b : Bytes) → NotLong c b (fragmentOutcome c n b)
+unfolding fragmentOutcome
 not-long c n b = cond-elim (NotLong c b) (length b <? 2) (λ e. tt) (λ e. by (flagsIn b .division))
   where
     by : (d : Division) → NotLong c b (byDivision d c n b)
@@ -125,7 +125,7 @@ not-long c n b = cond-elim (NotLong c b) (length b <? 2) (λ e. tt) (λ e. by (f
     by middle = goes c n b false
     by lastPart = goes c n b true
 
-bytes-short : (f : Fate) (c : Control) (m b : Bytes) → length m ≤ c .length → length b ≤ 65535 → NotLong c b f → length (beforeBy (isLast f) m ++ drop 2 b) ≤ mostMessageArea
+bytes-short : (f : FragmentOutcome) (c : Control) (m b : Bytes) → length m ≤ c .length → length b ≤ 65535 → NotLong c b f → length (beforeBy (isLast f) m ++ drop 2 b) ≤ mostMessageArea
 bytes-short Short c m b h k n = omega (arith, length-drop 2 b)
 bytes-short Undivided c m b h k n = omega (arith, length-drop 2 b)
 bytes-short First c m b h k n = omega (arith, length-drop 2 b)
@@ -135,7 +135,7 @@ bytes-short Grown c m b h k n = omega (arith, length-drop 2 b)
 bytes-short Whole c m b h k n = omega (arith, length-append m (drop 2 b), length-drop 2 b)
 
 -- the walk's answer, by what is kept and needed
-whole-cases : (l : Limits) (area : ℕ) (r : Going) (kept need : ℕ) → (r .full ≡ true → l .sections < kept) → (r .full ≡ false → r .used ≡ kept)
+whole-cases : (l : Limits) (area : ℕ) (r : WalkState) (kept need : ℕ) → (r .full ≡ true → l .sections < kept) → (r .full ≡ false → r .used ≡ kept)
     → (r .full ≡ false → r .longest ≡ need)
     → _≡_ {A = ℕ} (wholeAsk l area r)
     (if l .sections <? kept then 8
@@ -153,13 +153,13 @@ whole-cases l area r kept need hf hu hn =
     (either (ltb (l .«message_area») area) (λ p. either (ltb (l .«table_area») (r .longest)) (λ t. rw (t, p)) (λ t. rw (t, p)))
     (λ p. either (ltb (l .«table_area») (r .longest)) (λ t. rw (t, p)) (λ t. rw (t, p)))))))
 
-record Nothing-asked (l : Limits) (area : ℕ) (r : Going) : Type 0 where
+record Nothing-asked (l : Limits) (area : ℕ) (r : WalkState) : Type 0 where
   full : r .full ≡ false
   few : r .used ≤ l .sections
   fits : r .longest ≤ l .«table_area»
   room : area ≤ l .«message_area»
 
-none-asked : (l : Limits) (area : ℕ) (r : Going) → wholeAsk l area r ≡ 0 → Nothing-asked l area r
+none-asked : (l : Limits) (area : ℕ) (r : WalkState) → wholeAsk l area r ≡ 0 → Nothing-asked l area r
 unfolding wholeAsk tablesAsk
 none-asked l area r e =
     either (r .full) (λ y. absurd (eight (rw y at e)))
@@ -186,15 +186,15 @@ none-asked l area r e =
 
 -- ---- a packet
 
-module _ (s : Session) (x : MessagePacket) (y : Meeting) (i k : ℕ) (ix log mine seam : List ℕ) (can : CanPushAt s x y i k ix log mine seam) where
+module _ (s : Session) (x : MessagePacket) (y : ReceivedFragment) (i k : ℕ) (ix log mine assembled : List ℕ) (can : CanPushAt s x y i k ix log mine assembled) where
   abbrev ok : Sound (s .state) (s .others) (lengthsOf s)
   ok = can .packet .session
 
   abbrev c : Control
   c = y .place
 
-  abbrev f : Fate
-  f = y .fate
+  abbrev f : FragmentOutcome
+  f = y .outcome
 
   abbrev b : Bytes
   b = x .payload
@@ -209,18 +209,18 @@ module _ (s : Session) (x : MessagePacket) (y : Meeting) (i k : ℕ) (ix log min
   whole = can .packet .whole
 
   place-for-met : y .«place_for» ≡ controlPlaceFor (s .state) (x .id)
-  unfolding meetingOf
-  place-for-met = ap (λ (z : Meeting). z .«place_for») (can .packet .meets)
+  unfolding receivedFragment
+  place-for-met = ap (λ (z : ReceivedFragment). z .«place_for») (can .packet .received)
 
   place-met : c ≡ placeIn (s .state) (y .«place_for»)
-  unfolding meetingOf
-  place-met = ap (λ (z : Meeting). z .place) (can .packet .meets) ∙ ap (placeIn (s .state)) (sym place-for-met)
+  unfolding receivedFragment
+  place-met = ap (λ (z : ReceivedFragment). z .place) (can .packet .received) ∙ ap (placeIn (s .state)) (sym place-for-met)
 
-  fate-met : f ≡ fateOf c (x .number) b
-  unfolding meetingOf
-  fate-met =
-      ap (λ (z : Meeting). z .fate) (can .packet .meets)
-      ∙ ap (λ (z : Control). fateOf z (x .number) b) (sym (ap (λ (z : Meeting). z .place) (can .packet .meets)))
+  outcome-met : f ≡ fragmentOutcome c (x .number) b
+  unfolding receivedFragment
+  outcome-met =
+      ap (λ (z : ReceivedFragment). z .outcome) (can .packet .received)
+      ∙ ap (λ (z : Control). fragmentOutcome z (x .number) b) (sym (ap (λ (z : ReceivedFragment). z .place) (can .packet .received)))
 
   sits-by : (k : ℕ) → y .«place_for» ≡ placeForAt i k → k ≤ 1 → Sits s (x .id) i k c
   unfolding placeIn
@@ -241,7 +241,7 @@ module _ (s : Session) (x : MessagePacket) (y : Meeting) (i k : ℕ) (ix log min
       let q = control-was l (controlAt (s .state) i) (place-was (controlSound l) controlPlaceOf u controlSize controlPlaces (s .state) i (ok .messages) (omega arith)) in
       let ec : c ≡ controlAt (s .state) i = place-met ∙ ap (placeIn (s .state)) e in
       rw ec (q .1 (rw ec at t))
-  small-by (suc k) e t = clash false (rw (place-met ∙ ap (placeIn (s .state)) e) at t) refl
+  small-by (suc k) e t = true-not-false false (rw (place-met ∙ ap (placeIn (s .state)) e) at t) refl
 
   small : c .mpt ≡ true → c .«mpt_length» ≤ l .«table_area»
   small t = small-by k (can .place-for) t
@@ -291,7 +291,7 @@ module _ (s : Session) (x : MessagePacket) (y : Meeting) (i k : ℕ) (ix log min
   whole-before z e = rw e message-room
 
   pub whole-walk : (a : Counters) → a ≡ a₀ → (cs : Counters) → cs ≡ fragmentCounted f a → (last : Bool) → last ≡ isLast f
-      → CanWalkWhole (s .state) (s .others) (s .messages) (s .tables) ix log mine seam i c last cs b
+      → CanWalkWhole (s .state) (s .others) (s .messages) (s .tables) ix log mine assembled i c last cs b
   whole-walk a ea cs ec last el =
       let e : cs ≡ fragmentCounted f a₀ = ec ∙ ap (fragmentCounted f) ea in
       rw (el, e)
@@ -304,9 +304,9 @@ module _ (s : Session) (x : MessagePacket) (y : Meeting) (i k : ℕ) (ix log min
         room = message-room;
         area = omega (arith, met .ranges .message);
         walk =
-            message-can s ok i (at .free) (c .mpt) (c .«mpt_length») small j c₀ counts-fit (can .packet .othersLong) seam (can .seamLong)
+            message-can s ok i (at .free) (c .mpt) (c .«mpt_length») small j c₀ counts-fit (can .packet .othersLong) assembled (can .assembledLong)
             (bytes-short f c m b (omega (arith, length-take (c .length) (drop (i * l .«message_area») (s .messages)))) (can .packet .short)
-            (subst (NotLong c b) (sym fate-met) (not-long c (x .number) b)));
+            (subst (NotLong c b) (sym outcome-met) (not-long c (x .number) b)));
       })
 
   -- ---- the model's next state
@@ -317,19 +317,19 @@ module _ (s : Session) (x : MessagePacket) (y : Meeting) (i k : ℕ) (ix log min
   abbrev n : State
   n = pushed v (message x)
 
-  abbrev line : Reassembly
-  line = reassemblyOf (x .id) v
+  abbrev reassembly : Reassembly
+  reassembly = reassemblyOf (x .id) v
 
-  done : Does line x c m f
-  done = does s ok x i k c at f fate-met
+  done : Does reassembly x c m f
+  done = does s ok x i k c at f outcome-met
 
-  gives-is : messageCompleted line x ≡ some j
+  gives-is : messageCompleted reassembly x ≡ some j
   gives-is = done .whole ∙ whole-is f whole c m b
 
   abbrev ts : List Table
   ts = map tableRead (cutOf j .tables)
 
-  given-is : tablesGiven line x ≡ ts
+  given-is : tablesGiven reassembly x ≡ ts
   unfolding tablesGiven cutOfAll
   given-is = ap (λ (o : Option PartialMessage). map tableRead (cutOfAll o .tables)) gives-is
 
@@ -342,19 +342,19 @@ module _ (s : Session) (x : MessagePacket) (y : Meeting) (i k : ℕ) (ix log min
 
   mpt-is : controlOf (x .id) n .mpt ≡ mptAfterAll mptB ts
   mpt-is =
-      ap (λ (z : ControlState). z .mpt) (own s ok x i k c at f fate-met)
+      ap (λ (z : ControlState). z .mpt) (own s ok x i k c at f outcome-met)
       ∙ ap (mptAfterAll (controlOf (x .id) v .mpt)) given-is
-      ∙ ap (λ (o : Option Bytes). mptAfterAll o ts) (mpt-before s ok x i k c at f fate-met)
+      ∙ ap (λ (o : Option Bytes). mptAfterAll o ts) (mpt-before s ok x i k c at f outcome-met)
 
   abbrev c₁ : Counters
   c₁ = malformedMore c₀ (cutOf j .malformed)
 
-  line-counts : reassemblyCounted (packetCounted (v .counters) 0 0 0) line x ≡ c₁
+  reassembly-counts : reassemblyCounted (packetCounted (v .counters) 0 0 0) reassembly x ≡ c₁
   unfolding reassemblyCounted messageCounted packetCounted view viewBy cutOfAll
-  line-counts =
+  reassembly-counts =
       let «orphan_fragments» = ap (λ z. a₀ .«orphan_fragments» + one z) (done .«orphan_fragments») in
       let oversize = ap (λ z. a₀ .oversize + one z) (done .oversize) in
-      let bad : a₀ .«message_malformed» + (one (short x) + cutOfAll (messageCompleted line x) .malformed) ≡ a₀ .«message_malformed» + one (faultsOf f .malformed) + cutOf j .malformed =
+      let bad : a₀ .«message_malformed» + (one (short x) + cutOfAll (messageCompleted reassembly x) .malformed) ≡ a₀ .«message_malformed» + one (faultsOf f .malformed) + cutOf j .malformed =
       ap (λ (o : Option PartialMessage). a₀ .«message_malformed» + (one (short x) + cutOfAll o .malformed)) gives-is
       ∙ ap (λ z. a₀ .«message_malformed» + (one z + cutOf j .malformed)) (done .shorts)
       ∙ assoc (a₀ .«message_malformed») (one (faultsOf f .malformed)) (cutOf j .malformed) in
@@ -380,13 +380,13 @@ module _ (s : Session) (x : MessagePacket) (y : Meeting) (i k : ℕ) (ix log min
   counters-is : n .counters ≡ countedAll mptB (v .store) c₁ ts
   unfolding pushed
   counters-is =
-      ap (λ (z : Counters). countedAll (controlOf (x .id) v .mpt) (v .store) z (tablesGiven line x)) line-counts
-      ∙ ap (λ (o : Option Bytes). countedAll o (v .store) c₁ (tablesGiven line x)) (mpt-before s ok x i k c at f fate-met)
+      ap (λ (z : Counters). countedAll (controlOf (x .id) v .mpt) (v .store) z (tablesGiven reassembly x)) reassembly-counts
+      ∙ ap (λ (o : Option Bytes). countedAll o (v .store) c₁ (tablesGiven reassembly x)) (mpt-before s ok x i k c at f outcome-met)
       ∙ ap (λ (zs : List Table). countedAll mptB (v .store) c₁ zs) given-is
 
   -- ---- after the walk
 
-  module _ (r : Going) (ix₂ log₂ mine₂ : List ℕ) (w : WalkedWhole (s .state) (s .others) (s .tables) i c (fragmentCounted f a₀) j r ix₂ log₂ mine₂) where
+  module _ (r : WalkState) (ix₂ log₂ mine₂ : List ℕ) (w : WalkedWhole (s .state) (s .others) (s .tables) i c (fragmentCounted f a₀) j r ix₂ log₂ mine₂) where
     abbrev kept-now : ℕ
     kept-now = length (n .store .kept)
 
@@ -400,7 +400,7 @@ module _ (s : Session) (x : MessagePacket) (y : Meeting) (i k : ℕ) (ix log min
 
     asked-sections : usedOf (s .state) .sections + needs v (message x) .sections ≡ kept-now
     unfolding needs
-    asked-sections = omega (arith, grows, length-kept s ok x i k c at f fate-met)
+    asked-sections = omega (arith, grows, length-kept s ok x i k c at f outcome-met)
 
     full-is : r .full ≡ true → mostSections < kept-now
     full-is y =
@@ -409,7 +409,7 @@ module _ (s : Session) (x : MessagePacket) (y : Meeting) (i k : ℕ) (ix log min
     used-is : r .full ≡ false → r .used ≡ kept-now
     used-is y = message-used s ok i (at .free) (c .mpt) (c .«mpt_length») small j c₀ (length (j .bytes) + 1) r ix₂ log₂ mine₂ w y ∙ kept-is
 
-    longest-is : r .full ≡ false → r .longest ≡ tablesNeed (v .store) (tablesGiven line x)
+    longest-is : r .full ≡ false → r .longest ≡ tablesNeed (v .store) (tablesGiven reassembly x)
     longest-is y =
         message-longest s ok i (at .free) (c .mpt) (c .«mpt_length») small j c₀ (length (j .bytes) + 1) r ix₂ log₂ mine₂ w y
         ∙ ap (tablesNeed (v .store)) (sym given-is)
@@ -425,11 +425,11 @@ module _ (s : Session) (x : MessagePacket) (y : Meeting) (i k : ℕ) (ix log min
     asks-is =
         go
         ∙ sym
-        (asks-message s ok x i k c at f fate-met
-        ∙ ap (λ z. asked-by z (tablesNeed (v .store) (tablesGiven line x))) asked-sections)
+        (asks-message s ok x i k c at f outcome-met
+        ∙ ap (λ z. asked-by z (tablesNeed (v .store) (tablesGiven reassembly x))) asked-sections)
       where
-        go : wholeAsk l (areaBy f c b) r ≡ asked-by kept-now (tablesNeed (v .store) (tablesGiven line x))
-        go = whole-cases l (areaBy f c b) r kept-now (tablesNeed (v .store) (tablesGiven line x)) (λ y. omega (arith, full-is y, met .ranges .sections)) used-is longest-is
+        go : wholeAsk l (areaBy f c b) r ≡ asked-by kept-now (tablesNeed (v .store) (tablesGiven reassembly x))
+        go = whole-cases l (areaBy f c b) r kept-now (tablesNeed (v .store) (tablesGiven reassembly x)) (λ y. omega (arith, full-is y, met .ranges .sections)) used-is longest-is
 
     module _ (z : Limits) (ez : z ≡ l) (area : ℕ) (ea : area ≡ areaBy f c b) (q : ℕ) (eq : q ≡ wholeAsk z area r) where
       number-is : q ≡ asksOf s 0 0 (message x)
@@ -533,7 +533,7 @@ module _ (s : Session) (x : MessagePacket) (y : Meeting) (i k : ℕ) (ix log min
                 lent
                 (withCounts (counters-left t) (latest-left t)
                 (over sectionPlaces (rows-left t)
-                (withLine i (place-left t)
+                (withReassembly i (place-left t)
                 (record {
                   «media_ids» = usedOf (s .state) .«media_ids»;
                   «control_ids» = usedOf (s .state) .«control_ids» + k;
@@ -545,14 +545,14 @@ module _ (s : Session) (x : MessagePacket) (y : Meeting) (i k : ℕ) (ix log min
                 (laidBy f (i * l .«message_area») c b (s .messages))
                 (bytesOver ((l .sections + i) * l .«table_area») (controlOf (x .id) n .mpt)
                 (latestOver l (n .store) (keptOver (l .«table_area») 0 (n .store .kept) (s .tables)))))
-                ∙ sym (leaves-parts s ok x i k c at f fate-met (free .room) (y .«place_for») (sym place-for-met) (place-for-by k (can .place-for)))
+                ∙ sym (leaves-parts s ok x i k c at f outcome-met (free .room) (y .«place_for») (sym place-for-met) (place-for-by k (can .place-for)))
 
             pub whole-taken : QuietPushed s (message x) 0 (lent state′ others′ (s .objects) (s .messages) tables′)
             whole-taken = record { number = sym e0 ∙ number-is; same = λ h. absurd (h refl); session = λ h. session-left }
 
   -- ---- in the order of the code
 
-  module _ (a : Counters) (ea : a ≡ a₀) (cs : Counters) (ec : cs ≡ fragmentCounted f a) (last : Bool) (el : last ≡ isLast f) (r : Going) (ix₂ log₂ mine₂ : List ℕ)
+  module _ (a : Counters) (ea : a ≡ a₀) (cs : Counters) (ec : cs ≡ fragmentCounted f a) (last : Bool) (el : last ≡ isLast f) (r : WalkState) (ix₂ log₂ mine₂ : List ℕ)
       (w : WalkedWhole (s .state) (s .others) (s .tables) i c cs (joinBy last c m b) r ix₂ log₂ mine₂) where
     cs-is : cs ≡ fragmentCounted f a₀
     cs-is = ec ∙ ap (fragmentCounted f) ea
@@ -589,7 +589,7 @@ module _ (s : Session) (x : MessagePacket) (y : Meeting) (i k : ℕ) (ix log min
 
 -- ---- the packet's place
 
-module _ (s : Session) (x : MessagePacket) (y : Meeting) (h : CanPushWhole s x y) where
+module _ (s : Session) (x : MessagePacket) (y : ReceivedFragment) (h : CanPushWhole s x y) where
   pub whole-full : y .«place_for» ≡ NoneFree → QuietPushed s (message x) 8 s
-  unfolding meetingOf
-  whole-full e = no-place s (h .session) x (sym (ap (λ (z : Meeting). z .«place_for») (h .meets)) ∙ e)
+  unfolding receivedFragment
+  whole-full e = no-place s (h .session) x (sym (ap (λ (z : ReceivedFragment). z .«place_for») (h .received)) ∙ e)

@@ -66,13 +66,13 @@ use Rattle.isdb_mmt.proofs.StdB60.{loops as loops-read}
 
 -- ---- a table that parses has a whole value
 
-mpt-told : (s : List ℕ) (d : MaybeMpt) → isSome (mptTold s d) ≡ mptParses d
-mpt-told s noMpt = refl
-mpt-told s (someMpt t) = refl
+mpt-outcome : (s : List ℕ) (d : MaybeMpt) → isSome (mptTold s d) ≡ mptParses d
+mpt-outcome s noMpt = refl
+mpt-outcome s (someMpt t) = refl
 
-plt-told : (s : List ℕ) (d : MaybePlt) → isSome (pltTold s d) ≡ pltParses d
-plt-told s noPlt = refl
-plt-told s (somePlt t) = refl
+plt-outcome : (s : List ℕ) (d : MaybePlt) → isSome (pltTold s d) ≡ pltParses d
+plt-outcome s noPlt = refl
+plt-outcome s (somePlt t) = refl
 
 amt-told : (s : List ℕ) (d : AmtResult) → isSome (amtTold s d) ≡ amtBodyOk d
 amt-told s (amtErr e) = refl
@@ -94,13 +94,13 @@ nit-told : (s : List ℕ) (d : NitResult) → isSome (nitTold s d) ≡ nitBodyOk
 nit-told s (nitErr e) = refl
 nit-told s (nitOk h t) = refl
 
-tot-told : (s : List ℕ) (d : TotResult) → isSome (totTold s d) ≡ totParses d
-tot-told s (totErr e) = refl
-tot-told s (totOk t) = refl
+tot-outcome : (s : List ℕ) (d : TotResult) → isSome (totTold s d) ≡ totParses d
+tot-outcome s (totErr e) = refl
+tot-outcome s (totOk t) = refl
 
-section-told : (id : ℕ) (b : List ℕ) → sectionWhole id b ≡ bodyRead id b .ok
+section-outcome : (id : ℕ) (b : List ℕ) → sectionWhole id b ≡ bodyRead id b .ok
 unfolding bodyRead
-section-told id b =
+section-outcome id b =
     either (eqb id 0x9D) (λ e. rw e (bit-told b (bitOf b .result))) (λ e.
     either (eqb id 0x9F) (λ e1. rw (e, e1) (sdt-told b (sdtOf b .result))) (λ e1.
     either (eqb id 0xA0) (λ e2. rw (e, e1, e2) (sdt-told b (sdtOf b .result))) (λ e2.
@@ -112,15 +112,15 @@ section-told id b =
 pub values : ValuesTheorem
 values =
     record {
-      mpt = λ b. mpt-told (declaredTable b) (mptOf b .mpt);
-      plt = λ b. plt-told (declaredTable b) (pltOf b);
+      mpt = λ b. mpt-outcome (declaredTable b) (mptOf b .mpt);
+      plt = λ b. plt-outcome (declaredTable b) (pltOf b);
       amt = λ b. amt-told b (amtOf b);
       eit = λ b. eit-told b (eitOf b .result);
       sdt = λ b. sdt-told b (sdtOf b .result);
       bit = λ b. bit-told b (bitOf b .result);
       nit = λ b. nit-told b (nitOf b);
-      tot = λ b. tot-told (declaredSection b) (totOf b .result);
-      section = section-told;
+      tot = λ b. tot-outcome (declaredSection b) (totOf b .result);
+      section = section-outcome;
     }
 
 -- ---- declared bytes

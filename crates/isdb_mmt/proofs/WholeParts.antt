@@ -9,7 +9,7 @@ use borrow.Author.Tests.{ltb-false, leb-false}
 use Rattle.isdb_tlv.specs.Bytes.{be}
 use Rattle.isdb_tlv.specs.Crc.{crcOf}
 use Rattle.isdb_tlv.proofs.Guards.{cond-elim}
-use Rattle.isdb_mmt.specs.Part.{part, partOf}
+use Rattle.isdb_mmt.specs.Part.{partAt, partOf}
 use Rattle.isdb_mmt.specs.Location.{sized, urlOf, locationOf, ipv4At, ipv6At}
 use Rattle.isdb_mmt.specs.Timestamp.{mpuAt, extendedOf}
 use Rattle.isdb_mmt.specs.Desc.{stepAt, locationIn, accessControl, scrambler, streamIdentifier, serviceText, shortEvent, hevc, extendedIn, extendedTimestamp, descriptorOf}
@@ -38,8 +38,8 @@ use Rattle.isdb_mmt.specs.declared.table.section.LongSection.{LongSectio
 use Rattle.isdb_mmt.specs.declared.table.section.LongSection.the-variants.{Ok as good, Err as bad}
 use Rattle.isdb_mmt.specs.declared.table.section.EntryStep.{EntryStep}
 use Rattle.isdb_mmt.specs.declared.table.section.EntryStep.the-variants.{End as noEntry, Malformed as badEntry, Entry as entry}
-use Rattle.isdb_mmt.specs.declared.table.mpt.Place.{Place}
-use Rattle.isdb_mmt.specs.declared.table.mpt.Place.the-variants.{None as nowhere, At}
+use Rattle.isdb_mmt.specs.declared.maybe.MaybeUsize.{MaybeUsize}
+use Rattle.isdb_mmt.specs.declared.maybe.MaybeUsize.the-variants.{None as nowhere, Some as At}
 use Rattle.isdb_mmt.specs.declared.table.mpt.MptParsed.{MptParsed}
 use Rattle.isdb_mmt.specs.declared.table.bit.BitParsed.{BitParsed}
 use Rattle.isdb_mmt.specs.declared.table.tot.TotParsed.{TotParsed}
@@ -59,7 +59,7 @@ module _ (s : List ℕ) where
   unfolding urlOf
   url-lies =
       let n = getD s 1 0 in
-      cond-elim (LocatedLies s) (ltb (length s) 2) (λ e. tt) (λ e. sized-lies (n + 2) (Url (part 2 n)) (λ h. omega arith))
+      cond-elim (LocatedLies s) (ltb (length s) 2) (λ e. tt) (λ e. sized-lies (n + 2) (Url (partAt 2 n)) (λ h. omega arith))
 
   location-lies : LocatedLies s (locationOf s)
   unfolding locationOf
@@ -170,7 +170,7 @@ module _ (s : List ℕ) where
       let b = ltb-false (length s - (end + 2)) (be 2 s end) e1 in
       (h, omega arith)))
 
-  behind-lies : (p : ℕ) → p + 6 + getD s (p + 5) 0 ≤ length s → (d : Place) → AssetLies s (assetBehind s p (p + 6 + getD s (p + 5) 0) d)
+  behind-lies : (p : ℕ) → p + 6 + getD s (p + 5) 0 ≤ length s → (d : MaybeUsize) → AssetLies s (assetBehind s p (p + 6 + getD s (p + 5) 0) d)
   behind-lies p h nowhere = tt
   behind-lies p h (At end) = fields-lie p end h
 

@@ -2,7 +2,7 @@
 use Prim.Native.Nat.{ℕ, _+_, _-_, _*_, _≤_, _<_}
 use mathlib.Core.Path.{_≡_, ap, _∙_}
 use mathlib.Core.Bool.{Bool}
-use mathlib.Core.List.{List, [], _++_}
+use mathlib.Core.List.{List, _++_}
 use native.Mathlib.Omega.{arith}
 use native.Mathlib.Nat.{mul-le-mul-right}
 use lib.ListN.{length, take, drop, replicate, length-take}
@@ -10,32 +10,31 @@ use mir.Syntax.{w32, w64}
 use mir.Val.{Fits}
 use borrow.Author.Tests.{eq-eqb, ne-eqb, lt-ltb, le-ltb}
 use Rattle.isdb_tlv.specs.Fields.{written}
-use Rattle.isdb_tlv.specs.Guards.{if_then_else_}
 use Rattle.isdb_tlv.proofs.Fields.{length-written}
 use Rattle.isdb_mmt.specs.Layout.{mostSections, mostCount, usedPlace, controlPlaces, controlSize, sectionPlaces, sectionSize, stateSize}
-use Rattle.isdb_mmt.specs.Packet.{Bytes, message}
+use Rattle.isdb_mmt.specs.Packet.{Bytes}
 use Rattle.isdb_mmt.specs.Lent.{part, over}
 use Rattle.isdb_mmt.specs.Session.{limitsOf, usedOf, usedFields, controlFields}
-use Rattle.isdb_mmt.specs.Lines.{withLine, withCounts}
-use Rattle.isdb_mmt.specs.Verdict.{indexSize}
-use Rattle.isdb_mmt.specs.Dry.{Walked, CanWalk}
-use Rattle.isdb_mmt.specs.Start.{recentAt, goingIn, tablesAsk, countersWith, latestWith}
-use Rattle.isdb_mmt.specs.Joins.{cutOf}
+use Rattle.isdb_mmt.specs.FragmentPush.{withReassembly, withCounts}
+use Rattle.isdb_mmt.specs.TableOutcome.{indexSize}
+use Rattle.isdb_mmt.specs.PendingTables.{Walked, CanWalk}
+use Rattle.isdb_mmt.specs.Start.{recentAt, walkStart, tablesAsk, countersWith, latestWith}
+use Rattle.isdb_mmt.specs.Reassembly.{cutOf}
 use Rattle.isdb_mmt.specs.Kept.{tableRead}
 use Rattle.isdb_mmt.specs.Placed.{joinOf, placedCut}
-use Rattle.isdb_mmt.specs.declared.decoder.verdict.Recent.{Recent}
-use Rattle.isdb_mmt.specs.WholeMessage.{beforeBy, longBy, aggregatedBy, joinBy, heldIn, goingFrom, WalkedWhole, CanWalkWhole, wholeAsk, usedWhole, stateLeft, CanLeaveState}
+use Rattle.isdb_mmt.specs.declared.decoder.table_outcome.Recent.{Recent}
+use Rattle.isdb_mmt.specs.WholeMessage.{beforeBy, longBy, aggregatedBy, joinBy, heldIn, walkFrom, WalkedWhole, CanWalkWhole, wholeAsk, usedWhole, stateLeft, CanLeaveState}
 use Rattle.isdb_mmt.specs.declared.decoder.limits.Limits.{Limits}
 use Rattle.isdb_mmt.specs.declared.decoder.counts.Counters.{Counters}
 use Rattle.isdb_mmt.specs.declared.decoder.head.Used.{Used}
 use Rattle.isdb_mmt.specs.declared.decoder.head.Latest.{Latest}
 use Rattle.isdb_mmt.specs.declared.decoder.control.Control.{Control}
-use Rattle.isdb_mmt.specs.declared.decoder.walk.Going.{Going}
+use Rattle.isdb_mmt.specs.declared.decoder.walk.WalkState.{WalkState}
 use Rattle.isdb_mmt.proofs.Lent.{length-over}
 
 -- ---- the questions
 
-module _ (l : Limits) (area : ℕ) (g : Going) (n : ℕ) (en : n ≡ tablesAsk l g) where
+module _ (l : Limits) (area : ℕ) (g : WalkState) (n : ℕ) (en : n ≡ tablesAsk l g) where
   pub whole-eight : n ≡ 8 → 8 ≡ wholeAsk l area g
   unfolding wholeAsk
   whole-eight e = rw (← en, eq-eqb n 8 e)
@@ -50,13 +49,13 @@ module _ (l : Limits) (area : ℕ) (g : Going) (n : ℕ) (en : n ≡ tablesAsk l
 
 -- ---- the state
 
-module _ (state ix : List ℕ) (i k : ℕ) (g : Going) (can : CanLeaveState state ix i k g) (u : Used) (eu : u ≡ usedOf state) where
+module _ (state ix : List ℕ) (i k : ℕ) (g : WalkState) (can : CanLeaveState state ix i k g) (u : Used) (eu : u ≡ usedOf state) where
   pub used-adds : Fits w32 (u .«control_ids» + k)
   used-adds = rw eu (omega (arith, can .few, can .new))
 
-  module _ (d : Control) (s1 : List ℕ) (e1 : s1 ≡ withLine i d (usedWhole u k (g .used)) state) (rows : List ℕ) (er : rows ≡ take (sectionSize * g .used) ix) where
-    line-length : length s1 ≡ length state
-    line-length =
+  module _ (d : Control) (s1 : List ℕ) (e1 : s1 ≡ withReassembly i d (usedWhole u k (g .used)) state) (rows : List ℕ) (er : rows ≡ take (sectionSize * g .used) ix) where
+    reassembly-length : length s1 ≡ length state
+    reassembly-length =
         let a : length (written (controlFields d)) ≡ 21 = length-written (controlFields d) in
         let b : length (written (usedFields (usedWhole u k (g .used)))) ≡ 12 = length-written (usedFields (usedWhole u k (g .used))) in
         let x : List ℕ = over (controlPlaces + controlSize * i) (written (controlFields d)) state in
@@ -67,11 +66,11 @@ module _ (state ix : List ℕ) (i k : ℕ) (g : Going) (can : CanLeaveState stat
     rows-short = rw er (omega (arith, length-take (sectionSize * g .used) ix, can .long, can .sections))
 
     pub rows-fit : sectionPlaces + length rows ≤ length s1
-    rows-fit = omega (arith, rows-short, line-length)
+    rows-fit = omega (arith, rows-short, reassembly-length)
 
     module _ (s2 : List ℕ) (e2 : s2 ≡ over sectionPlaces rows s1) where
       pub rows-long : stateSize ≤ length s2
-      rows-long = rw e2 (omega (arith, length-over sectionPlaces rows s1 rows-fit, line-length, can .long))
+      rows-long = rw e2 (omega (arith, length-over sectionPlaces rows s1 rows-fit, reassembly-length, can .long))
 
       pub state-done : (cs c : Counters) → c ≡ countersWith cs g → (x : Latest) → x ≡ latestWith g → (s3 : List ℕ) → s3 ≡ withCounts c x s2
           → s3 ≡ stateLeft i k d cs g ix state
@@ -79,8 +78,8 @@ module _ (state ix : List ℕ) (i k : ℕ) (g : Going) (can : CanLeaveState stat
 
 -- ---- the walk
 
-module _ (state others joined tables ix log mine seam : List ℕ) (i : ℕ) (c : Control) (last : Bool) (cs : Counters) (b : Bytes)
-    (can : CanWalkWhole state others joined tables ix log mine seam i c last cs b) (l : Limits) (el : l ≡ limitsOf state) where
+module _ (state others joined tables ix log mine assembled : List ℕ) (i : ℕ) (c : Control) (last : Bool) (cs : Counters) (b : Bytes)
+    (can : CanWalkWhole state others joined tables ix log mine assembled i c last cs b) (l : Limits) (el : l ≡ limitsOf state) where
   pub walk-adds : Fits w64 (l .sections + i)
   walk-adds = rw el (omega (arith, can .go .few, can .place))
 
@@ -95,15 +94,15 @@ module _ (state others joined tables ix log mine seam : List ℕ) (i : ℕ) (c :
   walk-before = rw el (can .room)
 
   module _ (ix₁ log₁ mine₁ : List ℕ) (ei : ix₁ ≡ part sectionPlaces indexSize state) (eg₁ : log₁ ≡ replicate (length log) 0) (em : mine₁ ≡ others) (mpt : Recent)
-      (ep : mpt ≡ recentAt tables ((l .sections + i) * l .«table_area») (c .mpt) (c .«mpt_length»)) (g : Going) (eg : g ≡ goingIn state tables cs mpt) (a : Bytes)
+      (ep : mpt ≡ recentAt tables ((l .sections + i) * l .«table_area») (c .mpt) (c .«mpt_length»)) (g : WalkState) (eg : g ≡ walkStart state tables cs mpt) (a : Bytes)
       (ea : a ≡ beforeBy last (part (i * l .«message_area») (c .length) joined)) (d : Bytes) (ed : d ≡ drop 2 b) where
     log-is : log₁ ≡ replicate mostSections 0
     log-is = eg₁ ∙ ap (λ n. replicate {A = ℕ} n 0) (can .copies .logLong)
 
-    going-is : g ≡ goingFrom state tables cs i c
+    going-is : g ≡ walkFrom state tables cs i c
     going-is =
         eg
-        ∙ ap (λ (z : Recent). goingIn state tables cs z)
+        ∙ ap (λ (z : Recent). walkStart state tables cs z)
         (ep ∙ ap (λ (z : Limits). recentAt tables ((z .sections + i) * z .«table_area») (c .mpt) (c .«mpt_length»)) el)
 
     bytes-are : a ++ d ≡ joinBy last c (heldIn state joined i c) b .bytes
@@ -111,10 +110,10 @@ module _ (state others joined tables ix log mine seam : List ℕ) (i : ℕ) (c :
         ap (λ (z : Bytes). z ++ d) (ea ∙ ap (λ (z : Limits). beforeBy last (part (i * z .«message_area») (c .length) joined)) el)
         ∙ ap (λ (z : Bytes). beforeBy last (heldIn state joined i c) ++ z) ed
 
-    pub walk-can : CanWalk ix₁ log₁ mine₁ seam g (a ++ d) 0 mostCount
+    pub walk-can : CanWalk ix₁ log₁ mine₁ assembled g (a ++ d) 0 mostCount
     walk-can = rw (ei, log-is, em, going-is, bytes-are) (can .walk)
 
-    pub walk-done : (long : Bool) → long ≡ longBy last c b → (aggregated : Bool) → aggregated ≡ aggregatedBy last c b → (r : Going) (ix₂ log₂ mine₂ : List ℕ)
+    pub walk-done : (long : Bool) → long ≡ longBy last c b → (aggregated : Bool) → aggregated ≡ aggregatedBy last c b → (r : WalkState) (ix₂ log₂ mine₂ : List ℕ)
         → Walked tableRead ix₁ log₁ mine₁ g (placedCut (joinOf long aggregated (a ++ d))) (length (a ++ d) + 1) (cutOf (joinOf long aggregated (a ++ d)) .malformed) r ix₂ log₂ mine₂
         → WalkedWhole state others tables i c cs (joinBy last c (heldIn state joined i c) b) r ix₂ log₂ mine₂
     walk-done long e1 aggregated e2 r ix₂ log₂ mine₂ w = rw (ei, log-is, em, going-is, bytes-are, e1, e2) at w

@@ -3,7 +3,7 @@ use Prim.Native.Nat.{ℕ, _+_, _/_, _%_}
 use mathlib.Core.List.{List, map}
 use lib.ListN.{length, getD, take, drop}
 use Rattle.isdb_tlv.specs.Guards.{if_then_else_, _<?_, _=?_}
-use Rattle.isdb_mmt.specs.Part.{part, partOf}
+use Rattle.isdb_mmt.specs.Part.{partAt, partOf}
 use Rattle.isdb_mmt.specs.Desc.{broken}
 use Rattle.isdb_mmt.specs.Section.{length12, longSectionOf, entryAt, Loop, entriesFrom}
 use Rattle.isdb_mmt.specs.declared.table.section.SectionHeader.{SectionHeader}
@@ -30,7 +30,7 @@ abbrev pub bitFields : List ℕ → Loop → Bit
 bitFields s l =
     record {
       «broadcast_view_propriety» = getD s 0 0 / 16 % 2 =? 1;
-      descriptors = part 2 (length12 s 0);
+      descriptors = partAt 2 (length12 s 0);
       broadcasters = length (l .found);
     }
 

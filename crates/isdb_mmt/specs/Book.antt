@@ -11,7 +11,7 @@ use lib.ListN.{length}
 use Rattle.isdb_tlv.specs.Guards.{if_then_else_, _≤?_, _=?_}
 use Rattle.isdb_mmt.specs.Packet.{Bytes, PayloadUnit, Packet, ipError, ntp, nonMmtp, media, message, control, other, readable}
 use Rattle.isdb_mmt.specs.Objects.{Rec}
-use Rattle.isdb_mmt.specs.Joins.{Reassembly, idle, reassemblyAfter}
+use Rattle.isdb_mmt.specs.Reassembly.{Reassembly, idle, reassemblyAfter}
 use Rattle.isdb_mmt.specs.Kept.{Section, sectionOf, Table, aSection, emptyTable, mptTable, pltTable, totTable, truncatedSection, otherTable}
 use Rattle.isdb_mmt.specs.GivenTables.{tablesGiven}
 use Rattle.isdb_mmt.specs.declared.mpu.FragmentationIndicator.{FragmentationIndicator}

@@ -18,7 +18,7 @@ use Rattle.isdb_mmt.specs.Limits.{asked}
 use Rattle.isdb_mmt.specs.Lent.{part, over}
 use Rattle.isdb_mmt.specs.Session.{Session, limitsOf, mediaAt, sectionAt}
 use Rattle.isdb_mmt.specs.Check.{lengthsOf, sound}
-use Rattle.isdb_mmt.specs.View.{given, tableAt, view}
+use Rattle.isdb_mmt.specs.View.{given, keptTableAt, view}
 use Rattle.isdb_mmt.specs.Opening.{openedSession}
 use Rattle.isdb_mmt.specs.Octets.{Octets, Lent}
 use Rattle.isdb_mmt.specs.Records.{rowsFrom, dataFrom, readRows}
@@ -50,7 +50,7 @@ heldAt s nowhere = none
 heldAt s (At i) = objectAt s i (mediaAt (s .state) i)
 
 abbrev pub keptAs : Session → ℕ → KeptSection → Kept
-keptAs s i x = record { version = x .version; bytes = tableAt (limitsOf (s .state)) s i (x .length) }
+keptAs s i x = record { version = x .version; bytes = keptTableAt (limitsOf (s .state)) s i (x .length) }
 
 abbrev pub keptAt : Session → Found → Option Kept
 keptAt s nowhere = none

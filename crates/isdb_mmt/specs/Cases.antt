@@ -1,12 +1,12 @@
 -- Worked cases, proved as one table by computation: the lengths of descriptors, and feeds from their bytes through `classify` and
 -- `pushed`, with the readings that are easily got wrong. Those of messages and sections are in ControlCases.
-use Prim.Native.Nat.{ℕ, _+_, _-_}
+use Prim.Native.Nat.{ℕ, _+_}
 use mathlib.Core.Path.{refl}
 use mathlib.Core.Bool.{Bool, true, false}
 use mathlib.Core.List.{List, [], _∷_, _++_, map}
 use mathlib.Core.Option.{Option, none, some}
 use Rattle.isdb_mmt.specs.Worked.{Case, _⇒_, Holds}
-use lib.ListN.{length, replicate}
+use lib.ListN.{replicate}
 use Rattle.isdb_tlv.specs.Fields.{bytesOf}
 use Rattle.isdb_tlv.specs.Bytes.{be}
 use Rattle.isdb_tlv.specs.Crc.{feed, feedByte, crcOf}
@@ -19,7 +19,7 @@ use Rattle.isdb_tlv.specs.declared.ip.IpResult.{IpResult}
 use Rattle.isdb_tlv.specs.declared.ip.IpResult.the-variants.{Err}
 use Rattle.isdb_mmt.specs.declared.desc.Descriptor.{Descriptor}
 use Rattle.isdb_mmt.specs.declared.desc.Descriptor.the-variants.{StreamIdentifier, Other}
-use Rattle.isdb_mmt.specs.Part.{part, partOf}
+use Rattle.isdb_mmt.specs.Part.{partAt, partOf}
 use Rattle.isdb_mmt.specs.Desc.{lengthWidth, stepAt, splitFrom, splitOf, streamIdentifier, descriptorOf, descriptorsOf}
 use Rattle.isdb_mmt.specs.Mpu.{fragmentType, indicator, payloadHeader, unitIn, unitAt, unitStep, unitsFrom, unitsOf, follows, lostFrom}
 use Rattle.isdb_mmt.specs.Section.{longSectionOf, entryAt, entriesFrom, entriesTold}
@@ -30,7 +30,7 @@ use Rattle.isdb_mmt.specs.Message.{divisionOf, paTables, sectionTable, c
 use Rattle.isdb_mmt.specs.Packet.{Bytes, mediaOf, clear, readable, classify}
 use Rattle.isdb_mmt.specs.Maps.{find, put, orElse, isSome}
 use Rattle.isdb_mmt.specs.Objects.{Asset, Rec, fresh, gap, lostBy, grown, continued, effectOf, afterUnit, objectOf, unitEffect, afterUnits, deliveredBy, newMpu, jumped, mpuAfter, rangeAfter, malformedPayload, afterHeaders, assetAfter, tagged, passes, mediaGives}
-use Rattle.isdb_mmt.specs.Joins.{PartialMessage, idle, partBefore, joinedOn, partAfter, wholeOf, reassemblyAfter, messageCompleted, orphan, oversize, tablesOf, tablesOfAll, messagesOf, cutOf, cutOfAll}
+use Rattle.isdb_mmt.specs.Reassembly.{PartialMessage, idle, partBefore, joinedOn, partAfter, wholeOf, reassemblyAfter, messageCompleted, orphan, oversize, tablesOf, tablesOfAll, messagesOf, cutOf, cutOfAll}
 use Rattle.isdb_mmt.specs.Kept.{bodyRead, sectionOf, otherVersion, keepIf, keep, keepAll, zeros, tableCounted, sectionIncrements, tableById, tableRead, tableIncrements, mptAfter, mptAfterAll, stored, storedAll, countedAll}
 use Rattle.isdb_mmt.specs.GivenTables.{tablesGiven}
 use Rattle.isdb_mmt.specs.Model.{State, Control, opened, idleControl, assetOf, controlOf, packetCounted, messageCounted, reassemblyCounted, timeAfter, pushed, gives}
@@ -40,7 +40,7 @@ use Rattle.isdb_mmt.specs.declared.maybe.MaybeU32.the-variants.{None as 
 use Rattle.isdb_mmt.specs.declared.mpu.MfuHeader.{MfuHeader}
 use Rattle.isdb_mmt.specs.declared.mpu.MaybeMfu.{MaybeMfu}
 use Rattle.isdb_mmt.specs.declared.mpu.MaybeMfu.the-variants.{None as noMfu, Some as someMfu}
-use Rattle.isdb_mmt.specs.Demand.{Feed, packetsOf, pushAll, giveAll, bytesOf as heldBytes}
+use Rattle.isdb_mmt.specs.Demand.{Feed, packetsOf, pushAll, giveAll, heldBytes}
 
 -- what a feed leaves of the media id F100h: packets, lost, scrambled, MPUs, malformed, objects delivered, dropped, the held one
 pub record Left : Type 0 where
@@ -59,13 +59,13 @@ id = 0xF100
 abbrev pub leftOf : Bool → Feed → Asset → Left
 leftOf pass f a =
     record {
-      packets = a .packets;
-      lost = a .lost;
-      scrambled = a .scrambled;
-      mpus = a .mpus;
-      malformed = a .malformed;
+      packets = a .stats .packets;
+      lost = a .stats .«packets_lost»;
+      scrambled = a .stats .«scrambled_packets»;
+      mpus = a .stats .mpus;
+      malformed = a .stats .malformed;
       objects = deliveredOf id (giveAll (opened pass) (packetsOf f));
-      dropped = a .dropped;
+      dropped = a .stats .«mfus_dropped»;
       held = heldBytes (a .held);
     }
 
@@ -114,7 +114,7 @@ joiningIn (some j) = some (j .bytes)
 -- what a state has joined for the control id, `c`
 abbrev joinedIn : State → Control → Told
 joinedIn s c =
-    joined (s .counters .«orphan_fragments») (s .counters .«message_malformed») (c .line .number) (joiningIn (c .line .part)) (c .mpt)
+    joined (s .counters .«orphan_fragments») (s .counters .«message_malformed») (c .reassembly .number) (joiningIn (c .reassembly .partial)) (c .mpt)
 
 unfoldable pub told : Ask → Told
 unfolding bytesOf be feed feedByte crcOf packetType compressedOf fecType payloadType bitsOf entry extensionAt afterFixed mmtpOf isTlvSi sectionAt sectionsFrom sectionsOf lengthWidth stepAt splitFrom splitOf streamIdentifier descriptorOf descriptorsOf fragmentType indicator payloadHeader unitIn unitAt unitStep unitsFrom unitsOf follows lostFrom longSectionOf entryAt entriesFrom entriesTold nitBody nitOf sdtBody sdtOf declaredLength mptAssets mptTable mptOf divisionOf paTables sectionTable contentOf tableAt tablesFrom mediaOf classify find put orElse isSome fresh gap lostBy grown continued effectOf afterUnit objectOf unitEffect afterUnits deliveredBy clear readable newMpu jumped mpuAfter rangeAfter malformedPayload afterHeaders assetAfter tagged passes mediaGives idle partBefore joinedOn partAfter wholeOf reassemblyAfter messageCompleted orphan oversize tablesOf tablesOfAll messagesOf cutOf cutOfAll bodyRead sectionOf otherVersion keepIf keep keepAll zeros tableCounted sectionIncrements tableById tableRead tableIncrements mptAfter mptAfterAll stored storedAll countedAll opened idleControl assetOf controlOf packetCounted messageCounted reassemblyCounted tablesGiven timeAfter pushed gives book nothing enteredAll entered receptionLog logEntries unitsReceived follower dropCounted inOrder missing continuedBy deliveredOf needs unitsNeed reassemblyNeeds tableArea tablesNeed pushAll giveAll heldBytes
@@ -226,7 +226,7 @@ cases =
     ∷ (widthOf 0xEFFF ⇒ width 1)
     ∷ (widthOf 0xF000 ⇒ width 2)
     ∷ (decodedOf (0x80 ∷ 0x11 ∷ 0x02 ∷ 0x00 ∷ 0x10 ∷ []) ⇒ decoded (StreamIdentifier 16 ∷ []))
-    ∷ (decodedOf (0x80 ∷ 0x11 ∷ 0x01 ∷ 0x00 ∷ []) ⇒ decoded (Other 0x8011 (part 0 1) ∷ []))
+    ∷ (decodedOf (0x80 ∷ 0x11 ∷ 0x01 ∷ 0x00 ∷ []) ⇒ decoded (Other 0x8011 (partAt 0 1) ∷ []))
     ∷ (bodiesOf (0x80 ∷ 0x11 ∷ 0x01 ∷ 0x00 ∷ []) ⇒ bodies ((0x00 ∷ []) ∷ []))
     -- a header type that is not known
     ∷ (readAs (0x00 ∷ 0x10 ∷ 0x62 ∷ []) ⇒ ip (Err (HeaderType 0x62)))

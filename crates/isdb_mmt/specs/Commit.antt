@@ -8,13 +8,13 @@ use Rattle.isdb_tlv.specs.Guards.{if_then_else_, _=?_}
 use Rattle.isdb_mmt.specs.Layout.{mostSections, mostControlIds, mostTableArea, stateSize}
 use Rattle.isdb_mmt.specs.Packet.{Bytes}
 use Rattle.isdb_mmt.specs.Lent.{part, over}
-use Rattle.isdb_mmt.specs.Verdict.{indexSize, placeAt}
-use Rattle.isdb_mmt.specs.Dry.{Logged, logged}
+use Rattle.isdb_mmt.specs.TableOutcome.{indexSize, placeAt}
+use Rattle.isdb_mmt.specs.PendingTables.{Logged, logged}
 use Rattle.isdb_mmt.specs.declared.part.Part.{Part}
 use Rattle.isdb_mmt.specs.declared.decoder.head.Used.{Used}
 use Rattle.isdb_mmt.specs.declared.decoder.limits.Limits.{Limits}
-use Rattle.isdb_mmt.specs.declared.decoder.verdict.Recent.{Recent}
-use Rattle.isdb_mmt.specs.declared.decoder.walk.Going.{Going}
+use Rattle.isdb_mmt.specs.declared.decoder.table_outcome.Recent.{Recent}
+use Rattle.isdb_mmt.specs.declared.decoder.walk.WalkState.{WalkState}
 
 abbrev pub putOne : ℕ → Logged → Bytes → Bytes → Bytes
 putOne at e m t = if e .from =? 0 then t else over at (part (e .from - 1) (e .place .length) m) t
@@ -68,13 +68,13 @@ pub record CanStoreState (state ix : List ℕ) (u : Used) : Type 0 where
   pub few : u .sections ≤ mostSections
 
 -- all that a walk has logged: sections, then the PLT, the TOT and the MPT of the control place `i`
-abbrev pub putAreas : Limits → ℕ → Going → List Logged → Bytes → Bytes → Bytes
+abbrev pub putAreas : Limits → ℕ → WalkState → List Logged → Bytes → Bytes → Bytes
 putAreas l i g es m t =
     putRecent ((l .sections + i) * l .«table_area») (g .mpt) m
     (putRecent ((l .sections + l .«control_ids» + 1) * l .«table_area») (g .tot) m
     (putRecent ((l .sections + l .«control_ids») * l .«table_area») (g .plt) m (putTables (l .«table_area») 0 es m t)))
 
-pub record CanStoreAreas (tables ix log : List ℕ) (g : Going) (l : Limits) (i : ℕ) (m : Bytes) : Type 0 where
+pub record CanStoreAreas (tables ix log : List ℕ) (g : WalkState) (l : Limits) (i : ℕ) (m : Bytes) : Type 0 where
   pub sections : CanStore tables ix log (g .used) (l .«table_area») m
   pub room : (l .sections + l .«control_ids» + 2) * l .«table_area» ≤ length tables
   pub few : l .sections + l .«control_ids» ≤ mostSections + mostControlIds

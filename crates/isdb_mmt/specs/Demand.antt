@@ -21,18 +21,18 @@ unfoldable pub giveAll : State → List Packet → List Rec
 giveAll s [] = []
 giveAll s (p ∷ ps) = gives s p ++ giveAll (pushed s p) ps
 
-unfoldable pub bytesOf : Option Mfu → Option Bytes
-bytesOf none = none
-bytesOf (some h) = some (h .bytes)
+unfoldable pub heldBytes : Option Mfu → Option Bytes
+heldBytes none = none
+heldBytes (some h) = some (h .bytes)
 
 abbrev pub heldOf : ℕ → State → Option Bytes
-heldOf i s = bytesOf (assetOf i s .held)
+heldOf i s = heldBytes (assetOf i s .held)
 
 abbrev pub droppedOf : ℕ → State → ℕ
-droppedOf i s = assetOf i s .dropped
+droppedOf i s = assetOf i s .stats .«mfus_dropped»
 
 abbrev pub lostOf : ℕ → State → ℕ
-lostOf i s = assetOf i s .lost
+lostOf i s = assetOf i s .stats .«packets_lost»
 
 -- a unit is a part of its packet, which has at most 65,535 bytes
 abbrev pub AllSmall : List PayloadUnit → Type 0

@@ -7,7 +7,7 @@ use lib.ListN.{length, getD, drop}
 use Rattle.isdb_tlv.specs.Guards.{if_then_else_, _<?_, _≤?_, _=?_}
 use Rattle.isdb_tlv.specs.Bytes.{be}
 use Rattle.isdb_tlv.specs.Walk.{Next, stop, more, walk}
-use Rattle.isdb_mmt.specs.Part.{part, partOf}
+use Rattle.isdb_mmt.specs.Part.{partAt, partOf}
 use Rattle.isdb_mmt.specs.Location.{locationOf}
 use Rattle.isdb_mmt.specs.Timestamp.{extendedOf, isSome}
 use Rattle.isdb_mmt.specs.declared.part.Part.{Part}
@@ -44,7 +44,7 @@ abbrev pub bodyAt : List ℕ → ℕ → ℕ → ℕ → Step
 bodyAt s at tag w =
     if length s - (at + 2) <? w then Broken at
     else if length s - (at + 2 + w) <? be w s (at + 2) then Broken at
-    else Raw tag (part (at + 2 + w) (be w s (at + 2))) (at + 2 + w + be w s (at + 2))
+    else Raw tag (partAt (at + 2 + w) (be w s (at + 2))) (at + 2 + w + be w s (at + 2))
 
 -- what stands at `at` of a descriptor loop: a tag of 16 bits, the length, the body
 unfoldable pub stepAt : List ℕ → ℕ → Step
@@ -85,7 +85,7 @@ broken s = if isSome (splitOf s .broke) then 1 else 0
 
 -- a descriptor kept as it stands: its whole body
 abbrev pub other : ℕ → List ℕ → Descriptor
-other tag s = Other tag (part 0 (length s))
+other tag s = Other tag (partAt 0 (length s))
 
 -- 7.4.3.7, access control: CA system id 16 bits, then a location; one that cannot be read is absent
 abbrev pub locationIn : Located → MaybeLocation
@@ -115,7 +115,7 @@ serviceText s =
     if length s <? 2 then other 0x8019 s
     else if length s <? getD s 1 0 + 3 then other 0x8019 s
     else if length s <? getD s 1 0 + 3 + getD s (getD s 1 0 + 2) 0 then other 0x8019 s
-    else Service (getD s 0 0) (part 2 (getD s 1 0)) (part (getD s 1 0 + 3) (getD s (getD s 1 0 + 2) 0))
+    else Service (getD s 0 0) (partAt 2 (getD s 1 0)) (partAt (getD s 1 0 + 3) (getD s (getD s 1 0 + 2) 0))
 
 -- 7.4.3.17, short event: language 24 bits, name behind a length of 8 bits, text behind one of 16
 unfoldable pub shortEvent : List ℕ → Descriptor
@@ -124,7 +124,7 @@ shortEvent s =
     else if length s <? getD s 3 0 + 6 then other 0xF001 s
     else if length s <? getD s 3 0 + 6 + be 2 s (getD s 3 0 + 4) then other 0xF001 s
     else ShortEvent (record { first = getD s 0 0; second = getD s 1 0; third = getD s 2 0 })
-    (part 4 (getD s 3 0)) (part (getD s 3 0 + 6) (be 2 s (getD s 3 0 + 4)))
+    (partAt 4 (getD s 3 0)) (partAt (getD s 3 0 + 6) (be 2 s (getD s 3 0 + 4)))
 
 -- 7.4.3.13, HEVC: profile space 2 bits, tier 1, profile 5, ten more bytes, level 8
 unfoldable pub hevc : List ℕ → Descriptor
@@ -152,7 +152,7 @@ descriptorOf tag s =
     else if tag =? 0xF001 then shortEvent s
     else if tag =? 0x8012 then Content
     else if tag =? 0x800A then hevc s
-    else if tag =? 0x8018 then BroadcasterName (part 0 (length s))
+    else if tag =? 0x8018 then BroadcasterName (partAt 0 (length s))
     else other tag s
 
 -- the descriptors of a loop, decoded

@@ -9,39 +9,39 @@ use Rattle.isdb_tlv.specs.Guards.{if_then_else_, _<?_}
 use Rattle.isdb_mmt.specs.Packet.{Bytes}
 use Rattle.isdb_mmt.specs.Maps.{isSome, one}
 use Rattle.isdb_mmt.specs.Message.{fragmentOf}
-use Rattle.isdb_mmt.specs.Joins.{PartialMessage, mostMessage}
+use Rattle.isdb_mmt.specs.Reassembly.{PartialMessage, mostMessage}
 use Rattle.isdb_mmt.specs.Needs.{partialLength}
 use Rattle.isdb_mmt.specs.Lent.{over}
 use Rattle.isdb_mmt.specs.Layout.{mostCount}
-use Rattle.isdb_mmt.specs.Place.{gapAfter}
-use Rattle.isdb_mmt.specs.Placing.{longIn, aggregatedIn}
+use Rattle.isdb_mmt.specs.MediaPlace.{gapAfter}
+use Rattle.isdb_mmt.specs.PlacesOf.{longIn, aggregatedIn}
 use Rattle.isdb_mmt.specs.declared.message.Division.{Division}
 use Rattle.isdb_mmt.specs.declared.message.Division.the-variants.{Undivided as undivided, First as first, Middle as middle, Last as last}
 use Rattle.isdb_mmt.specs.declared.message.Fragment.{Fragment}
 use Rattle.isdb_mmt.specs.declared.decoder.control.Control.{Control}
 use Rattle.isdb_mmt.specs.declared.decoder.counts.Counters.{Counters}
-use Rattle.isdb_mmt.specs.declared.decoder.messages.Fate.{Fate}
-use Rattle.isdb_mmt.specs.declared.decoder.messages.Fate.the-variants.{Short, Undivided, First, Orphan, Oversize, Grown, Whole}
+use Rattle.isdb_mmt.specs.declared.decoder.messages.FragmentOutcome.{FragmentOutcome}
+use Rattle.isdb_mmt.specs.declared.decoder.messages.FragmentOutcome.the-variants.{Short, Undivided, First, Orphan, Oversize, Grown, Whole}
 use Rattle.isdb_mmt.specs.declared.decoder.messages.Joined.{Joined}
 
 -- ---- what becomes of a fragment
 
 -- a message is there to be continued: a gap takes it away
-unfoldable pub continuedBy : Control → ℕ → Bool
-continuedBy c n = if c .joining then not (gapAfter (c .seen) (c .sequence) n) else false
+unfoldable pub inSequence : Control → ℕ → Bool
+inSequence c n = if c .joining then not (gapAfter (c .seen) (c .sequence) n) else false
 
 -- the message's length with the fragment, whose data start at 2
 abbrev pub grownLength : Control → Bytes → ℕ
 grownLength c b = c .length + (length b - 2)
 
-unfoldable pub continued : Bool → Control → ℕ → Bytes → Fate
+unfoldable pub continued : Bool → Control → ℕ → Bytes → FragmentOutcome
 continued ends c n b =
-    if not (continuedBy c n) then Orphan
+    if not (inSequence c n) then Orphan
     else if mostMessage <? grownLength c b then Oversize
     else if ends then Whole
     else Grown
 
-abbrev pub byDivision : Division → Control → ℕ → Bytes → Fate
+abbrev pub byDivision : Division → Control → ℕ → Bytes → FragmentOutcome
 byDivision undivided c n b = Undivided
 byDivision first c n b = First
 byDivision middle c n b = continued false c n b
@@ -50,8 +50,8 @@ byDivision last c n b = continued true c n b
 abbrev pub flagsIn : Bytes → Fragment
 flagsIn b = fragmentOf (getD b 0 0)
 
-unfoldable pub fateOf : Control → ℕ → Bytes → Fate
-fateOf c n b = if length b <? 2 then Short else byDivision (flagsIn b .division) c n b
+unfoldable pub fragmentOutcome : Control → ℕ → Bytes → FragmentOutcome
+fragmentOutcome c n b = if length b <? 2 then Short else byDivision (flagsIn b .division) c n b
 
 -- ---- what is joined after it
 
@@ -64,7 +64,7 @@ noneJoined = record { joining = false; «long_length» = false; aggregated = fal
 abbrev pub joinedStill : Control → Joined
 joinedStill c = if c .joining then joinedWith (c .«long_length») (c .aggregated) (c .length) else noneJoined
 
-unfoldable pub joinedBy : Fate → Control → Bytes → Joined
+unfoldable pub joinedBy : FragmentOutcome → Control → Bytes → Joined
 joinedBy Short c b = joinedStill c
 joinedBy Undivided c b = noneJoined
 joinedBy First c b = joinedWith (flagsIn b .«long_length») (flagsIn b .aggregated) (length b - 2)
@@ -93,7 +93,7 @@ controlWith id n j mpt size =
     }
 
 -- the message's area, from `at` on
-unfoldable pub laidBy : Fate → ℕ → Control → Bytes → Bytes → Bytes
+unfoldable pub laidBy : FragmentOutcome → ℕ → Control → Bytes → Bytes → Bytes
 laidBy Short at c b l = l
 laidBy Undivided at c b l = l
 laidBy First at c b l = over at (drop 2 b) l
@@ -105,7 +105,7 @@ laidBy Whole at c b l = l
 -- ---- what is asked and counted
 
 -- the longest message that it joins
-unfoldable pub areaBy : Fate → Control → Bytes → ℕ
+unfoldable pub areaBy : FragmentOutcome → Control → Bytes → ℕ
 areaBy Short c b = 0
 areaBy Undivided c b = 0
 areaBy First c b = length b - 2
@@ -115,7 +115,7 @@ areaBy Grown c b = grownLength c b
 areaBy Whole c b = grownLength c b
 
 -- the message that is whole with it, where `m` is what was joined before
-unfoldable pub wholeBy : Fate → Control → Bytes → Bytes → Option PartialMessage
+unfoldable pub wholeBy : FragmentOutcome → Control → Bytes → Bytes → Option PartialMessage
 wholeBy Short c m b = none
 wholeBy Undivided c m b = some (record { long = flagsIn b .«long_length»; aggregated = flagsIn b .aggregated; bytes = drop 2 b })
 wholeBy First c m b = none
@@ -124,7 +124,7 @@ wholeBy Oversize c m b = none
 wholeBy Grown c m b = none
 wholeBy Whole c m b = some (record { long = c .«long_length»; aggregated = c .aggregated; bytes = m ++ drop 2 b })
 
-abbrev pub completes : Fate → Bool
+abbrev pub completes : FragmentOutcome → Bool
 completes Short = false
 completes Undivided = true
 completes First = false
@@ -142,7 +142,7 @@ pub record Faults : Type 0 where
 abbrev faults : Bool → Bool → Bool → Faults
 faults orphan oversize malformed = record { orphan = orphan; oversize = oversize; malformed = malformed }
 
-abbrev pub faultsOf : Fate → Faults
+abbrev pub faultsOf : FragmentOutcome → Faults
 faultsOf Short = faults false false true
 faultsOf Undivided = faults false false false
 faultsOf First = faults false false false
@@ -169,7 +169,7 @@ countedWith c orphans oversizes bad =
       «split_errors» = c .«split_errors»;
     }
 
-abbrev pub fragmentCounted : Fate → Counters → Counters
+abbrev pub fragmentCounted : FragmentOutcome → Counters → Counters
 fragmentCounted f c = countedWith c (one (faultsOf f .orphan)) (one (faultsOf f .oversize)) (one (faultsOf f .malformed))
 
 -- counts as question 5 has them

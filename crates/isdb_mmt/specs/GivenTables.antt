@@ -1,7 +1,7 @@
 -- The tables that a packet gives: of a message that it makes whole, and of a control signal.
 use mathlib.Core.List.{List, map}
 use Rattle.isdb_mmt.specs.Packet.{Bytes, MessagePacket}
-use Rattle.isdb_mmt.specs.Joins.{Reassembly, messageCompleted, cutOfAll}
+use Rattle.isdb_mmt.specs.Reassembly.{Reassembly, messageCompleted, cutOfAll}
 use Rattle.isdb_mmt.specs.Kept.{sectionOf, tableRead, Table, aSection}
 
 -- the tables that a message packet makes whole

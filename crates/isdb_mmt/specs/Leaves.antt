@@ -9,7 +9,7 @@ use lib.ListN.{length}
 use Rattle.isdb_tlv.specs.Fields.{written}
 use Rattle.isdb_mmt.specs.declared.decoder.counts.Counters.{Counters}
 use Rattle.isdb_mmt.specs.Packet.{Bytes, MessagePacket, Packet, ipError, ntp, nonMmtp, media, message, control, other}
-use Rattle.isdb_mmt.specs.Joins.{PartialMessage}
+use Rattle.isdb_mmt.specs.Reassembly.{PartialMessage}
 use Rattle.isdb_mmt.specs.Kept.{Kept, KeptTables}
 use Rattle.isdb_mmt.specs.Model.{State, Control as ControlState, controlOf, pushed}
 use Rattle.isdb_mmt.specs.Lent.{over, namesFrom, placeForName}
@@ -17,7 +17,7 @@ use Rattle.isdb_mmt.specs.Layout.{latestPlace, timePlace, countersPlace,
 use Rattle.isdb_mmt.specs.Session.{Session, limitsOf, usedOf, latestFields, timeFields, countersFields, controlFields, sectionFields}
 use Rattle.isdb_mmt.specs.View.{view}
 use Rattle.isdb_mmt.specs.Opening.{lent}
-use Rattle.isdb_mmt.specs.Placing.{controlFor, sectionFor, latestFor}
+use Rattle.isdb_mmt.specs.PlacesOf.{controlFor, sectionFor, latestFor}
 use Rattle.isdb_mmt.specs.MediaPush.{withUsed, mediaLeaves}
 use Rattle.isdb_mmt.specs.declared.decoder.place.PlaceFor.{PlaceFor}
 use Rattle.isdb_mmt.specs.declared.decoder.place.PlaceFor.the-variants.{Own, Free, NoneFree}
@@ -101,7 +101,7 @@ controlLeaves s n =
 unfoldable pub messageIn : Session → State → ℕ → ℕ → Session
 messageIn s n id i =
     lent (withLatest (n .store) (stateOfTables n (withControl i id (controlOf id n) (s .state)))) (n .store .others) (s .objects)
-    (bytesOver (i * limitsOf (s .state) .«message_area») (joinedIn (controlOf id n .line .part)) (s .messages))
+    (bytesOver (i * limitsOf (s .state) .«message_area») (joinedIn (controlOf id n .reassembly .partial)) (s .messages))
     (bytesOver ((limitsOf (s .state) .sections + i) * limitsOf (s .state) .«table_area») (controlOf id n .mpt)
     (latestOver (limitsOf (s .state)) (n .store) (keptOver (limitsOf (s .state) .«table_area») 0 (n .store .kept) (s .tables))))
 

@@ -4,7 +4,7 @@ use mathlib.Core.List.{List}
 use lib.ListN.{length, getD}
 use Rattle.isdb_tlv.specs.Guards.{if_then_else_, _<?_, _=?_}
 use Rattle.isdb_tlv.specs.Bytes.{be}
-use Rattle.isdb_mmt.specs.Part.{part}
+use Rattle.isdb_mmt.specs.Part.{partAt}
 use Rattle.isdb_mmt.specs.declared.maybe.MaybeU16.{MaybeU16}
 use Rattle.isdb_mmt.specs.declared.maybe.MaybeU16.the-variants.{None as noNumber, Some as someNumber}
 use Rattle.isdb_mmt.specs.declared.location.Location.{Location}
@@ -30,7 +30,7 @@ ipv6At s = Ipv6 (be 8 s 1) (be 8 s 9) (be 8 s 17) (be 8 s 25) (be 2 s 33) (be 2 
 unfoldable pub urlOf : List ℕ → Located
 urlOf s =
     if length s <? 2 then None
-    else sized s (getD s 1 0 + 2) (Url (part 2 (getD s 1 0)))
+    else sized s (getD s 1 0 + 2) (Url (partAt 2 (getD s 1 0)))
 
 -- 00h packet id; 03h network id, transport stream id, PID field; 04h IPv6 addresses, of which only the port and the PID
 -- field behind them are kept

@@ -9,11 +9,11 @@ use lib.ListN.{length}
 use Rattle.isdb_tlv.specs.Guards.{if_then_else_, _<?_, _=?_}
 use Rattle.isdb_tlv.specs.Fields.{written}
 use Rattle.isdb_tlv.specs.declared.mmtp.Header.{Header}
-use Rattle.isdb_mmt.specs.Part.{partOf, part as partAt}
+use Rattle.isdb_mmt.specs.Part.{partOf, partAt}
 use Rattle.isdb_mmt.specs.Packet.{Bytes, mediaOf}
 use Rattle.isdb_mmt.specs.Maps.{one, isSome}
 use Rattle.isdb_mmt.specs.Mpu.{unitsOf}
-use Rattle.isdb_mmt.specs.Objects.{Asset, Rec, assetAfter, mediaGives}
+use Rattle.isdb_mmt.specs.Objects.{noStats, Asset, Rec, assetAfter, mediaGives}
 use Rattle.isdb_mmt.specs.Needs.{dataOf}
 use Rattle.isdb_mmt.specs.Layout.{mostMediaIds, mostMfuArea, mostCount, mediaPlaces, mediaSize, stateSize}
 use Rattle.isdb_mmt.specs.Lent.{part, over}
@@ -22,8 +22,8 @@ use Rattle.isdb_mmt.specs.Check.{lengthsOf, PlacesThere, Sound}
 use Rattle.isdb_mmt.specs.View.{assetOfPlace}
 use Rattle.isdb_mmt.specs.Records.{rowSize, rowFields, rowsFrom, dataFrom}
 use Rattle.isdb_mmt.specs.MediaPush.{noObject, heldOver, oneMore, withUsed, withPackets}
-use Rattle.isdb_mmt.specs.Place.{placeAfter, Modest}
-use Rattle.isdb_mmt.specs.Look.{lookOf, CanLook}
+use Rattle.isdb_mmt.specs.MediaPlace.{placeAfter, StatsWithin}
+use Rattle.isdb_mmt.specs.MediaOutcome.{mediaOutcome, CanReadUnits}
 use Rattle.isdb_mmt.specs.declared.maybe.MaybeU32.the-variants.{None as noU32}
 use Rattle.isdb_mmt.specs.declared.mpu.MaybeMfu.the-variants.{None as noMfu}
 use Rattle.isdb_mmt.specs.declared.mpu.PayloadHeader.{PayloadHeader}
@@ -32,12 +32,11 @@ use Rattle.isdb_mmt.specs.declared.mpu.MaybeHeader.the-variants.{None as
 use Rattle.isdb_mmt.specs.declared.mpu.Unit.{Unit as DataUnit}
 use Rattle.isdb_mmt.specs.declared.decoder.place.PlaceFor.{PlaceFor}
 use Rattle.isdb_mmt.specs.declared.decoder.place.PlaceFor.the-variants.{Own, Free, NoneFree}
-use Rattle.isdb_mmt.specs.declared.decoder.counts.AssetStats.{AssetStats}
 use Rattle.isdb_mmt.specs.declared.decoder.limits.Limits.{Limits}
 use Rattle.isdb_mmt.specs.declared.decoder.media.Object.{Object}
 use Rattle.isdb_mmt.specs.declared.decoder.media.Media.{Media}
-use Rattle.isdb_mmt.specs.declared.decoder.reassembler.Survey.{Survey}
-use Rattle.isdb_mmt.specs.declared.decoder.reassembler.Look.{Look}
+use Rattle.isdb_mmt.specs.declared.decoder.reassembler.MediaEffect.{MediaEffect}
+use Rattle.isdb_mmt.specs.declared.decoder.reassembler.MediaOutcome.{MediaOutcome}
 use Rattle.isdb_mmt.specs.declared.decoder.records.Answer.{Answer}
 
 -- ---- the place that a packet starts from: its id's, or a blank one
@@ -45,20 +44,6 @@ use Rattle.isdb_mmt.specs.declared.decoder.records.Answer.{Answer}
 pub record CanTakePlace (s : List ℕ) (l : Limits) : Type 0 where
   pub there : PlacesThere s
   pub limits : l ≡ limitsOf s
-
-abbrev pub noStats : AssetStats
-noStats =
-    record {
-      packets = 0;
-      «packets_lost» = 0;
-      «scrambled_packets» = 0;
-      mfus = 0;
-      «scrambled_mfus» = 0;
-      «mfus_dropped» = 0;
-      mpus = 0;
-      «mpu_sequence_jumps» = 0;
-      malformed = 0;
-    }
 
 abbrev pub blank : Media
 blank =
@@ -92,11 +77,11 @@ passesOn pass scrambled noPayload = false
 passesOn pass scrambled (payload h) = pass && scrambled
 
 -- records and data bytes: a payload passed on is one record, of all but its first 8 bytes
-abbrev pub recordsOf : Bool → Survey → ℕ
-recordsOf passed t = one passed + t .records
+abbrev pub recordsHanded : Bool → MediaEffect → ℕ
+recordsHanded passed t = one passed + t .records
 
-abbrev pub bytesOf : Bool → ℕ → Survey → ℕ
-bytesOf passed n t = (if passed then n - 8 else 0) + t .bytes
+abbrev pub bytesHanded : Bool → ℕ → MediaEffect → ℕ
+bytesHanded passed n t = (if passed then n - 8 else 0) + t .bytes
 
 unfoldable pub fitsNumber : ℕ → ℕ → ℕ → ℕ → ℕ → ℕ → ℕ
 fitsNumber area longest rows given records bytes =
@@ -121,15 +106,15 @@ abbrev pub answerBy : ℕ → ℕ → ℕ → Answer
 answerBy n records bytes = if n =? 0 then accepted records bytes else refused n
 
 -- from the limits and the look at a payload of n bytes
-unfoldable pub answerOf : PlaceFor → Limits → Bool → Look → ℕ → ℕ → ℕ → Answer
+unfoldable pub answerOf : PlaceFor → Limits → Bool → MediaOutcome → ℕ → ℕ → ℕ → Answer
 unfolding passesOn numberOf
 answerOf place-for l scrambled r n rows given =
     let passed : Bool = passesOn (l .«pass_scrambled») scrambled (r .header) in
-    answerBy (numberOf place-for (l .«mfu_area») (r .units .longest) rows given (recordsOf passed (r .units)) (bytesOf passed n (r .units)))
-    (recordsOf passed (r .units)) (bytesOf passed n (r .units))
+    answerBy (numberOf place-for (l .«mfu_area») (r .units .longest) rows given (recordsHanded passed (r .units)) (bytesHanded passed n (r .units)))
+    (recordsHanded passed (r .units)) (bytesHanded passed n (r .units))
 
 -- what the sums are made of
-pub record Small (t : Survey) : Type 0 where
+pub record Small (t : MediaEffect) : Type 0 where
   pub drops : t .drops ≤ 65539
   pub records : t .records ≤ 65537
   pub bytes : t .bytes ≤ 4295032833
@@ -169,9 +154,9 @@ startsFrom at p objects = assetOfPlace p (part at (p .object .length) objects)
 abbrev pub givesFrom : ℕ → Bool → Media → Header → Bytes → Bytes → List Rec
 givesFrom at pass p h b objects = mediaGives pass (startsFrom at p objects) (mediaOf h b)
 
-pub record CanCommit (at : ℕ) (pass : Bool) (p : Media) (r : Look) (h : Header) (b objects rows given : Bytes) : Type 0 where
-  pub look : r ≡ lookOf p (h .sequence) (h .«scramble_info») (h .rap) b
-  pub can : CanLook p b
+pub record CanCommit (at : ℕ) (pass : Bool) (p : Media) (r : MediaOutcome) (h : Header) (b objects rows given : Bytes) : Type 0 where
+  pub look : r ≡ mediaOutcome p (h .sequence) (h .«scramble_info») (h .rap) b
+  pub can : CanReadUnits p b
   pub low : at ≤ 1073741824
   pub held : p .held ≡ true → at + p .object .length ≤ length objects
   pub room : at + r .units .longest ≤ length objects
@@ -179,7 +164,7 @@ pub record CanCommit (at : ℕ) (pass : Bool) (p : Media) (r : Look) (h : Header
   pub dataFit : dataOf (givesFrom at pass p h b objects) ≤ length given
 
 -- of a payload with the header x, whose units are taken
-pub record CanTake (x : PayloadHeader) (at : ℕ) (p : Media) (r : Look) (h : Header) (b objects rows given : Bytes) : Type 0 where
+pub record CanTake (x : PayloadHeader) (at : ℕ) (p : Media) (r : MediaOutcome) (h : Header) (b objects rows given : Bytes) : Type 0 where
   pub can : CanCommit at false p r h b objects rows given
   pub header : r .header ≡ payload x
   pub taken : r .taken ≡ true
@@ -190,7 +175,7 @@ pub record Committed (at : ℕ) (pass : Bool) (p : Media) (h : Header) (b object
   pub dataOut : given′ ≡ over 0 (dataFrom (givesFrom at pass p h b objects)) given
 
 -- the end of an object: the bytes held at `at`, and those of its last unit
-pub record CanEnd (at : ℕ) (p : Media) (t : Survey) (q objects rows given : Bytes) : Type 0 where
+pub record CanEnd (at : ℕ) (p : Media) (t : MediaEffect) (q objects rows given : Bytes) : Type 0 where
   pub small : t .bytes < 4294967296
   pub fits : OneFits (part at (p .object .length) objects) (partOf q (t .last)) rows given
 
@@ -222,13 +207,13 @@ pub record CanStore (l : List ℕ) (place-for : PlaceFor) : Type 0 where
 
 -- ---- all of it
 
-pub record CanCommitAll (l : Limits) (place-for : PlaceFor) (p : Media) (r : Look) (h : Header) (b state objects rows given : Bytes) : Type 0 where
+pub record CanCommitAll (l : Limits) (place-for : PlaceFor) (p : Media) (r : MediaOutcome) (h : Header) (b state objects rows given : Bytes) : Type 0 where
   pub commit : CanCommit (indexOf place-for * l .«mfu_area») (l .«pass_scrambled») p r h b objects rows given
   pub store : CanStore state place-for
-  pub modest : Modest (p .stats)
+  pub modest : StatsWithin mostCount (p .stats)
   pub area : l .«mfu_area» ≤ mostMfuArea
 
-pub record CommittedAll (l : Limits) (place-for : PlaceFor) (p : Media) (r : Look) (h : Header) (b state objects rows given state′ objects′ rows′ given′ : Bytes) : Type 0 where
+pub record CommittedAll (l : Limits) (place-for : PlaceFor) (p : Media) (r : MediaOutcome) (h : Header) (b state objects rows given state′ objects′ rows′ given′ : Bytes) : Type 0 where
   pub commit : Committed (indexOf place-for * l .«mfu_area») (l .«pass_scrambled») p h b objects rows given objects′ rows′ given′
   pub store : state′ ≡ stateAfter state (placeAfter (h .«packet_id») p (h .sequence) (h .«scramble_info») (r .header) (r .bad) (r .units)) place-for
 

@@ -17,7 +17,7 @@ use Rattle.isdb_mmt.specs.Session.{Session, limitsOf, usedOf, usedFields
 use Rattle.isdb_mmt.specs.View.{view}
 use Rattle.isdb_mmt.specs.Opening.{lent}
 use Rattle.isdb_mmt.specs.Records.{rowSize, rowsFrom, dataFrom}
-unfoldable pub use Rattle.isdb_mmt.specs.Placing.{noObject, heldFor, firstIn, statsFor, placeFor}
+unfoldable pub use Rattle.isdb_mmt.specs.PlacesOf.{noObject, heldFor, firstIn, placeFor}
 use Rattle.isdb_mmt.specs.declared.decoder.place.PlaceFor.{PlaceFor}
 use Rattle.isdb_mmt.specs.declared.decoder.place.PlaceFor.the-variants.{Own, Free, NoneFree}
 use Rattle.isdb_mmt.specs.declared.decoder.head.Used.{Used}

@@ -6,7 +6,7 @@ use lib.ListN.{length, getD}
 use Rattle.isdb_tlv.specs.Guards.{if_then_else_, _<?_, _≤?_, _=?_}
 use Rattle.isdb_tlv.specs.Bytes.{be}
 use Rattle.isdb_tlv.specs.Walk.{Next, stop, more, walk}
-use Rattle.isdb_mmt.specs.Part.{part}
+use Rattle.isdb_mmt.specs.Part.{partAt}
 use Rattle.isdb_mmt.specs.declared.part.Part.{Part}
 use Rattle.isdb_mmt.specs.declared.message.Division.{Division}
 use Rattle.isdb_mmt.specs.declared.message.Division.the-variants.{Undivided, First, Middle, Last}
@@ -39,13 +39,13 @@ unfoldable pub aggregatedAt : List ℕ → Bool → ℕ → MessageStep
 aggregatedAt s long at =
     if length s - at <? prefixWidth long then End
     else if length s - (at + prefixWidth long) <? be (prefixWidth long) s at then Malformed
-    else Message (part (at + prefixWidth long) (be (prefixWidth long) s at)) (at + prefixWidth long + be (prefixWidth long) s at)
+    else Message (partAt (at + prefixWidth long) (be (prefixWidth long) s at)) (at + prefixWidth long + be (prefixWidth long) s at)
 
 -- PA message: id 16 bits, version 8, length 32, body, as far as it is there
 abbrev pub bodyPart : List ℕ → Part
 bodyPart m =
-    if length m - 7 <? be 4 m 3 then part 7 (length m - 7)
-    else part 7 (be 4 m 3)
+    if length m - 7 <? be 4 m 3 then partAt 7 (length m - 7)
+    else partAt 7 (be 4 m 3)
 
 -- its tables start behind a list of 4 bytes for each of as many as its first byte says
 unfoldable pub paTables : List ℕ → Content
@@ -59,7 +59,7 @@ unfoldable pub sectionTable : List ℕ → Content
 sectionTable m =
     if length m <? 5 then badMessage
     else if length m - 5 <? be 2 m 3 then badMessage
-    else oneTable (part 5 (be 2 m 3))
+    else oneTable (partAt 5 (be 2 m 3))
 
 -- a message, by its id (Table 4-6)
 unfoldable pub contentOf : List ℕ → Content
@@ -75,7 +75,7 @@ unfoldable pub tableAt : List ℕ → ℕ → TableStep
 tableAt s at =
     if length s - at <? 4 then noMore
     else if length s - at <? be 2 s (at + 2) + 4 then badTable
-    else table (part at (be 2 s (at + 2) + 4)) (at + (be 2 s (at + 2) + 4))
+    else table (partAt at (be 2 s (at + 2) + 4)) (at + (be 2 s (at + 2) + 4))
 
 -- the messages of an aggregated payload's data, and how many lengths run past the end (0 or 1)
 pub record Aggregated : Type 0 where

@@ -9,18 +9,18 @@ use Rattle.isdb_mmt.specs.declared.decoder.counts.Counters.{Counters}
 use Rattle.isdb_mmt.specs.Packet.{Bytes, MessagePacket, Packet, ipError, ntp, nonMmtp, media, message, control, other}
 use Rattle.isdb_mmt.specs.Maps.{find, put, orElse, one}
 use Rattle.isdb_mmt.specs.Objects.{fresh, assetAfter, mediaGives, Asset, Rec}
-use Rattle.isdb_mmt.specs.Joins.{idle, reassemblyAfter, messageCompleted, orphan, oversize, cutOfAll, short, Reassembly}
+use Rattle.isdb_mmt.specs.Reassembly.{idle, reassemblyAfter, messageCompleted, orphan, oversize, cutOfAll, short, Reassembly}
 use Rattle.isdb_mmt.specs.Kept.{zeros, mptAfterAll, storedAll, countedAll, KeptTables}
 use Rattle.isdb_mmt.specs.GivenTables.{tablesGiven, controlTables}
 
 -- what is known of a control id: the message being joined, and the kept MPT
 pub record Control : Type 0 where
-  pub line : Reassembly
+  pub reassembly : Reassembly
   pub mpt : Option Bytes
 
 unfoldable pub idleControl : Control
 unfolding idle
-idleControl = record { line = idle; mpt = none }
+idleControl = record { reassembly = idle; mpt = none }
 
 -- ids stand in the order of their first arrival
 pub record State : Type 0 where
@@ -53,7 +53,7 @@ unfolding orElse idleControl find
 controlOf i s = orElse idleControl (find i (s .controls))
 
 abbrev pub reassemblyOf : ℕ → State → Reassembly
-reassemblyOf i s = controlOf i s .line
+reassemblyOf i s = controlOf i s .reassembly
 
 -- a packet, with what is counted of it beside tables
 unfoldable pub packetCounted : Counters → ℕ → ℕ → ℕ → Counters
@@ -133,7 +133,7 @@ pushed s (message c) =
       controls =
           put (c .id)
           (record {
-            line = reassemblyAfter (reassemblyOf (c .id) s) c;
+            reassembly = reassemblyAfter (reassemblyOf (c .id) s) c;
             mpt = mptAfterAll (controlOf (c .id) s .mpt) (tablesGiven (reassemblyOf (c .id) s) c);
           })
           (s .controls);

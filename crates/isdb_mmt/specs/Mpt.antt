@@ -5,7 +5,7 @@ use mathlib.Core.Bool.{Bool, true, false}
 use lib.ListN.{length, getD, take, drop}
 use Rattle.isdb_tlv.specs.Guards.{if_then_else_, _<?_, _=?_}
 use Rattle.isdb_tlv.specs.Bytes.{be}
-use Rattle.isdb_mmt.specs.Part.{part, partOf}
+use Rattle.isdb_mmt.specs.Part.{partAt, partOf}
 use Rattle.isdb_mmt.specs.Location.{locationOf, packetId}
 use Rattle.isdb_mmt.specs.Desc.{broken, firstOf}
 use Rattle.isdb_mmt.specs.declared.part.Part.{Part}
@@ -18,8 +18,8 @@ use Rattle.isdb_mmt.specs.declared.desc.Descriptor.{Descriptor}
 use Rattle.isdb_mmt.specs.declared.desc.Descriptor.the-variants.{MpuTimestamp, ExtendedTimestamp, AccessControl, Scrambler, StreamIdentifier, Service, ServiceList, ShortEvent, Content, Hevc, BroadcasterName, Other}
 use Rattle.isdb_mmt.specs.declared.desc.Found.{Found}
 use Rattle.isdb_mmt.specs.declared.desc.Found.the-variants.{None as notFound, Some as found}
-use Rattle.isdb_mmt.specs.declared.table.mpt.Place.{Place}
-use Rattle.isdb_mmt.specs.declared.table.mpt.Place.the-variants.{None as nowhere, At}
+use Rattle.isdb_mmt.specs.declared.maybe.MaybeUsize.{MaybeUsize}
+use Rattle.isdb_mmt.specs.declared.maybe.MaybeUsize.the-variants.{None as nowhere, Some as At}
 use Rattle.isdb_mmt.specs.declared.table.mpt.Asset.{Asset}
 use Rattle.isdb_mmt.specs.declared.table.mpt.AssetStep.{AssetStep}
 use Rattle.isdb_mmt.specs.declared.table.mpt.AssetStep.the-variants.{Malformed, Asset as asset}
@@ -30,18 +30,18 @@ use Rattle.isdb_mmt.specs.declared.table.mpt.MaybeMpt.the-variants.{None
 use Rattle.isdb_mmt.specs.declared.table.mpt.MptParsed.{MptParsed}
 
 -- table id 8 bits, version 8, length 16, and so many bytes: how many that are in all
-unfoldable pub declaredLength : List ℕ → Place
+unfoldable pub declaredLength : List ℕ → MaybeUsize
 declaredLength s =
     if length s <? 4 then nowhere
     else if length s <? be 2 s 2 + 4 then nowhere
     else At (be 2 s 2 + 4)
 
 -- behind `n` locations, the first of which stands at `at`
-abbrev pub behindLocation : (ℕ → Place) → ℕ → Located → Place
+abbrev pub behindLocation : (ℕ → MaybeUsize) → ℕ → Located → MaybeUsize
 behindLocation go at notLocated = nowhere
 behindLocation go at (located l taken) = go (at + taken)
 
-abbrev pub locationsEnd : ℕ → List ℕ → ℕ → Place
+abbrev pub locationsEnd : ℕ → List ℕ → ℕ → MaybeUsize
 locationsEnd zero s at = At at
 locationsEnd (suc n) s at = behindLocation (locationsEnd n s) at (locationOf (drop at s))
 
@@ -63,15 +63,15 @@ assetFields s p q end =
     else asset (record {
       «identifier_type» = getD s p 0;
       «asset_id_scheme» = be 4 s (p + 1);
-      «asset_id» = part (p + 6) (getD s (p + 5) 0);
+      «asset_id» = partAt (p + 6) (getD s (p + 5) 0);
       «asset_type» = be 4 s q;
       «clock_relation» = getD s (q + 4) 0 % 2 =? 1;
       locations = getD s (q + 5) 0;
       «locations_start» = q + 6;
-      descriptors = part (end + 2) (be 2 s end);
+      descriptors = partAt (end + 2) (be 2 s end);
     }) (end + 2 + be 2 s end)
 
-abbrev pub assetBehind : List ℕ → ℕ → ℕ → Place → AssetStep
+abbrev pub assetBehind : List ℕ → ℕ → ℕ → MaybeUsize → AssetStep
 assetBehind s p q nowhere = Malformed
 assetBehind s p q (At end) = assetFields s p q end
 
@@ -125,8 +125,8 @@ mptFields s start n =
       «table_id» = getD s 0 0;
       version = getD s 1 0;
       mode = getD s 4 0 % 4;
-      «package_id» = part 6 (getD s 5 0);
-      descriptors = part start n;
+      «package_id» = partAt 6 (getD s 5 0);
+      descriptors = partAt start n;
       assets = getD s (start + n) 0;
       start = start + n + 1;
     }
@@ -149,7 +149,7 @@ mptTable s =
     else if length s - (getD s 5 0 + 8) <? be 2 s (getD s 5 0 + 6) then told None 0
     else mptAssets s (getD s 5 0 + 8) (be 2 s (getD s 5 0 + 6))
 
-abbrev pub mptIn : List ℕ → Place → MptParsed
+abbrev pub mptIn : List ℕ → MaybeUsize → MptParsed
 mptIn s nowhere = told None 0
 mptIn s (At n) = mptTable (take n s)
 

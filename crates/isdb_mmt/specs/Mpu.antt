@@ -7,7 +7,7 @@ use lib.ListN.{length, getD, take, drop}
 use Rattle.isdb_tlv.specs.Guards.{if_then_else_, _<?_, _≤?_, _=?_}
 use Rattle.isdb_tlv.specs.Bytes.{be}
 use Rattle.isdb_tlv.specs.Walk.{Next, stop, more, walk}
-use Rattle.isdb_mmt.specs.Part.{part}
+use Rattle.isdb_mmt.specs.Part.{partAt}
 use Rattle.isdb_mmt.specs.declared.maybe.MaybeU32.the-variants.{None as noU32, Some as someU32}
 use Rattle.isdb_mmt.specs.declared.mpu.FragmentType.{FragmentType}
 use Rattle.isdb_mmt.specs.declared.mpu.FragmentType.the-variants.{MpuMetadata, MovieFragmentMetadata, Mfu, Reserved}
@@ -60,8 +60,8 @@ completesOf Last = true
 
 -- Table 6-1: payload length 16 bits, fragment type 4, timed flag 1, fragmentation indicator 2, aggregation flag 1, fragment
 -- counter 8, MPU sequence number 32
-abbrev pub headerFields : List ℕ → PayloadHeader
-headerFields s =
+abbrev pub payloadHeaderFields : List ℕ → PayloadHeader
+payloadHeaderFields s =
     record {
       «fragment_type» = fragmentType (getD s 2 0 / 16);
       timed = getD s 2 0 / 8 % 2 =? 1;
@@ -77,7 +77,7 @@ payloadHeader s =
     if length s <? 2 then None
     else if length s <? be 2 s 0 + 2 then None
     else if length s <? 8 then None
-    else Some (headerFields s)
+    else Some (payloadHeaderFields s)
 
 -- the length counts what stands behind it
 abbrev pub declaredOf : List ℕ → List ℕ
@@ -98,11 +98,11 @@ mfuAt s =
 -- a unit of timed data in the bytes from `at` to `end`, and one of untimed data, with an item id of 32 bits
 abbrev pub timedUnit : List ℕ → ℕ → ℕ → DataUnit
 timedUnit s at end =
-    record { mfu = someMfu (mfuAt (take (end - at) (drop at s))); «item_id» = noU32; «data» = part (at + 14) (end - at - 14) }
+    record { mfu = someMfu (mfuAt (take (end - at) (drop at s))); «item_id» = noU32; «data» = partAt (at + 14) (end - at - 14) }
 
 abbrev pub untimedUnit : List ℕ → ℕ → ℕ → DataUnit
 untimedUnit s at end =
-    record { mfu = noMfu; «item_id» = someU32 (be 4 (take (end - at) (drop at s)) 0); «data» = part (at + 4) (end - at - 4) }
+    record { mfu = noMfu; «item_id» = someU32 (be 4 (take (end - at) (drop at s)) 0); «data» = partAt (at + 4) (end - at - 4) }
 
 unfoldable pub unitIn : List ℕ → Bool → ℕ → ℕ → UnitStep
 unitIn s timed at end =

@@ -8,7 +8,7 @@ use lib.ListN.{length, drop}
 use Rattle.isdb_mmt.specs.Packet.{Bytes, PayloadUnit, MpuPacket, MessagePacket, Packet, ipError, ntp, nonMmtp, media, message, control, other, readable}
 use Rattle.isdb_mmt.specs.Maps.{find}
 use Rattle.isdb_mmt.specs.Objects.{Mfu, Asset, UnitEffect, unitEffect, afterUnit, afterHeaders, Rec}
-use Rattle.isdb_mmt.specs.Joins.{PartialMessage, Reassembly, short, flagsOf, partBefore, joinedOn}
+use Rattle.isdb_mmt.specs.Reassembly.{PartialMessage, Reassembly, short, flagsOf, partBefore, joinedOn}
 use Rattle.isdb_mmt.specs.Kept.{otherVersion, KeptTables, stored, Table, emptyTable, mptTable, pltTable, totTable, truncatedSection, aSection, otherTable}
 use Rattle.isdb_mmt.specs.GivenTables.{tablesGiven, controlTables}
 use Rattle.isdb_mmt.specs.Model.{State, assetOf, controlOf, reassemblyOf, pushed, gives}

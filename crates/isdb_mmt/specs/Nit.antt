@@ -5,7 +5,7 @@ use lib.ListN.{length, getD}
 use Rattle.isdb_tlv.specs.Guards.{if_then_else_, _<?_, _=?_, _≠?_}
 use Rattle.isdb_tlv.specs.Bytes.{be}
 use Rattle.isdb_tlv.specs.Walk.{Next, stop, more, walk}
-use Rattle.isdb_mmt.specs.Part.{part, partOf}
+use Rattle.isdb_mmt.specs.Part.{partAt, partOf}
 use Rattle.isdb_mmt.specs.Section.{length12, longSectionOf, entryAt, Loop, entriesFrom}
 use Rattle.isdb_mmt.specs.declared.table.section.SectionHeader.{SectionHeader}
 use Rattle.isdb_mmt.specs.declared.table.section.SectionError.the-variants.{Malformed}
@@ -29,12 +29,12 @@ use Rattle.isdb_mmt.specs.declared.table.nit.MaybePart.the-variants.{Non
 
 -- the loop of streams starts behind the network's descriptors and its own length
 abbrev pub streamsPart : List ℕ → Part
-streamsPart s = part (length12 s 0 + 4) (length12 s (length12 s 0 + 2))
+streamsPart s = partAt (length12 s 0 + 4) (length12 s (length12 s 0 + 2))
 
 abbrev pub nitLoop : SectionHeader → List ℕ → Loop → NitResult
 nitLoop h s l =
     if l .whole
-    then Ok h (record { descriptors = part 2 (length12 s 0); «loop_part» = streamsPart s; streams = length (l .found) })
+    then Ok h (record { descriptors = partAt 2 (length12 s 0); «loop_part» = streamsPart s; streams = length (l .found) })
     else Err Malformed
 
 -- reserved 4 bits, length of the network's descriptors 12, those, reserved 4, length of the loop of streams 12, streams,
@@ -76,7 +76,7 @@ unfoldable pub tlvStepAt : List ℕ → ℕ → TlvStep
 tlvStepAt s at =
     if length s - at <? 2 then noMore
     else if length s - (at + 2) <? getD s (at + 1) 0 then noMore
-    else descriptor (getD s at 0) (part (at + 2) (getD s (at + 1) 0)) (at + 2 + getD s (at + 1) 0)
+    else descriptor (getD s at 0) (partAt (at + 2) (getD s (at + 1) 0)) (at + 2 + getD s (at + 1) 0)
 
 pub record TlvDescriptor : Type 0 where
   pub tag : ℕ
@@ -116,7 +116,7 @@ frequencyOf tag s =
 
 -- the whole body of a descriptor that has the wanted tag
 unfoldable pub wholeBody : ℕ → ℕ → List ℕ → MaybePart
-wholeBody wanted tag s = if tag ≠? wanted then noPart else somePart (part 0 (length s))
+wholeBody wanted tag s = if tag ≠? wanted then noPart else somePart (partAt 0 (length s))
 
 -- the text of a network name descriptor
 abbrev pub networkName : ℕ → List ℕ → MaybePart

@@ -8,6 +8,7 @@ use lib.ListN.{length}
 use Rattle.isdb_tlv.specs.Guards.{if_then_else_, _≤?_, _=?_}
 use Rattle.isdb_mmt.specs.Mpu.{follows, lostFrom, completesOf}
 use Rattle.isdb_mmt.specs.Packet.{Bytes, PayloadUnit, MpuPacket, readable}
+use Rattle.isdb_mmt.specs.declared.decoder.counts.AssetStats.{AssetStats}
 use Rattle.isdb_mmt.specs.declared.maybe.MaybeU32.{MaybeU32}
 use Rattle.isdb_mmt.specs.declared.maybe.MaybeU32.the-variants.{None as noU32}
 use Rattle.isdb_mmt.specs.declared.mpu.FragmentationIndicator.{FragmentationIndicator}
@@ -32,32 +33,38 @@ pub record Asset : Type 0 where
   pub held : Option Mfu
   -- first and last MPU number
   pub range : Option (ℕ × ℕ)
-  pub packets : ℕ
-  pub lost : ℕ
-  pub scrambled : ℕ
-  pub mfus : ℕ
-  pub scrambledMfus : ℕ
-  pub dropped : ℕ
-  pub mpus : ℕ
-  pub jumps : ℕ
-  pub malformed : ℕ
+  pub stats : AssetStats
+
+abbrev pub noStats : AssetStats
+noStats =
+    record {
+      packets = 0;
+      «packets_lost» = 0;
+      «scrambled_packets» = 0;
+      mfus = 0;
+      «scrambled_mfus» = 0;
+      «mfus_dropped» = 0;
+      mpus = 0;
+      «mpu_sequence_jumps» = 0;
+      malformed = 0;
+    }
 
 unfoldable pub fresh : Asset
-fresh =
+fresh = record { number = none; mpu = none; held = none; range = none; stats = noStats }
+
+-- with so many objects delivered and dropped more
+abbrev pub objectsCounted : AssetStats → ℕ → ℕ → AssetStats
+objectsCounted s delivered dropped =
     record {
-      number = none;
-      mpu = none;
-      held = none;
-      range = none;
-      packets = 0;
-      lost = 0;
-      scrambled = 0;
-      mfus = 0;
-      scrambledMfus = 0;
-      dropped = 0;
-      mpus = 0;
-      jumps = 0;
-      malformed = 0;
+      packets = s .packets;
+      «packets_lost» = s .«packets_lost»;
+      «scrambled_packets» = s .«scrambled_packets»;
+      mfus = s .mfus + delivered;
+      «scrambled_mfus» = s .«scrambled_mfus»;
+      «mfus_dropped» = s .«mfus_dropped» + dropped;
+      mpus = s .mpus;
+      «mpu_sequence_jumps» = s .«mpu_sequence_jumps»;
+      malformed = s .malformed;
     }
 
 -- the largest object
@@ -104,15 +111,7 @@ afterUnit a r =
       mpu = a .mpu;
       held = r .held;
       range = a .range;
-      packets = a .packets;
-      lost = a .lost;
-      scrambled = a .scrambled;
-      mfus = a .mfus + length (r .outs);
-      scrambledMfus = a .scrambledMfus;
-      dropped = a .dropped + r .drops;
-      mpus = a .mpus;
-      jumps = a .jumps;
-      malformed = a .malformed;
+      stats = objectsCounted (a .stats) (length (r .outs)) (r .drops);
     }
 
 abbrev pub mpuIn : Option PayloadHeader → Option ℕ
@@ -184,15 +183,18 @@ afterHeaders a m =
       mpu = mpuAfter (a .mpu) (mpuIn (m .header));
       held = cond (gap (a .number) (m .number)) none (a .held);
       range = rangeAfter (newMpu (a .mpu) (mpuIn (m .header))) (a .range) (mpuIn (m .header));
-      packets = a .packets + 1;
-      lost = a .lost + lostBy (a .number) (m .number);
-      scrambled = a .scrambled + one (m .scrambled);
-      mfus = a .mfus;
-      scrambledMfus = a .scrambledMfus + one (m .scrambled && completes (m .header));
-      dropped = a .dropped + one (gap (a .number) (m .number) && isSome (a .held));
-      mpus = a .mpus + one (newMpu (a .mpu) (mpuIn (m .header)));
-      jumps = a .jumps + one (jumped (a .mpu) (mpuIn (m .header)));
-      malformed = a .malformed + one (malformedPayload m);
+      stats =
+          record {
+            packets = a .stats .packets + 1;
+            «packets_lost» = a .stats .«packets_lost» + lostBy (a .number) (m .number);
+            «scrambled_packets» = a .stats .«scrambled_packets» + one (m .scrambled);
+            mfus = a .stats .mfus;
+            «scrambled_mfus» = a .stats .«scrambled_mfus» + one (m .scrambled && completes (m .header));
+            «mfus_dropped» = a .stats .«mfus_dropped» + one (gap (a .number) (m .number) && isSome (a .held));
+            mpus = a .stats .mpus + one (newMpu (a .mpu) (mpuIn (m .header)));
+            «mpu_sequence_jumps» = a .stats .«mpu_sequence_jumps» + one (jumped (a .mpu) (mpuIn (m .header)));
+            malformed = a .stats .malformed + one (malformedPayload m);
+          };
     }
 
 unfoldable pub assetAfter : Asset → MpuPacket → Asset

@@ -7,5 +7,5 @@ use Rattle.isdb_mmt.specs.declared.part.Part.{Part}
 abbrev pub partOf : List ℕ → Part → List ℕ
 partOf s p = take (p .length) (drop (p .start) s)
 
-abbrev pub part : ℕ → ℕ → Part
-part start n = record { start = start; length = n }
+abbrev pub partAt : ℕ → ℕ → Part
+partAt start n = record { start = start; length = n }

@@ -7,10 +7,10 @@ use lib.ListN.{length}
 use Rattle.isdb_tlv.specs.Guards.{if_then_else_}
 use Rattle.isdb_tlv.specs.Si.{sectionsFrom}
 use Rattle.isdb_tlv.specs.declared.si.Section.{Section}
-use Rattle.isdb_mmt.specs.Part.{part as partFor, partOf}
+use Rattle.isdb_mmt.specs.Part.{partAt as partFor, partOf}
 use Rattle.isdb_mmt.specs.Packet.{Bytes}
 use Rattle.isdb_mmt.specs.Message.{contentOf, aggregatedFrom, tablesFrom}
-use Rattle.isdb_mmt.specs.Joins.{PartialMessage, partsOf, tablesOfAll, messagesOf}
+use Rattle.isdb_mmt.specs.Reassembly.{PartialMessage, partsOf, tablesOfAll, messagesOf}
 use Rattle.isdb_mmt.specs.Lent.{part}
 use Rattle.isdb_mmt.specs.declared.part.Part.{Part}
 use Rattle.isdb_mmt.specs.declared.message.Content.{Content}
@@ -28,8 +28,8 @@ placed from b p = record { at = from + p .start; bytes = partOf b p }
 abbrev pub joinOf : Bool → Bool → Bytes → PartialMessage
 joinOf long aggregated b = record { long = long; aggregated = aggregated; bytes = b }
 
-abbrev pub bytesOf : List Placed → List Bytes
-bytesOf xs = map (λ (x : Placed). x .bytes) xs
+abbrev pub tableBytes : List Placed → List Bytes
+tableBytes xs = map (λ (x : Placed). x .bytes) xs
 
 abbrev pub placedIn : ℕ → Bytes → Content → List Placed
 placedIn from m badMessage = []
@@ -66,9 +66,9 @@ unfoldable pub placedSections : Bytes → ℕ → List Placed
 placedSections b at = map (λ (x : Section). record { at = x .offset; bytes = part (x .offset) (x .length) b }) (sectionsFrom b at)
 
 -- bytes that stand at a place of others
-abbrev pub StandsAt : Bytes → ℕ → Bytes → Type 0
-StandsAt m at bs = bs ≡ part at (length bs) m
+abbrev pub PlacedAt : Bytes → ℕ → Bytes → Type 0
+PlacedAt m at bs = bs ≡ part at (length bs) m
 
-abbrev pub AllStand : Bytes → List Placed → Type 0
-AllStand m [] = Unit {0}
-AllStand m (x ∷ xs) = StandsAt m (x .at) (x .bytes) × AllStand m xs
+abbrev pub AllPlaced : Bytes → List Placed → Type 0
+AllPlaced m [] = Unit {0}
+AllPlaced m (x ∷ xs) = PlacedAt m (x .at) (x .bytes) × AllPlaced m xs

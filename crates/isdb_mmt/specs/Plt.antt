@@ -6,14 +6,14 @@ use mathlib.Core.Option.{Option, none, some}
 use lib.ListN.{length, getD, take, drop}
 use Rattle.isdb_tlv.specs.Guards.{if_then_else_, _<?_, _≤?_, _=?_, _≠?_}
 use Rattle.isdb_tlv.specs.Bytes.{be}
-use Rattle.isdb_mmt.specs.Part.{part}
+use Rattle.isdb_mmt.specs.Part.{partAt}
 use Rattle.isdb_mmt.specs.Location.{locationOf}
 use Rattle.isdb_mmt.specs.Timestamp.{isSome}
 use Rattle.isdb_mmt.specs.Mpt.{declaredLength}
 use Rattle.isdb_mmt.specs.declared.location.Located.{Located}
 use Rattle.isdb_mmt.specs.declared.location.Located.the-variants.{None as notLocated, Some as located}
-use Rattle.isdb_mmt.specs.declared.table.mpt.Place.{Place}
-use Rattle.isdb_mmt.specs.declared.table.mpt.Place.the-variants.{None as nowhere, At}
+use Rattle.isdb_mmt.specs.declared.maybe.MaybeUsize.{MaybeUsize}
+use Rattle.isdb_mmt.specs.declared.maybe.MaybeUsize.the-variants.{None as nowhere, Some as At}
 use Rattle.isdb_mmt.specs.declared.table.plt.Package.{Package}
 use Rattle.isdb_mmt.specs.declared.table.plt.PackageStep.{PackageStep}
 use Rattle.isdb_mmt.specs.declared.table.plt.PackageStep.the-variants.{Malformed as noPackage, Package as onePackage}
@@ -27,7 +27,7 @@ use Rattle.isdb_mmt.specs.declared.table.plt.MaybePlt.the-variants.{None
 abbrev pub packageIn : ℕ → ℕ → Located → PackageStep
 packageIn at n notLocated = noPackage
 packageIn at n (located l taken) =
-    onePackage (record { «package_id» = part (at + 1) n; location = l; «location_start» = at + 1 + n }) (at + 1 + n + taken)
+    onePackage (record { «package_id» = partAt (at + 1) n; location = l; «location_start» = at + 1 + n }) (at + 1 + n + taken)
 
 unfoldable pub packageAt : List ℕ → ℕ → PackageStep
 packageAt s at =
@@ -36,11 +36,11 @@ packageAt s at =
     else packageIn at (getD s at 0) (locationOf (drop (at + 1 + getD s at 0) s))
 
 -- behind `n` packages, the first of which stands at `at`
-abbrev pub behindPackage : (ℕ → Place) → PackageStep → Place
+abbrev pub behindPackage : (ℕ → MaybeUsize) → PackageStep → MaybeUsize
 behindPackage go noPackage = nowhere
 behindPackage go (onePackage p next) = go next
 
-abbrev pub packagesEnd : ℕ → List ℕ → ℕ → Place
+abbrev pub packagesEnd : ℕ → List ℕ → ℕ → MaybeUsize
 packagesEnd zero s at = At at
 packagesEnd (suc n) s at = behindPackage (packagesEnd n s) (packageAt s at)
 
@@ -54,7 +54,7 @@ packagesOf zero s at = []
 packagesOf (suc n) s at = withPackage (packagesOf n s) (packageAt s at)
 
 -- the location of an IP delivery, behind its type at the head of `s`: 10 bytes for IPv4, 34 for IPv6, a URL behind its length
-unfoldable pub deliverySize : List ℕ → Place
+unfoldable pub deliverySize : List ℕ → MaybeUsize
 deliverySize s =
     if getD s 0 0 =? 1 then At 10
     else if getD s 0 0 =? 2 then At 34
@@ -63,7 +63,7 @@ deliverySize s =
     else At (getD s 1 0 + 1)
 
 -- behind a location of `n` bytes stands the descriptors' length, which is not held against the end of the table
-abbrev pub deliveryBehind : List ℕ → ℕ → Place → DeliveryStep
+abbrev pub deliveryBehind : List ℕ → ℕ → MaybeUsize → DeliveryStep
 deliveryBehind s at nowhere = noDelivery
 deliveryBehind s at (At n) =
     if length s <? at + 7 + n then noDelivery
@@ -102,7 +102,7 @@ pltDeliveries s at =
     else if not (deliveriesWhole (getD s at 0) s (at + 1)) then None
     else pltWith s (getD s at 0) (at + 1)
 
-abbrev pub pltBehind : List ℕ → Place → MaybePlt
+abbrev pub pltBehind : List ℕ → MaybeUsize → MaybePlt
 pltBehind s nowhere = None
 pltBehind s (At at) = pltDeliveries s at
 
@@ -112,7 +112,7 @@ pltTable s =
     if length s <? 5 then None
     else pltBehind s (packagesEnd (getD s 4 0) s 5)
 
-abbrev pub pltIn : List ℕ → Place → MaybePlt
+abbrev pub pltIn : List ℕ → MaybeUsize → MaybePlt
 pltIn s nowhere = None
 pltIn s (At n) = pltTable (take n s)
 

@@ -18,7 +18,7 @@ use Rattle.isdb_mmt.specs.Session.{Session, limitsOf, usedOf, latestOf, 
 use Rattle.isdb_mmt.specs.Check.{mediaSound, controlSound, usedSound, latestSound, countersSound, mediaIn, controlsIn, sectionsIn, headSound, placesSound, namesSound, soundIn, sound}
 use Rattle.isdb_mmt.specs.View.{mfuOf, assetOfPlace, controlStateOf, viewBy, view}
 use Rattle.isdb_mmt.specs.Opening.{lent, openedState, openedSession}
-use Rattle.isdb_mmt.specs.Placing.{placeFor, controlFor, latestFor}
+use Rattle.isdb_mmt.specs.PlacesOf.{placeFor, controlFor, latestFor}
 use Rattle.isdb_mmt.specs.MediaPush.{mediaPlaceFor, assetNext, mediaLeaves}
 use Rattle.isdb_mmt.specs.Leaves.{sectionRows, keptOver, controlLeaves, messageIn, controlPlaceFor, messageLeaves, packetLeaves}
 use Rattle.isdb_mmt.specs.Push.{Input, packetOf, hasPlaces, hasAreas, hasOutputs, asksOf, asks, leavesAll}

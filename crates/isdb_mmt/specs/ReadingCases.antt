@@ -7,7 +7,7 @@ use mathlib.Core.List.{List, [], _∷_, _++_}
 use lib.ListN.{replicate}
 use Rattle.isdb_mmt.specs.Worked.{Case, _⇒_, Holds}
 use Rattle.isdb_mmt.specs.Packet.{Bytes}
-use Rattle.isdb_mmt.specs.Part.{part}
+use Rattle.isdb_mmt.specs.Part.{partAt}
 use Rattle.isdb_mmt.specs.Location.{sized, locationOf}
 use Rattle.isdb_mmt.specs.Kept.{parsesAs}
 use Rattle.isdb_mmt.specs.Mpt.{assetFields, assetAt, serviceId}
@@ -218,7 +218,7 @@ cases =
       rap = false;
       mfu = someMfu (record { «movie_fragment_sequence_number» = 0; «sample_number» = 0; offset = 0; priority = 0; «dependency_counter» = 0 });
       «item_id» = noU32;
-      bytes = part 2 2;
+      bytes = partAt 2 2;
     })))
     ∷ (heldIn (leavesAll (openedSession two blank) (input 36 2 (completeOf 5 ab) ∷ [])) 0xF100 ⇒ object noObject)
     -- a control id whose message is being joined, and one whose message is whole
@@ -249,18 +249,18 @@ cases =
     ∷ (assetIn mpts 0xF100
     ⇒ asset (theAsset (record {
       «control_id» = 0x8001;
-      mpt = part 64 29;
+      mpt = partAt 64 29;
       «service_id» = someU16 0x0065;
       asset =
           record {
             «identifier_type» = 0;
             «asset_id_scheme» = 0;
-            «asset_id» = part 17 1;
+            «asset_id» = partAt 17 1;
             «asset_type» = 0x68657631;
             «clock_relation» = false;
             locations = 1;
             «locations_start» = 24;
-            descriptors = part 29 0;
+            descriptors = partAt 29 0;
           };
     })))
     ∷ (assetIn mpts 0xF101 ⇒ asset noAsset)

@@ -10,14 +10,13 @@ use Rattle.isdb_mmt.specs.Packet.{Bytes}
 use Rattle.isdb_mmt.specs.Part.{partOf}
 use Rattle.isdb_mmt.specs.Maps.{find}
 use Rattle.isdb_mmt.specs.Objects.{Mfu, Asset}
-use Rattle.isdb_mmt.specs.Joins.{PartialMessage}
+use Rattle.isdb_mmt.specs.Reassembly.{PartialMessage}
 use Rattle.isdb_mmt.specs.Model.{Control as ControlLine}
 use Rattle.isdb_mmt.specs.Lent.{among}
 use Rattle.isdb_mmt.specs.Octets.{Octets}
 use Rattle.isdb_mmt.specs.Session.{Session}
 use Rattle.isdb_mmt.specs.Check.{sound}
 use Rattle.isdb_mmt.specs.View.{view}
-use Rattle.isdb_mmt.specs.Placing.{statsFor}
 use Rattle.isdb_mmt.specs.Readings.{mediaNames, controlNames, keysIn, countersRead, timeRead, countRead, mostName, ascending, nextMediaRead, nextControlRead, nextKeyRead, mediaRead, heldRead, controlRead}
 use Rattle.isdb_mmt.specs.declared.maybe.MaybeU32.{MaybeU32}
 use Rattle.isdb_mmt.specs.declared.maybe.MaybeU32.the-variants.{None as noU32, Some as someU32}
@@ -75,7 +74,7 @@ mediaTold none = noMedia
 mediaTold (some a) =
     theMedia
     (record {
-      stats = statsFor a;
+      stats = a .stats;
       sequence = u32Told (a .number);
       «mpu_range» = rangeTold (a .range);
       held = objectLength (a .held);
@@ -107,7 +106,7 @@ HeldTold b r (some a) = HeldIs b r (a .held)
 
 abbrev pub controlTold : Option ControlLine → ControlReading
 controlTold none = noControl
-controlTold (some c) = theControl (record { sequence = u32Told (c .line .number); joined = joinedLength (c .line .part) })
+controlTold (some c) = theControl (record { sequence = u32Told (c .reassembly .number); joined = joinedLength (c .reassembly .partial) })
 
 pub record IdsTold (s : Session) : Type 0 where
   pub media : (id : ℕ) → mediaRead s id ≡ mediaTold (find id (view s .assets))

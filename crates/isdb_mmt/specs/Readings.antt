@@ -7,7 +7,7 @@ use mathlib.Core.List.{List, [], _∷_}
 use lib.ListN.{length, getD}
 use Rattle.isdb_tlv.specs.Guards.{if_then_else_, _<?_, _=?_}
 use Rattle.isdb_mmt.specs.Packet.{Bytes}
-use Rattle.isdb_mmt.specs.Part.{part, partOf}
+use Rattle.isdb_mmt.specs.Part.{partAt, partOf}
 use Rattle.isdb_mmt.specs.Lent.{namesFrom, foundFrom}
 use Rattle.isdb_mmt.specs.Layout.{mediaPlaces, mediaSize, controlPlaces, controlSize, sectionPlaces, sectionSize}
 use Rattle.isdb_mmt.specs.Session.{Session, limitsOf, usedOf, latestOf, timeOf, countersOf, mediaAt, controlAt, sectionAt}
@@ -166,7 +166,7 @@ heldObject l i m =
       rap = m .object .rap;
       mfu = headerGiven (m .object .timed) (m .object .header);
       «item_id» = itemGiven (m .object .item) (m .object .«item_id»);
-      bytes = part (i * l .«mfu_area») (m .object .length);
+      bytes = partAt (i * l .«mfu_area») (m .object .length);
     }
 
 abbrev pub heldAt : Limits → ℕ → Media → HeldReading
@@ -192,7 +192,7 @@ controlRead s id = if sound s then controlIf s (controlFound s id) else controlR
 -- ---- kept tables: of the tables' areas, section places come first, then the MPT of each control place, the PLT and the TOT
 
 abbrev pub areaPart : Limits → ℕ → ℕ → Part
-areaPart l i n = part (i * l .«table_area») n
+areaPart l i n = partAt (i * l .«table_area») n
 
 abbrev pub sectionPart : Session → Found → Option Part
 sectionPart s nowhere = none

@@ -7,7 +7,7 @@ use Rattle.isdb_tlv.specs.Guards.{if_then_else_, _<?_, _≤?_, _=?_, _≠?_}
 use Rattle.isdb_tlv.specs.Bytes.{be}
 use Rattle.isdb_tlv.specs.Crc.{crcOf}
 use Rattle.isdb_tlv.specs.Walk.{Next, stop, more, walk}
-use Rattle.isdb_mmt.specs.Part.{part, partOf}
+use Rattle.isdb_mmt.specs.Part.{partAt, partOf}
 use Rattle.isdb_mmt.specs.Desc.{broken}
 use Rattle.isdb_mmt.specs.declared.table.section.SectionHeader.{SectionHeader}
 use Rattle.isdb_mmt.specs.declared.table.section.SectionError.the-variants.{Truncated, Crc}
@@ -33,7 +33,7 @@ headerOf s n =
       current = getD s 5 0 % 2 =? 1;
       «section_number» = getD s 6 0;
       «last_section_number» = getD s 7 0;
-      body = part 8 n;
+      body = partAt 8 n;
     }
 
 -- the section length counts what stands behind it: five bytes of header at least, and a CRC over all. The body is what is
@@ -52,7 +52,7 @@ entryAt s k at =
     if length s ≤? at then End
     else if length s - at <? k + 2 then malformed
     else if length s - (at + k + 2) <? length12 s (at + k) then malformed
-    else entry (record { at = at; descriptors = part (at + k + 2) (length12 s (at + k)) }) (at + k + 2 + length12 s (at + k))
+    else entry (record { at = at; descriptors = partAt (at + k + 2) (length12 s (at + k)) }) (at + k + 2 + length12 s (at + k))
 
 -- the entries from a place on; how many of their descriptor loops break; whether they end with the bytes
 pub record Loop : Type 0 where

@@ -15,19 +15,19 @@ use Rattle.isdb_mmt.specs.Lent.{part, over}
 use Rattle.isdb_mmt.specs.Session.{limitsOf, usedOf, latestOf, countersFields}
 use Rattle.isdb_mmt.specs.MediaPush.{withUsed}
 use Rattle.isdb_mmt.specs.Commit.{putTables, loggedFrom, CanStore}
-use Rattle.isdb_mmt.specs.Verdict.{indexSize}
+use Rattle.isdb_mmt.specs.TableOutcome.{indexSize}
 use Rattle.isdb_mmt.specs.declared.decoder.limits.Limits.{Limits}
 use Rattle.isdb_mmt.specs.declared.decoder.counts.Counters.{Counters}
 use Rattle.isdb_mmt.specs.declared.decoder.head.Used.{Used}
 use Rattle.isdb_mmt.specs.declared.decoder.head.Latest.{Latest}
-use Rattle.isdb_mmt.specs.declared.decoder.verdict.Recent.{Recent}
-use Rattle.isdb_mmt.specs.declared.decoder.walk.Going.{Going}
+use Rattle.isdb_mmt.specs.declared.decoder.table_outcome.Recent.{Recent}
+use Rattle.isdb_mmt.specs.declared.decoder.walk.WalkState.{WalkState}
 
 -- a table of `n` bytes in the area that starts at `at`
 abbrev pub recentAt : List ℕ → ℕ → Bool → ℕ → Recent
 recentAt t at there n = record { there = there; version = be 1 (part at n t) 1; from = 0; length = n }
 
-abbrev pub startOf : Counters → ℕ → Recent → Recent → Recent → Going
+abbrev pub startOf : Counters → ℕ → Recent → Recent → Recent → WalkState
 startOf c used mpt plt tot =
     record {
       used = used;
@@ -44,7 +44,7 @@ startOf c used mpt plt tot =
       full = false;
     }
 
-abbrev pub countersWith : Counters → Going → Counters
+abbrev pub countersWith : Counters → WalkState → Counters
 countersWith c g =
     record {
       «tlv_packets» = c .«tlv_packets»;
@@ -72,8 +72,8 @@ pltAt state = (limitsOf state .sections + limitsOf state .«control_ids») * lim
 abbrev pub totAt : List ℕ → ℕ
 totAt state = (limitsOf state .sections + limitsOf state .«control_ids» + 1) * limitsOf state .«table_area»
 
-abbrev pub goingIn : List ℕ → List ℕ → Counters → Recent → Going
-goingIn state t c mpt =
+abbrev pub walkStart : List ℕ → List ℕ → Counters → Recent → WalkState
+walkStart state t c mpt =
     startOf c (usedOf state .sections) mpt (recentAt t (pltAt state) (latestOf state .plt) (latestOf state .«plt_length»))
     (recentAt t (totAt state) (latestOf state .tot) (latestOf state .«tot_length»))
 
@@ -81,7 +81,7 @@ goingIn state t c mpt =
 abbrev pub recentLength : Recent → ℕ
 recentLength r = if r .there then r .length else 0
 
-abbrev pub latestWith : Going → Latest
+abbrev pub latestWith : WalkState → Latest
 latestWith g =
     record {
       plt = g .plt .there;
@@ -91,7 +91,7 @@ latestWith g =
     }
 
 -- questions 8 and 9 of the tables, from a walk
-unfoldable pub tablesAsk : Limits → Going → ℕ
+unfoldable pub tablesAsk : Limits → WalkState → ℕ
 tablesAsk l g =
     if g .full then 8
     else if l .sections <? g .used then 8
@@ -118,13 +118,13 @@ signalOf b = control (map (λ (x : Section). take (x .length) (drop (x .offset) 
 abbrev pub withSectionsUsed : Used → ℕ → Used
 withSectionsUsed u n = record { «media_ids» = u .«media_ids»; «control_ids» = u .«control_ids»; sections = n }
 
-pub record CanLeave (state others tables ix log mine : List ℕ) (g : Going) (b : Bytes) : Type 0 where
+pub record CanLeave (state others tables ix log mine : List ℕ) (g : WalkState) (b : Bytes) : Type 0 where
   pub areas : CanStore tables ix log (g .used) (limitsOf state .«table_area») b
   pub counts : length others ≡ length mine
   pub long : stateSize ≤ length state
   pub indexLong : length ix ≡ indexSize
 
-pub record SectionsLeft (state tables ix log mine : List ℕ) (c : Counters) (g : Going) (b : Bytes) (state′ others′ tables′ : List ℕ) : Type 0 where
+pub record SectionsLeft (state tables ix log mine : List ℕ) (c : Counters) (g : WalkState) (b : Bytes) (state′ others′ tables′ : List ℕ) : Type 0 where
   pub areas : tables′ ≡ putTables (limitsOf state .«table_area») 0 (loggedFrom (g .used) 0 ix log) b tables
   pub counts : others′ ≡ mine
   pub places : state′ ≡ over countersPlace (written (countersFields (countersWith c g))) (over sectionPlaces (take (sectionSize * g .used) ix) (withUsed (withSectionsUsed (usedOf state) (g .used)) state))

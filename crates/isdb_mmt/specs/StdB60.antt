@@ -8,7 +8,7 @@ use lib.ListN.{length, drop}
 use Rattle.isdb_tlv.specs.Guards.{_=?_}
 use Rattle.isdb_tlv.specs.Crc.{crcOf}
 use Rattle.isdb_tlv.specs.Fields.{bytesOf, Field, field, bits, packed, written}
-use Rattle.isdb_mmt.specs.Part.{part, partOf}
+use Rattle.isdb_mmt.specs.Part.{partAt, partOf}
 use Rattle.isdb_mmt.specs.Desc.{lengthWidth, RawDescriptor, splitOf}
 use Rattle.isdb_mmt.specs.Location.{locationOf}
 use Rattle.isdb_mmt.specs.Section.{longSectionOf}
@@ -47,66 +47,66 @@ pub record LoopRead (ds : List Descriptor) : Type 0 where
   pub whole : splitOf (loopSent ds) .broke ≡ none
 
 -- Table 7-9: MMT_general_location_info
-pub data Place : Type 0 where
+pub data SentLocation : Type 0 where
   -- packet id
-  sameFlow : ℕ → Place
+  sameFlow : ℕ → SentLocation
   -- IPv4 source and destination, destination port, packet id
-  ipv4 : ℕ → ℕ → ℕ → ℕ → Place
+  ipv4 : ℕ → ℕ → ℕ → ℕ → SentLocation
   -- IPv6 source and destination in halves, destination port, packet id
-  ipv6 : ℕ → ℕ → ℕ → ℕ → ℕ → ℕ → Place
+  ipv6 : ℕ → ℕ → ℕ → ℕ → ℕ → ℕ → SentLocation
   -- network id, MPEG-2 transport stream id, reserved bits with the PID
-  mpeg2Ts : ℕ → ℕ → ℕ → Place
+  mpeg2Ts : ℕ → ℕ → ℕ → SentLocation
   -- IPv6 source and destination in halves, destination port, reserved bits with the PID
-  mpeg2TsIpv6 : ℕ → ℕ → ℕ → ℕ → ℕ → ℕ → Place
+  mpeg2TsIpv6 : ℕ → ℕ → ℕ → ℕ → ℕ → ℕ → SentLocation
   -- the bytes of a URL
-  url : List ℕ → Place
+  url : List ℕ → SentLocation
 
-abbrev pub placeFields : Place → List Field
-placeFields (sameFlow id) = field 1 0x00 ∷ field 2 id ∷ []
-placeFields (ipv4 src dst port id) = field 1 0x01 ∷ field 4 src ∷ field 4 dst ∷ field 2 port ∷ field 2 id ∷ []
-placeFields (ipv6 sh sl dh dl port id) =
+abbrev pub locationFields : SentLocation → List Field
+locationFields (sameFlow id) = field 1 0x00 ∷ field 2 id ∷ []
+locationFields (ipv4 src dst port id) = field 1 0x01 ∷ field 4 src ∷ field 4 dst ∷ field 2 port ∷ field 2 id ∷ []
+locationFields (ipv6 sh sl dh dl port id) =
     field 1 0x02 ∷ field 8 sh ∷ field 8 sl ∷ field 8 dh ∷ field 8 dl ∷ field 2 port ∷ field 2 id ∷ []
-placeFields (mpeg2Ts network ts pid) = field 1 0x03 ∷ field 2 network ∷ field 2 ts ∷ field 2 pid ∷ []
-placeFields (mpeg2TsIpv6 sh sl dh dl port pid) =
+locationFields (mpeg2Ts network ts pid) = field 1 0x03 ∷ field 2 network ∷ field 2 ts ∷ field 2 pid ∷ []
+locationFields (mpeg2TsIpv6 sh sl dh dl port pid) =
     field 1 0x04 ∷ field 8 sh ∷ field 8 sl ∷ field 8 dh ∷ field 8 dl ∷ field 2 port ∷ field 2 pid ∷ []
-placeFields (url b) = field 1 0x05 ∷ field 1 (length b) ∷ []
+locationFields (url b) = field 1 0x05 ∷ field 1 (length b) ∷ []
 
 -- only a URL has bytes behind its fields
-abbrev pub placeBytes : Place → List ℕ
-placeBytes (sameFlow id) = []
-placeBytes (ipv4 src dst port id) = []
-placeBytes (ipv6 sh sl dh dl port id) = []
-placeBytes (mpeg2Ts network ts pid) = []
-placeBytes (mpeg2TsIpv6 sh sl dh dl port pid) = []
-placeBytes (url b) = b
+abbrev pub locationBytes : SentLocation → List ℕ
+locationBytes (sameFlow id) = []
+locationBytes (ipv4 src dst port id) = []
+locationBytes (ipv6 sh sl dh dl port id) = []
+locationBytes (mpeg2Ts network ts pid) = []
+locationBytes (mpeg2TsIpv6 sh sl dh dl port pid) = []
+locationBytes (url b) = b
 
-abbrev pub placeSent : Place → List ℕ
-placeSent p = written (placeFields p) ++ placeBytes p
+abbrev pub locationSent : SentLocation → List ℕ
+locationSent p = written (locationFields p) ++ locationBytes p
 
 -- every value fits its field
-abbrev pub PlaceConforming : Place → Type 0
-PlaceConforming (sameFlow id) = id < 2 ^ 16
-PlaceConforming (ipv4 src dst port id) = (src < 2 ^ 32) × (dst < 2 ^ 32) × (port < 2 ^ 16) × (id < 2 ^ 16)
-PlaceConforming (ipv6 sh sl dh dl port id) =
+abbrev pub LocationConforming : SentLocation → Type 0
+LocationConforming (sameFlow id) = id < 2 ^ 16
+LocationConforming (ipv4 src dst port id) = (src < 2 ^ 32) × (dst < 2 ^ 32) × (port < 2 ^ 16) × (id < 2 ^ 16)
+LocationConforming (ipv6 sh sl dh dl port id) =
     (sh < 2 ^ 64) × (sl < 2 ^ 64) × (dh < 2 ^ 64) × (dl < 2 ^ 64) × (port < 2 ^ 16) × (id < 2 ^ 16)
-PlaceConforming (mpeg2Ts network ts pid) = (network < 2 ^ 16) × (ts < 2 ^ 16) × (pid < 2 ^ 16)
-PlaceConforming (mpeg2TsIpv6 sh sl dh dl port pid) =
+LocationConforming (mpeg2Ts network ts pid) = (network < 2 ^ 16) × (ts < 2 ^ 16) × (pid < 2 ^ 16)
+LocationConforming (mpeg2TsIpv6 sh sl dh dl port pid) =
     (sh < 2 ^ 64) × (sl < 2 ^ 64) × (dh < 2 ^ 64) × (dl < 2 ^ 64) × (port < 2 ^ 16) × (pid < 2 ^ 16)
-PlaceConforming (url b) = length b < 2 ^ 8
+LocationConforming (url b) = length b < 2 ^ 8
 
 -- what is read of each
-abbrev pub locationSeen : Place → Location
+abbrev pub locationSeen : SentLocation → Location
 locationSeen (sameFlow id) = SameFlow id
 locationSeen (ipv4 src dst port id) = Ipv4 src dst port id
 locationSeen (ipv6 sh sl dh dl port id) = Ipv6 sh sl dh dl port id
 locationSeen (mpeg2Ts network ts pid) = Mpeg2Ts network ts pid
 locationSeen (mpeg2TsIpv6 sh sl dh dl port pid) = Mpeg2TsIpv6 port pid
-locationSeen (url b) = Url (part 2 (length b))
+locationSeen (url b) = Url (partAt 2 (length b))
 
 -- whatever follows it
-pub record PlaceRead (p : Place) (r : List ℕ) : Type 0 where
-  pub location : locationOf (placeSent p ++ r) ≡ located (locationSeen p) (length (placeSent p))
-  pub rest : drop (length (placeSent p)) (placeSent p ++ r) ≡ r
+pub record LocationRead (p : SentLocation) (r : List ℕ) : Type 0 where
+  pub location : locationOf (locationSent p ++ r) ≡ located (locationSeen p) (length (locationSent p))
+  pub rest : drop (length (locationSent p)) (locationSent p ++ r) ≡ r
 
 -- 7.2.3.2: the header of a section of the extended form; reserved bits as the sender likes
 pub record Header : Type 0 where
@@ -121,8 +121,8 @@ pub record Header : Type 0 where
 
 -- table id, syntax indicator 1, reserved, section length, table id extension, reserved, version, current next indicator,
 -- section number, last section number; the length counts what stands behind it, the CRC included
-abbrev pub headerFields : Header → ℕ → List Field
-headerFields h n =
+abbrev pub sectionHeaderFields : Header → ℕ → List Field
+sectionHeaderFields h n =
     field 1 (h .tableId)
     ∷ field 2 (packed (bits 1 1 ∷ bits 3 (h .reserved) ∷ bits 12 (n + 9) ∷ []))
     ∷ field 2 (h .extension)
@@ -136,7 +136,7 @@ abbrev pub withCrc : List ℕ → List ℕ
 withCrc m = m ++ bytesOf 4 (crcOf m)
 
 unfoldable pub sectionSent : Header → List ℕ → List ℕ
-sectionSent h body = withCrc (written (headerFields h (length body)) ++ body)
+sectionSent h body = withCrc (written (sectionHeaderFields h (length body)) ++ body)
 
 pub record HeaderConforming (h : Header) : Type 0 where
   pub tableId : h .tableId < 2 ^ 8
@@ -158,7 +158,7 @@ headerSeen h n =
       current = h .current =? 1;
       «section_number» = h .number;
       «last_section_number» = h .last;
-      body = part 8 n;
+      body = partAt 8 n;
     }
 
 pub record SectionRead (h : Header) (body : List ℕ) : Type 0 where
@@ -169,8 +169,8 @@ pub record SectionRead (h : Header) (body : List ℕ) : Type 0 where
 abbrev pub LoopTheorem : Type 0
 LoopTheorem = (ds : List Descriptor) → LoopConforming ds → LoopRead ds
 
-abbrev pub PlaceTheorem : Type 0
-PlaceTheorem = (p : Place) → PlaceConforming p → (r : List ℕ) → PlaceRead p r
+abbrev pub LocationTheorem : Type 0
+LocationTheorem = (p : SentLocation) → LocationConforming p → (r : List ℕ) → LocationRead p r
 
 abbrev pub SectionTheorem : Type 0
 SectionTheorem = (h : Header) → HeaderConforming h → (body : List ℕ) → length body + 9 < 2 ^ 12 → SectionRead h body

@@ -7,7 +7,7 @@ use mathlib.Core.List.{List, [], _∷_, _++_, map}
 use lib.ListN.{length}
 use Rattle.isdb_tlv.specs.Guards.{_=?_}
 use Rattle.isdb_tlv.specs.Fields.{Field, field, bits, packed, written, Fit}
-use Rattle.isdb_mmt.specs.Part.{part, partOf}
+use Rattle.isdb_mmt.specs.Part.{partAt, partOf}
 use Rattle.isdb_mmt.specs.StdB60.{Descriptor, loopSent, LoopConforming, Header, HeaderConforming, headerSeen, sectionSent}
 use Rattle.isdb_mmt.specs.Eit.{eitOf, eventsOf}
 use Rattle.isdb_mmt.specs.Sdt.{sdtOf, servicesOf}
@@ -277,12 +277,12 @@ pub record BitRead (t : SentBit) : Type 0 where
   pub section : bitOf (sectionSent (t .header) (bitBodySent t)) ≡ record {
     result = bitOk (headerSeen (t .header) (length (bitBodySent t))) (record {
       «broadcast_view_propriety» = t .viewPropriety =? 1;
-      descriptors = part 2 (length (loopSent (t .descriptors)));
+      descriptors = partAt 2 (length (loopSent (t .descriptors)));
       broadcasters = length (t .broadcasters);
     });
     breaks = 0;
   }
-  pub descriptors : partOf (bitBodySent t) (part 2 (length (loopSent (t .descriptors)))) ≡ loopSent (t .descriptors)
+  pub descriptors : partOf (bitBodySent t) (partAt 2 (length (loopSent (t .descriptors)))) ≡ loopSent (t .descriptors)
   pub broadcasters : map (broadcasterSeen (bitBodySent t)) (broadcastersOf (bitBodySent t)) ≡ map broadcasterValue (t .broadcasters)
 
 -- TLV-NIT: TLV-SI descriptors (5.3) go as the bytes of their loop; a stream
@@ -332,12 +332,12 @@ streamValue e = (e .tlvStreamId, (e .originalNetworkId, e .loop))
 
 pub record NitRead (t : SentNit) : Type 0 where
   pub section : nitOf (sectionSent (t .header) (nitBodySent t)) ≡ nitOk (headerSeen (t .header) (length (nitBodySent t))) (record {
-    descriptors = part 2 (length (t .descriptors));
-    «loop_part» = part (length (t .descriptors) + 4) (length (nitStreams t));
+    descriptors = partAt 2 (length (t .descriptors));
+    «loop_part» = partAt (length (t .descriptors) + 4) (length (nitStreams t));
     streams = length (t .streams);
   })
-  pub descriptors : partOf (nitBodySent t) (part 2 (length (t .descriptors))) ≡ t .descriptors
-  pub loop : partOf (nitBodySent t) (part (length (t .descriptors) + 4) (length (nitStreams t))) ≡ nitStreams t
+  pub descriptors : partOf (nitBodySent t) (partAt 2 (length (t .descriptors))) ≡ t .descriptors
+  pub loop : partOf (nitBodySent t) (partAt (length (t .descriptors) + 4) (length (nitStreams t))) ≡ nitStreams t
   pub streams : map (streamSeen (nitStreams t)) (streamsOf (nitStreams t)) ≡ map streamValue (t .streams)
 
 -- proved in proofs/StdB60Sections.antt

@@ -9,8 +9,8 @@ use lib.ListN.{length}
 use Rattle.isdb_tlv.specs.Guards.{_=?_}
 use Rattle.isdb_tlv.specs.Fields.{Field, field, bits, packed, written, Fit}
 use Rattle.isdb_tlv.specs.declared.ip.Address.the-variants.{V4, V6}
-use Rattle.isdb_mmt.specs.Part.{part, partOf}
-use Rattle.isdb_mmt.specs.StdB60.{Descriptor, loopSent, LoopConforming, Place, placeSent, PlaceConforming, locationSeen, Header, HeaderConforming, headerSeen, sectionSent, withCrc}
+use Rattle.isdb_mmt.specs.Part.{partAt, partOf}
+use Rattle.isdb_mmt.specs.StdB60.{Descriptor, loopSent, LoopConforming, SentLocation, locationSent, LocationConforming, locationSeen, Header, HeaderConforming, headerSeen, sectionSent, withCrc}
 use Rattle.isdb_mmt.specs.StdB60Sections.{All}
 use Rattle.isdb_mmt.specs.Amt.{amtOf, servicesFrom}
 use Rattle.isdb_mmt.specs.Tot.{totOf}
@@ -123,15 +123,15 @@ pub record TotConforming (t : SentTot) : Type 0 where
 
 pub record TotRead (t : SentTot) : Type 0 where
   pub section : totOf (totSent t) ≡ record {
-    result = totOk (record { jst = t .jst; descriptors = part 10 (length (loopSent (t .descriptors))) });
+    result = totOk (record { jst = t .jst; descriptors = partAt 10 (length (loopSent (t .descriptors))) });
     breaks = 0;
   }
-  pub descriptors : partOf (totSent t) (part 10 (length (loopSent (t .descriptors)))) ≡ loopSent (t .descriptors)
+  pub descriptors : partOf (totSent t) (partAt 10 (length (loopSent (t .descriptors)))) ≡ loopSent (t .descriptors)
 
 -- MPT: an asset
-abbrev pub placesSent : List Place → List ℕ
-placesSent [] = []
-placesSent (p ∷ ps) = placeSent p ++ placesSent ps
+abbrev pub locationsSent : List SentLocation → List ℕ
+locationsSent [] = []
+locationsSent (p ∷ ps) = locationSent p ++ locationsSent ps
 
 pub record SentAsset : Type 0 where
   pub identifierType : ℕ
@@ -140,7 +140,7 @@ pub record SentAsset : Type 0 where
   pub assetType : ℕ
   pub reserved : ℕ
   pub clockRelation : ℕ
-  pub locations : List Place
+  pub locations : List SentLocation
   pub descriptors : List Descriptor
 
 abbrev pub assetHead : SentAsset → List Field
@@ -155,7 +155,7 @@ assetMiddle a =
 
 abbrev pub assetSent : SentAsset → List ℕ
 assetSent a =
-    written (assetHead a) ++ a .assetId ++ written (assetMiddle a) ++ placesSent (a .locations)
+    written (assetHead a) ++ a .assetId ++ written (assetMiddle a) ++ locationsSent (a .locations)
     ++ written (field 2 (length (loopSent (a .descriptors))) ∷ []) ++ loopSent (a .descriptors)
 
 abbrev pub assetsSent : List SentAsset → List ℕ
@@ -169,7 +169,7 @@ pub record AssetConforming (a : SentAsset) : Type 0 where
   pub assetType : a .assetType < 2 ^ 32
   pub reserved : a .reserved < 2 ^ 7
   pub clockRelation : a .clockRelation < 2
-  pub places : All PlaceConforming (a .locations)
+  pub places : All LocationConforming (a .locations)
   pub locations : length (a .locations) < 2 ^ 8
   pub descriptors : LoopConforming (a .descriptors)
   pub loop : length (loopSent (a .descriptors)) < 2 ^ 16
@@ -254,24 +254,24 @@ pub record MptRead (t : SentMpt) : Type 0 where
       «table_id» = t .tableId;
       version = t .version;
       mode = t .mode;
-      «package_id» = part 6 (length (t .packageId));
-      descriptors = part (mptLoopStart t) (length (loopSent (t .descriptors)));
+      «package_id» = partAt 6 (length (t .packageId));
+      descriptors = partAt (mptLoopStart t) (length (loopSent (t .descriptors)));
       assets = length (t .assets);
       start = mptAssetsStart t;
     });
     breaks = 0;
   }
-  pub packageId : partOf (mptSent t) (part 6 (length (t .packageId))) ≡ t .packageId
-  pub descriptors : partOf (mptSent t) (part (mptLoopStart t) (length (loopSent (t .descriptors)))) ≡ loopSent (t .descriptors)
+  pub packageId : partOf (mptSent t) (partAt 6 (length (t .packageId))) ≡ t .packageId
+  pub descriptors : partOf (mptSent t) (partAt (mptLoopStart t) (length (loopSent (t .descriptors)))) ≡ loopSent (t .descriptors)
   pub assets : map (assetSeen (mptSent t)) (assetsFrom (length (t .assets)) (mptSent t) (mptAssetsStart t) .found) ≡ map assetValue (t .assets)
 
 -- PLT: a package, and an IP delivery
 pub record SentPackage : Type 0 where
   pub packageId : List ℕ
-  pub location : Place
+  pub location : SentLocation
 
 abbrev pub packageSent : SentPackage → List ℕ
-packageSent p = written (field 1 (length (p .packageId)) ∷ []) ++ p .packageId ++ placeSent (p .location)
+packageSent p = written (field 1 (length (p .packageId)) ∷ []) ++ p .packageId ++ locationSent (p .location)
 
 abbrev pub packagesSent : List SentPackage → List ℕ
 packagesSent [] = []
@@ -279,7 +279,7 @@ packagesSent (p ∷ l) = packageSent p ++ packagesSent l
 
 pub record PackageConforming (p : SentPackage) : Type 0 where
   pub packageId : length (p .packageId) < 2 ^ 8
-  pub location : PlaceConforming (p .location)
+  pub location : LocationConforming (p .location)
 
 abbrev pub packageSeen : List ℕ → Package → List ℕ × Location
 packageSeen s p = (partOf s (p .«package_id»), p .location)
@@ -298,10 +298,10 @@ deliveryType (overIpv4 s d p) = 1
 deliveryType (overIpv6 sh sl dh dl p) = 2
 deliveryType (atUrl b) = 5
 
-abbrev pub deliveryPlace : Delivery → List ℕ
-deliveryPlace (overIpv4 s d p) = written (field 4 s ∷ field 4 d ∷ field 2 p ∷ [])
-deliveryPlace (overIpv6 sh sl dh dl p) = written (field 8 sh ∷ field 8 sl ∷ field 8 dh ∷ field 8 dl ∷ field 2 p ∷ [])
-deliveryPlace (atUrl b) = written (field 1 (length b) ∷ []) ++ b
+abbrev pub deliveryLocation : Delivery → List ℕ
+deliveryLocation (overIpv4 s d p) = written (field 4 s ∷ field 4 d ∷ field 2 p ∷ [])
+deliveryLocation (overIpv6 sh sl dh dl p) = written (field 8 sh ∷ field 8 sl ∷ field 8 dh ∷ field 8 dl ∷ field 2 p ∷ [])
+deliveryLocation (atUrl b) = written (field 1 (length b) ∷ []) ++ b
 
 abbrev pub DeliveryConforming : Delivery → Type 0
 DeliveryConforming (overIpv4 s d p) = (s < 2 ^ 32) × (d < 2 ^ 32) × (p < 2 ^ 16)
@@ -315,7 +315,7 @@ pub record SentDelivery : Type 0 where
 
 abbrev pub deliverySent : SentDelivery → List ℕ
 deliverySent x =
-    written (field 4 (x .fileId) ∷ field 1 (deliveryType (x .place)) ∷ []) ++ deliveryPlace (x .place)
+    written (field 4 (x .fileId) ∷ field 1 (deliveryType (x .place)) ∷ []) ++ deliveryLocation (x .place)
     ++ written (field 2 (length (x .loop)) ∷ []) ++ x .loop
 
 abbrev pub deliveriesSent : List SentDelivery → List ℕ

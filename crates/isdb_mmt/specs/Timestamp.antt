@@ -7,7 +7,7 @@ use lib.ListN.{length, getD}
 use Rattle.isdb_tlv.specs.Guards.{if_then_else_, _<?_, _≤?_, _=?_}
 use Rattle.isdb_tlv.specs.Bytes.{be}
 use Rattle.isdb_tlv.specs.Walk.{Next, stop, more, walk}
-use Rattle.isdb_mmt.specs.Part.{part}
+use Rattle.isdb_mmt.specs.Part.{partAt}
 use Rattle.isdb_mmt.specs.declared.maybe.MaybeU16.{MaybeU16}
 use Rattle.isdb_mmt.specs.declared.maybe.MaybeU16.the-variants.{None as noU16, Some as someU16}
 use Rattle.isdb_mmt.specs.declared.maybe.MaybeU32.{MaybeU32}
@@ -54,7 +54,7 @@ mpuAt s own at =
     if length s ≤? at then End
     else if length s - at <? 8 then Broken
     else if length s - (at + 8) <? getD s (at + 7) 0 * unitSize own then Broken
-    else Mpu (be 4 s at) (getD s (at + 4) 0 / 64) (be 2 s (at + 5)) (getD s (at + 7) 0) (part (at + 8) (getD s (at + 7) 0 * unitSize own))
+    else Mpu (be 4 s at) (getD s (at + 4) 0 / 64) (be 2 s (at + 5)) (getD s (at + 7) 0) (partAt (at + 8) (getD s (at + 7) 0 * unitSize own))
     (at + 8 + getD s (at + 7) 0 * unitSize own)
 
 -- the MPUs from a place on, or none where they do not end with the body

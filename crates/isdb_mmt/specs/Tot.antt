@@ -5,7 +5,7 @@ use lib.ListN.{length, take}
 use Rattle.isdb_tlv.specs.Guards.{if_then_else_, _<?_, _≠?_}
 use Rattle.isdb_tlv.specs.Bytes.{be}
 use Rattle.isdb_tlv.specs.Crc.{crcOf}
-use Rattle.isdb_mmt.specs.Part.{part, partOf}
+use Rattle.isdb_mmt.specs.Part.{partAt, partOf}
 use Rattle.isdb_mmt.specs.Desc.{broken}
 use Rattle.isdb_mmt.specs.Section.{length12}
 use Rattle.isdb_mmt.specs.declared.table.section.SectionError.the-variants.{Truncated, Crc, Malformed}
@@ -21,7 +21,7 @@ told r n = record { result = r; breaks = n }
 abbrev pub totFieldsIn : List ℕ → TotParsed
 totFieldsIn s =
     if length s <? length12 s 8 + 10 then told (Err Malformed) 0
-    else told (Ok (record { jst = be 5 s 3; descriptors = part 10 (length12 s 8) })) (broken (partOf s (part 10 (length12 s 8))))
+    else told (Ok (record { jst = be 5 s 3; descriptors = partAt 10 (length12 s 8) })) (broken (partOf s (partAt 10 (length12 s 8))))
 
 unfoldable pub totFields : List ℕ → ℕ → TotParsed
 totFields s n = totFieldsIn (take n s)

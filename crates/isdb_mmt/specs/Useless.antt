@@ -2,7 +2,7 @@
 -- of them (proofs/Useless.antt). Each is caught with one or two packets, which this decoder takes, in a session opened for nine.
 use Prim.Native.Nat.{ℕ, suc}
 use mathlib.Core.Path.{_≡_}
-use mathlib.Core.List.{List, []}
+use mathlib.Core.List.{List}
 use Rattle.isdb_mmt.specs.Packet.{Bytes}
 use Rattle.isdb_mmt.specs.Objects.{Rec}
 use Rattle.isdb_mmt.specs.Book.{deliveredOf}

@@ -3,7 +3,6 @@ use Prim.Native.Nat.{ℕ, _+_, _*_}
 use mathlib.Core.Path.{_≡_}
 use mathlib.Core.Bool.{Bool, true, false}
 use mathlib.Core.Option.{Option, none, some}
-use mathlib.Core.List.{[]}
 use Rattle.isdb_mmt.specs.Packet.{Bytes}
 use Rattle.isdb_mmt.specs.Objects.{Mfu, Asset}
 use Rattle.isdb_mmt.specs.Kept.{Kept}
@@ -57,33 +56,25 @@ assetOfPlace m b =
       mpu = given (m .«mpu_seen») (m .mpu);
       held = given (m .held) (mfuOf (m .object) b);
       range = given (m .«mpu_seen») (m .«first_mpu», m .mpu);
-      packets = m .stats .packets;
-      lost = m .stats .«packets_lost»;
-      scrambled = m .stats .«scrambled_packets»;
-      mfus = m .stats .mfus;
-      scrambledMfus = m .stats .«scrambled_mfus»;
-      dropped = m .stats .«mfus_dropped»;
-      mpus = m .stats .mpus;
-      jumps = m .stats .«mpu_sequence_jumps»;
-      malformed = m .stats .malformed;
+      stats = m .stats;
     }
 
 -- a control place: the message that is being joined, and the MPT
 unfoldable pub controlStateOf : Control → Bytes → Bytes → ControlState
 controlStateOf c message mpt =
     record {
-      line =
+      reassembly =
           record {
             number = given (c .seen) (c .sequence);
-            part = given (c .joining) (record { long = c .«long_length»; aggregated = c .aggregated; bytes = message });
+            partial = given (c .joining) (record { long = c .«long_length»; aggregated = c .aggregated; bytes = message });
           };
       mpt = given (c .mpt) mpt;
     }
 
 -- the areas: the held object of media place i is in area i of the objects, the message of control place i in area i of the
 -- messages; of the tables, section places come first, then the MPT of each control place, the PLT and the TOT
-abbrev pub tableAt : Limits → Session → ℕ → ℕ → Bytes
-tableAt l s i n = part (i * l .«table_area») n (s .tables)
+abbrev pub keptTableAt : Limits → Session → ℕ → ℕ → Bytes
+keptTableAt l s i n = part (i * l .«table_area») n (s .tables)
 
 abbrev pub assetEntry : Limits → Session → ℕ → Media → ℕ × Asset
 assetEntry l s i m = (m .«packet_id», assetOfPlace m (part (i * l .«mfu_area») (m .object .length) (s .objects)))
@@ -91,11 +82,11 @@ assetEntry l s i m = (m .«packet_id», assetOfPlace m (part (i * l .«mfu_area�
 abbrev pub controlEntry : Limits → Session → ℕ → Control → ℕ × ControlState
 controlEntry l s i c = (
   c .«packet_id»,
-  controlStateOf c (part (i * l .«message_area») (c .length) (s .messages)) (tableAt l s (l .sections + i) (c .«mpt_length»)),
+  controlStateOf c (part (i * l .«message_area») (c .length) (s .messages)) (keptTableAt l s (l .sections + i) (c .«mpt_length»)),
 )
 
 abbrev pub sectionEntry : Limits → Session → ℕ → KeptSection → ℕ × Kept
-sectionEntry l s i x = (x .key, record { version = x .version; bytes = tableAt l s i (x .length) })
+sectionEntry l s i x = (x .key, record { version = x .version; bytes = keptTableAt l s i (x .length) })
 
 unfoldable pub viewBy : Limits → Session → State
 unfolding indexed assetOfPlace controlStateOf
@@ -106,8 +97,8 @@ viewBy l s =
       controls = indexed (controlEntry l s) 0 (controlsIn (s .state));
       store =
           record {
-            plt = given (latestOf (s .state) .plt) (tableAt l s (l .sections + l .«control_ids») (latestOf (s .state) .«plt_length»));
-            tot = given (latestOf (s .state) .tot) (tableAt l s (l .sections + l .«control_ids» + 1) (latestOf (s .state) .«tot_length»));
+            plt = given (latestOf (s .state) .plt) (keptTableAt l s (l .sections + l .«control_ids») (latestOf (s .state) .«plt_length»));
+            tot = given (latestOf (s .state) .tot) (keptTableAt l s (l .sections + l .«control_ids» + 1) (latestOf (s .state) .«tot_length»));
             kept = indexed (sectionEntry l s) 0 (sectionsIn (s .state));
             others = s .others;
           };

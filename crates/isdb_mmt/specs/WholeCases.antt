@@ -7,7 +7,7 @@ use mathlib.Core.List.{List, [], _∷_, _++_}
 use mathlib.Core.Option.{some}
 use Rattle.isdb_tlv.specs.Bytes.{be}
 use Rattle.isdb_tlv.specs.Crc.{feed, feedByte, crcOf}
-use Rattle.isdb_mmt.specs.Part.{part}
+use Rattle.isdb_mmt.specs.Part.{partAt}
 use Rattle.isdb_mmt.specs.Steps.{toEnd}
 use Rattle.isdb_mmt.specs.Location.{sized, urlOf, locationOf}
 use Rattle.isdb_mmt.specs.Timestamp.{timestampAt, mpuAt, mpusFrom, mpusWhole, extendedOf, unitStep}
@@ -55,8 +55,8 @@ pub mpt-whole : mptValue mptBytes ≡ some (record {
     «table_id» = 0x20;
     version = 1;
     mode = 0;
-    «package_id» = part 6 2;
-    descriptors = part 10 0;
+    «package_id» = partAt 6 2;
+    descriptors = partAt 10 0;
     assets = 1;
     start = 11;
   };
@@ -66,15 +66,15 @@ pub mpt-whole : mptValue mptBytes ≡ some (record {
     asset = record {
       «identifier_type» = 0;
       «asset_id_scheme» = 1;
-      «asset_id» = part 17 2;
+      «asset_id» = partAt 17 2;
       «asset_type» = 0x68657631;
       «clock_relation» = true;
       locations = 1;
       «locations_start» = 25;
-      descriptors = part 31 43;
+      descriptors = partAt 31 43;
     };
     assetId = 0x41 ∷ 0x31 ∷ [];
-    locations = record { location = Url (part 2 2); url = 0x61 ∷ 0x62 ∷ [] } ∷ [];
+    locations = record { location = Url (partAt 2 2); url = 0x61 ∷ 0x62 ∷ [] } ∷ [];
     descriptors = record {
       found =
           record { tag = 0x8004; body = accessBody; value = control 5 (some (record { location = SameFlow 0xF100; url = [] })) }
@@ -122,7 +122,7 @@ pub sdt-whole : sdtValue sdtBytes ≡ some (record {
     current = true;
     «section_number» = 0;
     «last_section_number» = 0;
-    body = part 8 18;
+    body = partAt 8 18;
   };
   table = record {
     sdt = record { «original_network_id» = 4; services = 1 };
@@ -134,7 +134,7 @@ pub sdt-whole : sdtValue sdtBytes ≡ some (record {
         «eit_present_following» = true;
         «running_status» = 0;
         «free_ca» = false;
-        descriptors = part 8 10;
+        descriptors = partAt 8 10;
       };
       descriptors = record {
         found =

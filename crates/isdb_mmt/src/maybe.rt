@@ -14,3 +14,8 @@ pub enum MaybeU64 {
     None,
     Some(u64),
 }
+
+pub enum MaybeUsize {
+    None,
+    Some(usize),
+}

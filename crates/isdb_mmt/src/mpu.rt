@@ -4,7 +4,7 @@
 ghost use mathlib.Core.Path.{_≡_};
 ghost use Prim.Native.Nat.{_≤_};
 ghost use lib.ListN.{length};
-ghost use Rattle.isdb_mmt.specs.Mpu.{fragmentCode, fragmentType, indicatorCode, indicator, completesOf, headerFields, payloadHeader, mfuAt, unitIn, unitAt, unitStep, unitsOf, counted, declaredOf, follows, lostFrom};
+ghost use Rattle.isdb_mmt.specs.Mpu.{fragmentCode, fragmentType, indicatorCode, indicator, completesOf, payloadHeaderFields, payloadHeader, mfuAt, unitIn, unitAt, unitStep, unitsOf, counted, declaredOf, follows, lostFrom};
 use crate::maybe::MaybeU32;
 use crate::part::Part;
 use isdb_tlv::bytes;
@@ -111,7 +111,7 @@ pub enum MaybeHeader {
 
 fn header_fields(p: &[u8]) -> PayloadHeader
     requires { ⌜ 8 ≤ length (now p) ⌝ }
-    ensures { λ r. ⌜ r ≡ headerFields (now (p .entry)) ⌝ }
+    ensures { λ r. ⌜ r ≡ payloadHeaderFields (now (p .entry)) ⌝ }
 {
     let f = p[2];
     PayloadHeader {

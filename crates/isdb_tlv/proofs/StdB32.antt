@@ -13,7 +13,7 @@ use Rattle.isdb_tlv.specs.Fields.{written, Fit}
 use Rattle.isdb_tlv.specs.Tlv.{typeByte, packetType}
 use Rattle.isdb_tlv.specs.Ip.{contextId, headerType as typeRead, datagram, partialIpv4, partialIpv6, headerId, compressedOf}
 use Rattle.isdb_tlv.specs.StdB32.{Tlv, tlvHeader, tlvSent, Defined, TlvConforming, TlvTheorem}
-use Rattle.isdb_tlv.specs.StdB32.{Header, ipv4, ipv4Id, ipv6, ipv6Id, headerType, headerFields, Hcfb, hcfbFields, hcfbSent}
+use Rattle.isdb_tlv.specs.StdB32.{Header, ipv4, ipv4Id, ipv6, ipv6Id, headerType, compressedFields, Hcfb, hcfbFields, hcfbSent}
 use Rattle.isdb_tlv.specs.StdB32.{HeaderConforming, ipv4Fits, ipv4IdFits, ipv6Fits, ipv6IdFits, HcfbConforming, flowIn, startOf, HcfbTheorem}
 use Rattle.isdb_tlv.specs.declared.tlv.PacketType.{PacketType}
 use Rattle.isdb_tlv.specs.declared.tlv.PacketType.the-variants.{Ipv4, Ipv6, Compressed, Control, Null, Other}
@@ -48,13 +48,13 @@ tlv t c =
       content = content t c;
     }
 
-fits : {h : Header} → HeaderConforming h → (headerType h < 256) × Fit (headerFields h)
+fits : {h : Header} → HeaderConforming h → (headerType h < 256) × Fit (compressedFields h)
 fits (ipv4Fits l t i f h s d p q) = omega arith
 fits (ipv4IdFits i) = omega arith
 fits (ipv6Fits t f h sh sl dh dl p q) = omega arith
 fits ipv6IdFits = omega arith
 
-start : (h : Header) → 2 + (1 + size (headerFields h)) ≡ startOf h
+start : (h : Header) → 2 + (1 + size (compressedFields h)) ≡ startOf h
 start (ipv4 l t i f h s d p q) = refl
 start (ipv4Id i) = refl
 start (ipv6 t f h sh sl dh dl p q) = refl
@@ -62,7 +62,7 @@ start ipv6Id = refl
 
 -- what stands behind the header type, by index of the field, tells how the packet is read
 parsed : (h : Header) (s : List ℕ) → typeRead s ≡ headerType h → ((n : ℕ) → n ≤ startOf h → ltb (length s) n ≡ false)
-    → ((k : ℕ) → be (fieldAt k (headerFields h) .width) s (2 + (1 + offsetOf k (headerFields h))) ≡ fieldAt k (headerFields h) .value)
+    → ((k : ℕ) → be (fieldAt k (compressedFields h) .width) s (2 + (1 + offsetOf k (compressedFields h))) ≡ fieldAt k (compressedFields h) .value)
     → compressedOf s ≡ datagram (someContext (contextId s)) (flowIn h) (startOf h)
 unfolding compressedOf partialIpv4 partialIpv6 headerId
 parsed (ipv4 l t i f h a b p q) s type enough of =

@@ -65,8 +65,8 @@ headerType (ipv4Id i) = 0x21
 headerType (ipv6 t f h sh sl dh dl p q) = 0x60
 headerType ipv6Id = 0x61
 
-abbrev pub headerFields : Header → List Field
-headerFields (ipv4 ihl tos id fragment ttl source destination sport dport) =
+abbrev pub compressedFields : Header → List Field
+compressedFields (ipv4 ihl tos id fragment ttl source destination sport dport) =
     field 1 (packed (bits 4 4 ∷ bits 4 ihl ∷ []))
     ∷ field 1 tos
     ∷ field 2 id
@@ -78,8 +78,8 @@ headerFields (ipv4 ihl tos id fragment ttl source destination sport dport) =
     ∷ field 2 sport
     ∷ field 2 dport
     ∷ []
-headerFields (ipv4Id id) = field 2 id ∷ []
-headerFields (ipv6 trafficClass flowLabel hopLimit sh sl dh dl sport dport) =
+compressedFields (ipv4Id id) = field 2 id ∷ []
+compressedFields (ipv6 trafficClass flowLabel hopLimit sh sl dh dl sport dport) =
     field 4 (packed (bits 4 6 ∷ bits 8 trafficClass ∷ bits 20 flowLabel ∷ []))
     ∷ field 1 17
     ∷ field 1 hopLimit
@@ -90,7 +90,7 @@ headerFields (ipv6 trafficClass flowLabel hopLimit sh sl dh dl sport dport) =
     ∷ field 2 sport
     ∷ field 2 dport
     ∷ []
-headerFields ipv6Id = []
+compressedFields ipv6Id = []
 
 -- a compressed packet: context id 12 bits, sequence number 4, header type 8, then the header and the payload
 pub record Hcfb : Type 0 where
@@ -103,7 +103,7 @@ abbrev pub hcfbFields : Hcfb → List Field
 hcfbFields p =
     field 2 (packed (bits 12 (p .context) ∷ bits 4 (p .sequence) ∷ []))
     ∷ field 1 (headerType (p .header))
-    ∷ headerFields (p .header)
+    ∷ compressedFields (p .header)
 
 unfoldable pub hcfbSent : Hcfb → List ℕ
 hcfbSent p = written (hcfbFields p) ++ p .payload

@@ -9,8 +9,8 @@ ghost use Rattle.isdb_mmt.specs.Part.{partOf};
 ghost use Rattle.isdb_mmt.specs.Layout.{countersPlace, sectionPlaces, sectionSize};
 ghost use Rattle.isdb_mmt.specs.Session.{countersFields};
 ghost use Rattle.isdb_mmt.specs.MediaPush.{withUsed};
-ghost use Rattle.isdb_mmt.specs.Verdict.{placeAt};
-ghost use Rattle.isdb_mmt.specs.Dry.{logged};
+ghost use Rattle.isdb_mmt.specs.TableOutcome.{placeAt};
+ghost use Rattle.isdb_mmt.specs.PendingTables.{logged};
 ghost use Rattle.isdb_mmt.specs.Commit.{putOne, putTables, putRecent, putAreas, loggedFrom, CanPut, CanStore, CanStoreOne, CanStoreRecent, CanStoreAreas, CanStoreState};
 use crate::decoder::counts::Counters;
 use crate::decoder::head;
@@ -21,8 +21,8 @@ use crate::decoder::layout::SECTION_SIZE;
 use crate::decoder::limits::Limits;
 use crate::decoder::place;
 use crate::decoder::section::section_at;
-use crate::decoder::verdict::Recent;
-use crate::decoder::walk::Going;
+use crate::decoder::table_outcome::Recent;
+use crate::decoder::walk::WalkState;
 use crate::part::Part;
 use isdb_tlv::bytes;
 
@@ -97,7 +97,7 @@ pub(crate) fn store_areas(
     tables: &mut [u8],
     ix: &[u8],
     log: &[u64],
-    g: Going,
+    g: WalkState,
     l: Limits,
     i: usize,
     a: &[u8],

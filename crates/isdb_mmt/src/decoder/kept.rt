@@ -28,7 +28,7 @@ use crate::decoder::readings::AssetReading;
 use crate::decoder::readings::CarriedAsset;
 use crate::decoder::readings::TableReading;
 use crate::decoder::section::load_section;
-use crate::decoder::verdict;
+use crate::decoder::table_outcome;
 use crate::maybe::MaybeU16;
 use crate::maybe::MaybeU32;
 use crate::part::Part;
@@ -56,7 +56,7 @@ fn parses_as(id: u8, b: &[u8]) -> bool
     match long_section(b) {
         LongSection::Ok(h) => {
             let body = h.body;
-            let x = verdict::body_read(id, h, body.of(b));
+            let x = table_outcome::body_read(id, h, body.of(b));
             x.ok
         }
         LongSection::Err(e) => false,

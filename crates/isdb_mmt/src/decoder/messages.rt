@@ -6,8 +6,8 @@ ghost use lib.ListN.{length};
 ghost use Rattle.isdb_mmt.specs.Layout.{mostControlIds, stateSize};
 ghost use Rattle.isdb_mmt.specs.Check.{PlacesThere};
 ghost use Rattle.isdb_mmt.specs.Leaves.{controlPlaceFor};
-ghost use Rattle.isdb_mmt.specs.Fragments.{continuedBy, grownLength, continued as continuedAs, fateOf, flagsIn, joinedWith, noneJoined, joinedStill, joinedBy, controlWith, laidBy, areaBy, completes, countedWith, fragmentCounted, CanCount};
-ghost use Rattle.isdb_mmt.specs.Lines.{blankPlace, placeIn, SeatThere, lengthIf, tidyLatest, withMore, withLine, withCounts, placeNext, stateNext, CanStoreLine, CanJoinAt, JoinedAt, meetingOf, CanMeet, CanJoin};
+ghost use Rattle.isdb_mmt.specs.Fragments.{inSequence, grownLength, continued as continuedAs, fragmentOutcome, flagsIn, joinedWith, noneJoined, joinedStill, joinedBy, controlWith, laidBy, areaBy, completes, countedWith, fragmentCounted, CanCount};
+ghost use Rattle.isdb_mmt.specs.FragmentPush.{blankPlace, placeIn, PlaceForThere, lengthIf, normalLatest, withMore, withReassembly, withCounts, placeNext, stateNext, CanStoreReassembly, CanJoinAt, JoinedAt, receivedFragment, CanReceive, CanJoin};
 ghost use Rattle.isdb_mmt.specs.Packet.{messagePacket, message};
 ghost use Rattle.isdb_mmt.specs.Opening.{lent};
 ghost use Rattle.isdb_mmt.specs.Push.{mostBytes, QuietPushed};
@@ -29,7 +29,7 @@ use crate::message::Fragment;
 use isdb_tlv::bytes;
 
 // What becomes of a fragment.
-pub(crate) enum Fate {
+pub(crate) enum FragmentOutcome {
     // Fewer bytes than its header has.
     Short,
     // A whole message.
@@ -55,18 +55,18 @@ pub(crate) struct Joined {
 }
 
 // What a message packet meets: the place of its id, its place, and what becomes of its fragment.
-pub(crate) struct Meeting {
+pub(crate) struct ReceivedFragment {
     pub place_for: PlaceFor,
     pub place: Control,
-    pub fate: Fate,
+    pub outcome: FragmentOutcome,
 }
 
 // A message has at most 1,048,576 bytes.
 const MOST_MESSAGE: u64 = 1048576;
 
 // Whether a message is there to be continued: a gap takes it away.
-fn goes_on(c: Control, n: u32) -> bool
-    ensures { λ r. ⌜ r ≡ continuedBy c n ⌝ }
+fn in_sequence(c: Control, n: u32) -> bool
+    ensures { λ r. ⌜ r ≡ inSequence c n ⌝ }
 {
     if c.joining {
         return !reassembler::is_gap(c.seen, c.sequence, n);
@@ -82,20 +82,20 @@ fn grown_length(c: Control, b: &[u8]) -> u64
     c.length as u64 + bytes::rest(b, 2).len() as u64
 }
 
-fn continued(ends: bool, c: Control, n: u32, b: &[u8]) -> Fate
+fn continued(ends: bool, c: Control, n: u32, b: &[u8]) -> FragmentOutcome
     requires { ⌜ length (now b) ≤ mostBytes ⌝ }
     ensures { λ r. ⌜ r ≡ continuedAs ends c n (now (b .entry)) ⌝ }
 {
-    if !goes_on(c, n) {
-        return Fate::Orphan;
+    if !in_sequence(c, n) {
+        return FragmentOutcome::Orphan;
     }
     if MOST_MESSAGE < grown_length(c, b) {
-        return Fate::Oversize;
+        return FragmentOutcome::Oversize;
     }
     if ends {
-        return Fate::Whole;
+        return FragmentOutcome::Whole;
     }
-    Fate::Grown
+    FragmentOutcome::Grown
 }
 
 pub(crate) fn flags_in(b: &[u8]) -> Fragment
@@ -104,18 +104,18 @@ pub(crate) fn flags_in(b: &[u8]) -> Fragment
     message::fragment_of(bytes::get_u8(b, 0))
 }
 
-pub(crate) fn fate_of(c: Control, n: u32, b: &[u8]) -> Fate
+pub(crate) fn fragment_outcome(c: Control, n: u32, b: &[u8]) -> FragmentOutcome
     requires { ⌜ length (now b) ≤ mostBytes ⌝ }
-    ensures { λ r. ⌜ r ≡ fateOf c n (now (b .entry)) ⌝ }
+    ensures { λ r. ⌜ r ≡ fragmentOutcome c n (now (b .entry)) ⌝ }
 {
     if b.len() < 2 {
-        return Fate::Short;
+        return FragmentOutcome::Short;
     }
     let x = flags_in(b);
     let d = x.division;
     match d {
-        Division::Undivided => Fate::Undivided,
-        Division::First => Fate::First,
+        Division::Undivided => FragmentOutcome::Undivided,
+        Division::First => FragmentOutcome::First,
         Division::Middle => continued(false, c, n, b),
         Division::Last => continued(true, c, n, b),
     }
@@ -153,37 +153,37 @@ fn joined_still(c: Control) -> Joined
 }
 
 // The longest message that a fragment joins.
-pub(crate) fn area_by(f: Fate, c: Control, b: &[u8]) -> u64
+pub(crate) fn area_by(f: FragmentOutcome, c: Control, b: &[u8]) -> u64
     requires { ⌜ length (now b) ≤ mostBytes ⌝ }
     ensures { λ r. ⌜ r ≡ areaBy f c (now (b .entry)) ⌝ }
 {
     match f {
-        Fate::Short => 0,
-        Fate::Undivided => 0,
-        Fate::First => bytes::rest(b, 2).len() as u64,
-        Fate::Orphan => 0,
-        Fate::Oversize => 0,
-        Fate::Grown => grown_length(c, b),
-        Fate::Whole => grown_length(c, b),
+        FragmentOutcome::Short => 0,
+        FragmentOutcome::Undivided => 0,
+        FragmentOutcome::First => bytes::rest(b, 2).len() as u64,
+        FragmentOutcome::Orphan => 0,
+        FragmentOutcome::Oversize => 0,
+        FragmentOutcome::Grown => grown_length(c, b),
+        FragmentOutcome::Whole => grown_length(c, b),
     }
 }
 
 // What is joined after a fragment, which needs an area of so many bytes.
-pub(crate) fn joined_by(f: Fate, c: Control, b: &[u8], area: u32) -> Joined
+pub(crate) fn joined_by(f: FragmentOutcome, c: Control, b: &[u8], area: u32) -> Joined
     requires { ⌜ area ≡ areaBy f c (now b) ⌝ }
     ensures { λ r. ⌜ r ≡ joinedBy f c (now (b .entry)) ⌝ }
 {
     match f {
-        Fate::Short => joined_still(c),
-        Fate::Undivided => none_joined(),
-        Fate::First => {
+        FragmentOutcome::Short => joined_still(c),
+        FragmentOutcome::Undivided => none_joined(),
+        FragmentOutcome::First => {
             let x = flags_in(b);
             joined_with(x.long_length, x.aggregated, area)
         }
-        Fate::Orphan => none_joined(),
-        Fate::Oversize => none_joined(),
-        Fate::Grown => joined_with(c.long_length, c.aggregated, area),
-        Fate::Whole => none_joined(),
+        FragmentOutcome::Orphan => none_joined(),
+        FragmentOutcome::Oversize => none_joined(),
+        FragmentOutcome::Grown => joined_with(c.long_length, c.aggregated, area),
+        FragmentOutcome::Whole => none_joined(),
     }
 }
 
@@ -209,7 +209,7 @@ pub(crate) fn put_fragment(
     messages: &mut [u8],
     i: usize,
     area: usize,
-    f: Fate,
+    f: FragmentOutcome,
     c: Control,
     b: &[u8],
 )
@@ -217,13 +217,19 @@ pub(crate) fn put_fragment(
     ensures { λ r. ⌜ now (messages .exit) ≡ laidBy f (i * area) c (now (b .entry)) (now (messages .entry)) ⌝ }
 {
     match f {
-        Fate::First => place::put_in_area(messages, i, area, 0, bytes::rest(b, 2)),
-        Fate::Grown => place::put_in_area(messages, i, area, c.length as usize, bytes::rest(b, 2)),
-        Fate::Short => {}
-        Fate::Undivided => {}
-        Fate::Orphan => {}
-        Fate::Oversize => {}
-        Fate::Whole => {}
+        FragmentOutcome::First => place::put_in_area(messages, i, area, 0, bytes::rest(b, 2)),
+        FragmentOutcome::Grown => place::put_in_area(
+            messages,
+            i,
+            area,
+            c.length as usize,
+            bytes::rest(b, 2),
+        ),
+        FragmentOutcome::Short => {}
+        FragmentOutcome::Undivided => {}
+        FragmentOutcome::Orphan => {}
+        FragmentOutcome::Oversize => {}
+        FragmentOutcome::Whole => {}
     }
 }
 
@@ -248,18 +254,18 @@ fn counted_with(c: Counters, orphans: u64, oversizes: u64, bad: u64) -> Counters
 }
 
 // A packet more, and what is counted of its fragment.
-pub(crate) fn fragment_counted(f: Fate, c: Counters) -> Counters
+pub(crate) fn fragment_counted(f: FragmentOutcome, c: Counters) -> Counters
     requires { ⌜ CanCount c ⌝ }
     ensures { λ r. ⌜ r ≡ fragmentCounted f c ⌝ }
 {
     match f {
-        Fate::Short => counted_with(c, 0, 0, 1),
-        Fate::Undivided => counted_with(c, 0, 0, 0),
-        Fate::First => counted_with(c, 0, 0, 0),
-        Fate::Orphan => counted_with(c, 1, 0, 0),
-        Fate::Oversize => counted_with(c, 0, 1, 0),
-        Fate::Grown => counted_with(c, 0, 0, 0),
-        Fate::Whole => counted_with(c, 0, 0, 0),
+        FragmentOutcome::Short => counted_with(c, 0, 0, 1),
+        FragmentOutcome::Undivided => counted_with(c, 0, 0, 0),
+        FragmentOutcome::First => counted_with(c, 0, 0, 0),
+        FragmentOutcome::Orphan => counted_with(c, 1, 0, 0),
+        FragmentOutcome::Oversize => counted_with(c, 0, 1, 0),
+        FragmentOutcome::Grown => counted_with(c, 0, 0, 0),
+        FragmentOutcome::Whole => counted_with(c, 0, 0, 0),
     }
 }
 
@@ -298,7 +304,7 @@ pub(crate) fn control_place_for(s: &[u8], id: u32) -> PlaceFor
 
 // An id without a place has a blank one.
 pub(crate) fn place_in(s: &[u8], t: PlaceFor) -> Control
-    requires { ⌜ SeatThere t ⌝ }
+    requires { ⌜ PlaceForThere t ⌝ }
     ensures { λ r. ⌜ r ≡ placeIn (now (s .entry)) t ⌝ }
 {
     match t {
@@ -308,32 +314,32 @@ pub(crate) fn place_in(s: &[u8], t: PlaceFor) -> Control
     }
 }
 
-pub(crate) fn meet(state: &[u8], id: u16, n: u32, b: &[u8]) -> Meeting
-    requires { ⌜ CanMeet (now state) (now b) ⌝ }
-    ensures { λ r. ⌜ r ≡ meetingOf (now (state .entry)) (messagePacket id n (now (b .entry))) ⌝ }
+pub(crate) fn receive(state: &[u8], id: u16, n: u32, b: &[u8]) -> ReceivedFragment
+    requires { ⌜ CanReceive (now state) (now b) ⌝ }
+    ensures { λ r. ⌜ r ≡ receivedFragment (now (state .entry)) (messagePacket id n (now (b .entry))) ⌝ }
 {
     let place_for = control_place_for(state, id as u32);
     let place = place_in(state, place_for);
-    let fate = fate_of(place, n, b);
-    Meeting {
+    let outcome = fragment_outcome(place, n, b);
+    ReceivedFragment {
         place_for,
         place,
-        fate,
+        outcome,
     }
 }
 
 // Whether a message is whole with a fragment.
-pub(crate) fn makes_whole(f: Fate) -> bool
+pub(crate) fn makes_whole(f: FragmentOutcome) -> bool
     ensures { λ r. ⌜ r ≡ completes f ⌝ }
 {
     match f {
-        Fate::Short => false,
-        Fate::Undivided => true,
-        Fate::First => false,
-        Fate::Orphan => false,
-        Fate::Oversize => false,
-        Fate::Grown => false,
-        Fate::Whole => true,
+        FragmentOutcome::Short => false,
+        FragmentOutcome::Undivided => true,
+        FragmentOutcome::First => false,
+        FragmentOutcome::Orphan => false,
+        FragmentOutcome::Oversize => false,
+        FragmentOutcome::Grown => false,
+        FragmentOutcome::Whole => true,
     }
 }
 
@@ -346,8 +352,8 @@ fn length_if(there: bool, n: u32) -> u32
     0
 }
 
-fn tidy_latest(x: Latest) -> Latest
-    ensures { λ r. ⌜ r ≡ tidyLatest x ⌝ }
+fn normal_latest(x: Latest) -> Latest
+    ensures { λ r. ⌜ r ≡ normalLatest x ⌝ }
 {
     Latest {
         plt: x.plt,
@@ -369,9 +375,9 @@ fn with_more(k: u32, u: Used) -> Used
 }
 
 // The place of an id, and the places in use.
-pub(crate) fn store_line(s: &mut [u8], i: usize, c: Control, u: Used)
+pub(crate) fn store_reassembly(s: &mut [u8], i: usize, c: Control, u: Used)
     requires { ⌜ (i < mostControlIds) × (stateSize ≤ length (now s)) ⌝ }
-    ensures { λ r. ⌜ now (s .exit) ≡ withLine i c u (now (s .entry)) ⌝ }
+    ensures { λ r. ⌜ now (s .exit) ≡ withReassembly i c u (now (s .entry)) ⌝ }
 {
     control::store_control(s, i, c);
     head::store_used(s, u);
@@ -386,7 +392,7 @@ pub(crate) fn store_counts(s: &mut [u8], k: Counters, x: Latest)
     head::store_latest(s, x);
 }
 
-fn place_next(id: u32, n: u32, c: Control, f: Fate, b: &[u8], area: u32) -> Control
+fn place_next(id: u32, n: u32, c: Control, f: FragmentOutcome, b: &[u8], area: u32) -> Control
     requires { ⌜ area ≡ areaBy f c (now b) ⌝ }
     ensures { λ r. ⌜ r ≡ placeNext id n c f (now (b .entry)) ⌝ }
 {
@@ -394,14 +400,14 @@ fn place_next(id: u32, n: u32, c: Control, f: Fate, b: &[u8], area: u32) -> Cont
     control_with(id, n, j, c.mpt, length_if(c.mpt, c.mpt_length))
 }
 
-fn store_next(s: &mut [u8], i: usize, k: u32, d: Control, f: Fate)
-    requires { ⌜ CanStoreLine (now s) i k ⌝ }
+fn store_next(s: &mut [u8], i: usize, k: u32, d: Control, f: FragmentOutcome)
+    requires { ⌜ CanStoreReassembly (now s) i k ⌝ }
     ensures { λ r. ⌜ now (s .exit) ≡ stateNext i k d f (now (s .entry)) ⌝ }
 {
     let counters = fragment_counted(f, counts::counters_of(s));
-    let latest = tidy_latest(head::load_latest(s));
+    let latest = normal_latest(head::load_latest(s));
     let used = with_more(k, head::load_used(s));
-    store_line(s, i, d, used);
+    store_reassembly(s, i, d, used);
     store_counts(s, counters, latest);
 }
 
@@ -415,7 +421,7 @@ fn join_at(
     n: u32,
     b: &[u8],
     c: Control,
-    f: Fate,
+    f: FragmentOutcome,
 ) -> u8
     requires { ⌜ CanJoinAt (now state) (now messages) i k (now b) ⌝ }
     ensures { λ r. ⌜ JoinedAt (now (state .entry)) (now (messages .entry)) i k id n (now (b .entry)) c f r (now (state .exit)) (now (messages .exit)) ⌝ }
@@ -441,14 +447,14 @@ pub(crate) fn push_fragment(
     id: u16,
     n: u32,
     b: &[u8],
-    y: Meeting,
+    y: ReceivedFragment,
 ) -> u8
     requires { ⌜ CanJoin (lent (now state) (now others) (now objects) (now messages) (now tables)) (messagePacket id n (now b)) y ⌝ }
     ensures { λ r. ⌜ QuietPushed (lent (now (state .entry)) (now (others .entry)) (now (objects .entry)) (now (messages .entry)) (now (tables .entry))) (message (messagePacket id n (now (b .entry)))) r (lent (now (state .exit)) (now (others .entry)) (now (objects .entry)) (now (messages .exit)) (now (tables .entry))) ⌝ }
 {
     let t = y.place_for;
     let c = y.place;
-    let f = y.fate;
+    let f = y.outcome;
     place::octets(state);
     match t {
         PlaceFor::Own(i) => join_at(state, messages, i, 0, id as u32, n, b, c, f),

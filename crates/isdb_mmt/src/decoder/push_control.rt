@@ -13,7 +13,7 @@ use crate::decoder::head;
 use crate::decoder::head::Used;
 use crate::decoder::start;
 use crate::decoder::walk;
-use crate::decoder::walk::Going;
+use crate::decoder::walk::WalkState;
 use isdb_tlv::bytes;
 
 // What the sections leave.
@@ -25,7 +25,7 @@ fn leave(
     log: &[u64],
     mine: &[u64],
     c: Counters,
-    g: Going,
+    g: WalkState,
     b: &[u8],
 )
     requires { ⌜ CanLeave (now state) (now others) (now tables) (now ix) (now log) (now mine) g (now b) ⌝ }
@@ -70,7 +70,7 @@ fn push_on(
     start::load_index(ix, state);
     clear_counts(log);
     start::copy_counts(mine, others);
-    let first = start::going_in(state, tables, c, start::no_recent());
+    let first = start::walk_start(state, tables, c, start::no_recent());
     let g = walk::sections(ix, log, mine, first, b);
     let n = start::tables_ask(head::load_limits(state), g);
     if n != 0 {

@@ -14,8 +14,8 @@ ghost use Rattle.isdb_mmt.specs.Layout.{mostMediaIds, mediaPlaces, media
 ghost use Rattle.isdb_mmt.specs.Lent.{part, over};
 ghost use Rattle.isdb_mmt.specs.Session.{mediaFields};
 ghost use Rattle.isdb_mmt.specs.Opening.{lent};
-ghost use Rattle.isdb_mmt.specs.Survey.{unitObject, withLength};
-ghost use Rattle.isdb_mmt.specs.Place.{startOf};
+ghost use Rattle.isdb_mmt.specs.MediaEffect.{unitObject, withLength};
+ghost use Rattle.isdb_mmt.specs.MediaPlace.{startOf};
 ghost use Rattle.isdb_mmt.specs.MediaPush.{oneMore, withUsed, withPackets, mediaPlaceFor, MediaPushed};
 ghost use Rattle.isdb_mmt.specs.MediaCommit.{CanTakePlace, blank, placeIn, indexOf, passesOn, fitsNumber, numberOf, Small, answerOf, OnePut, CanAppend, unitsData, CanEnd, CanPass, passedUnit, CanTake, CanCommit, Committed, CanStore, stateAfter, CanCommitAll, CommittedAll, CanPushMedia};
 use crate::decoder::counts::AssetStats;
@@ -30,8 +30,8 @@ use crate::decoder::media::Media;
 use crate::decoder::place;
 use crate::decoder::place::PlaceFor;
 use crate::decoder::reassembler;
-use crate::decoder::reassembler::Look;
-use crate::decoder::reassembler::Survey;
+use crate::decoder::reassembler::MediaEffect;
+use crate::decoder::reassembler::MediaOutcome;
 use crate::decoder::records;
 use crate::decoder::records::Answer;
 use crate::decoder::records::ROW_SIZE;
@@ -183,7 +183,7 @@ fn answer_of(
     place_for: PlaceFor,
     l: Limits,
     scrambled: bool,
-    r: Look,
+    r: MediaOutcome,
     n: u64,
     rows: u64,
     given: u64,
@@ -284,7 +284,7 @@ fn end_object(
     objects: &[u8],
     at: usize,
     p: Media,
-    t: Survey,
+    t: MediaEffect,
     h: Header,
     q: &[u8],
     rows: &mut [u8],
@@ -339,7 +339,7 @@ fn commit_units(
     objects: &mut [u8],
     at: usize,
     p: Media,
-    r: Look,
+    r: MediaOutcome,
     h: Header,
     b: &[u8],
     rows: &mut [u8],
@@ -379,7 +379,7 @@ fn commit(
     at: usize,
     pass: bool,
     p: Media,
-    r: Look,
+    r: MediaOutcome,
     h: Header,
     b: &[u8],
     rows: &mut [u8],
@@ -410,7 +410,7 @@ fn commit_all(
     l: Limits,
     place_for: PlaceFor,
     p: Media,
-    r: Look,
+    r: MediaOutcome,
     h: Header,
     b: &[u8],
     rows: &mut [u8],
@@ -453,7 +453,7 @@ pub(crate) fn push_media(
     let l = head::load_limits(state);
     let place_for = media_place_for(state, l, h.packet_id);
     let p = place_in(state, place_for);
-    let r = reassembler::look_at(p, h.sequence, h.scramble_info, h.rap, b);
+    let r = reassembler::media_outcome(p, h.sequence, h.scramble_info, h.rap, b);
     let a = answer_of(
         place_for,
         l,

@@ -18,27 +18,27 @@ use crate::decoder::layout::SECTION_PLACES;
 use crate::decoder::layout::SECTION_SIZE;
 use crate::decoder::limits::Limits;
 use crate::decoder::messages;
-use crate::decoder::messages::Fate;
-use crate::decoder::messages::Meeting;
+use crate::decoder::messages::FragmentOutcome;
+use crate::decoder::messages::ReceivedFragment;
 use crate::decoder::place;
 use crate::decoder::place::PlaceFor;
 use crate::decoder::start;
 use crate::decoder::walk;
-use crate::decoder::walk::Going;
+use crate::decoder::walk::WalkState;
 use isdb_tlv::bytes;
 
 // Whether a message is whole with its last fragment.
-fn is_last(f: Fate) -> bool
+fn is_last(f: FragmentOutcome) -> bool
     ensures { λ r. ⌜ r ≡ isLast f ⌝ }
 {
     match f {
-        Fate::Short => false,
-        Fate::Undivided => false,
-        Fate::First => false,
-        Fate::Orphan => false,
-        Fate::Oversize => false,
-        Fate::Grown => false,
-        Fate::Whole => true,
+        FragmentOutcome::Short => false,
+        FragmentOutcome::Undivided => false,
+        FragmentOutcome::First => false,
+        FragmentOutcome::Orphan => false,
+        FragmentOutcome::Oversize => false,
+        FragmentOutcome::Grown => false,
+        FragmentOutcome::Whole => true,
     }
 }
 
@@ -82,14 +82,14 @@ fn walk_whole(
     ix: &mut [u8],
     log: &mut [u64],
     mine: &mut [u64],
-    seam: &mut [u8],
+    assembled: &mut [u8],
     i: usize,
     c: Control,
     last: bool,
     cs: Counters,
     b: &[u8],
-) -> Going
-    requires { ⌜ CanWalkWhole (now state) (now others) (now joined) (now tables) (now ix) (now log) (now mine) (now seam) i c last cs (now b) ⌝ }
+) -> WalkState
+    requires { ⌜ CanWalkWhole (now state) (now others) (now joined) (now tables) (now ix) (now log) (now mine) (now assembled) i c last cs (now b) ⌝ }
     ensures { λ r. ⌜ WalkedWhole (now (state .entry)) (now (others .entry)) (now (tables .entry)) i c cs (joinBy last c (heldIn (now (state .entry)) (now (joined .entry)) i c) (now (b .entry))) r (now (ix .exit)) (now (log .exit)) (now (mine .exit)) ⌝ }
 {
     let l = head::load_limits(state);
@@ -98,7 +98,7 @@ fn walk_whole(
     start::copy_counts(mine, others);
     let k = l.sections as usize + i;
     let mpt = start::recent_in(tables, k, l.table_area as usize, c.mpt, c.mpt_length);
-    let g = start::going_in(state, tables, cs, mpt);
+    let g = start::walk_start(state, tables, cs, mpt);
     let a = before_by(joined, i, l.message_area as usize, c, last);
     let long = long_by(last, c, b);
     let aggregated = aggregated_by(last, c, b);
@@ -106,7 +106,7 @@ fn walk_whole(
         ix,
         log,
         mine,
-        seam,
+        assembled,
         g,
         a,
         bytes::rest(b, 2),
@@ -116,7 +116,7 @@ fn walk_whole(
 }
 
 // The questions, in their order: places, the message's area, the tables' areas.
-fn whole_ask(l: Limits, area: u64, g: Going) -> u8
+fn whole_ask(l: Limits, area: u64, g: WalkState) -> u8
     ensures { λ r. ⌜ r ≡ wholeAsk l area g ⌝ }
 {
     let n = start::tables_ask(l, g);
@@ -129,7 +129,15 @@ fn whole_ask(l: Limits, area: u64, g: Going) -> u8
     n
 }
 
-fn leave_state(state: &mut [u8], ix: &[u8], i: usize, k: u32, d: Control, cs: Counters, g: Going)
+fn leave_state(
+    state: &mut [u8],
+    ix: &[u8],
+    i: usize,
+    k: u32,
+    d: Control,
+    cs: Counters,
+    g: WalkState,
+)
     requires { ⌜ CanLeaveState (now state) (now ix) i k g ⌝ }
     ensures { λ r. ⌜ now (state .exit) ≡ stateLeft i k d cs g (now (ix .entry)) (now (state .entry)) ⌝ }
 {
@@ -140,7 +148,7 @@ fn leave_state(state: &mut [u8], ix: &[u8], i: usize, k: u32, d: Control, cs: Co
         control_ids: u.control_ids + k,
         sections: used as u32,
     };
-    messages::store_line(state, i, d, v);
+    messages::store_reassembly(state, i, d, v);
     place::put_bytes(
         state,
         SECTION_PLACES,
@@ -159,19 +167,19 @@ fn whole_at(
     ix: &mut [u8],
     log: &mut [u64],
     mine: &mut [u64],
-    seam: &mut [u8],
+    assembled: &mut [u8],
     id: u16,
     n: u32,
     b: &[u8],
-    y: Meeting,
+    y: ReceivedFragment,
     i: usize,
     k: u32,
 ) -> u8
-    requires { ⌜ CanPushAt (lent (now state) (now others) (now objects) (now joined) (now tables)) (messagePacket id n (now b)) y i k (now ix) (now log) (now mine) (now seam) ⌝ }
+    requires { ⌜ CanPushAt (lent (now state) (now others) (now objects) (now joined) (now tables)) (messagePacket id n (now b)) y i k (now ix) (now log) (now mine) (now assembled) ⌝ }
     ensures { λ r. ⌜ QuietPushed (lent (now (state .entry)) (now (others .entry)) (now (objects .entry)) (now (joined .entry)) (now (tables .entry))) (message (messagePacket id n (now (b .entry)))) r (lent (now (state .exit)) (now (others .exit)) (now (objects .entry)) (now (joined .entry)) (now (tables .exit))) ⌝ }
 {
     let c = y.place;
-    let f = y.fate;
+    let f = y.outcome;
     let l = head::load_limits(state);
     let cs = messages::fragment_counted(f, counts::counters_of(state));
     let last = is_last(f);
@@ -183,7 +191,7 @@ fn whole_at(
         ix,
         log,
         mine,
-        seam,
+        assembled,
         i,
         c,
         last,
@@ -214,7 +222,7 @@ fn whole_in(
     id: u16,
     n: u32,
     b: &[u8],
-    y: Meeting,
+    y: ReceivedFragment,
     i: usize,
     k: u32,
 ) -> u8
@@ -224,7 +232,7 @@ fn whole_in(
     let mut ix = [0u8; 4608];
     let mut log = [0u64; 512];
     let mut mine = [0u64; 256];
-    let mut seam = [0u8; 65539];
+    let mut assembled = [0u8; 65539];
     whole_at(
         state,
         others,
@@ -234,7 +242,7 @@ fn whole_in(
         &mut ix,
         &mut log,
         &mut mine,
-        &mut seam,
+        &mut assembled,
         id,
         n,
         b,
@@ -255,7 +263,7 @@ fn push_whole(
     id: u16,
     n: u32,
     b: &[u8],
-    y: Meeting,
+    y: ReceivedFragment,
 ) -> u8
     requires { ⌜ CanPushWhole (lent (now state) (now others) (now objects) (now joined) (now tables)) (messagePacket id n (now b)) y ⌝ }
     ensures { λ r. ⌜ QuietPushed (lent (now (state .entry)) (now (others .entry)) (now (objects .entry)) (now (joined .entry)) (now (tables .entry))) (message (messagePacket id n (now (b .entry)))) r (lent (now (state .exit)) (now (others .exit)) (now (objects .entry)) (now (joined .entry)) (now (tables .exit))) ⌝ }
@@ -282,8 +290,8 @@ pub(crate) fn push_message(
     requires { ⌜ CanTakePacket (lent (now state) (now others) (now objects) (now joined) (now tables)) (now b) ⌝ }
     ensures { λ r. ⌜ QuietPushed (lent (now (state .entry)) (now (others .entry)) (now (objects .entry)) (now (joined .entry)) (now (tables .entry))) (message (messagePacket id n (now (b .entry)))) r (lent (now (state .exit)) (now (others .exit)) (now (objects .entry)) (now (joined .exit)) (now (tables .exit))) ⌝ }
 {
-    let y = messages::meet(state, id, n, b);
-    let f = y.fate;
+    let y = messages::receive(state, id, n, b);
+    let f = y.outcome;
     if messages::makes_whole(f) {
         return push_whole(state, others, objects, joined, tables, id, n, b, y);
     }

@@ -5,11 +5,12 @@ ghost use Prim.Native.Nat.{_+_, _<_, max};
 ghost use lib.ListN.{length};
 ghost use Rattle.isdb_mmt.specs.Maps.{one as oneOf};
 ghost use Rattle.isdb_mmt.specs.Mpu.{unitsOf};
+ghost use Rattle.isdb_mmt.specs.Layout.{mostCount};
 ghost use Rattle.isdb_mmt.specs.Records.{hasHeader, headerOr, hasItem, itemOr};
 ghost use Rattle.isdb_mmt.specs.MediaPush.{noObject};
-ghost use Rattle.isdb_mmt.specs.Survey.{unitObject, withLength, completeUnit, headUnit, droppedUnit, grownTo, grownUnit, surveyed, surveyOf, Ready, Light};
-ghost use Rattle.isdb_mmt.specs.Place.{gapAfter, gapIn, lostIn, headerIf, itemIf, tidied, begun, startOf, newIn, jumpIn, seenMpu, lastMpu, firstMpu, completesIn, addsOf, summed, placeAfter, Modest, Steps};
-ghost use Rattle.isdb_mmt.specs.Look.{looked, lookUnits, lookOf, CanLook};
+ghost use Rattle.isdb_mmt.specs.MediaEffect.{unitObject, withLength, completeUnit, headUnit, droppedUnit, grownTo, grownUnit, withUnit, unitsEffect, Ready, Light};
+ghost use Rattle.isdb_mmt.specs.MediaPlace.{gapAfter, gapIn, lostIn, headerIf, itemIf, normalObject, begun, startOf, newIn, jumpIn, seenMpu, lastMpu, firstMpu, completesIn, addsOf, summed, placeAfter, StatsWithin};
+ghost use Rattle.isdb_mmt.specs.MediaOutcome.{outcomeWith, unitsOutcome, mediaOutcome, CanReadUnits};
 use crate::decoder::counts::AssetStats;
 use crate::decoder::media::Media;
 use crate::decoder::media::Object;
@@ -27,7 +28,7 @@ use crate::part::Part;
 
 // What the units do: the object held after them, how many are dropped, the records and data given out, the longest object held
 // on the way, and the data of the last unit.
-pub(crate) struct Survey {
+pub(crate) struct MediaEffect {
     pub held: bool,
     pub object: Object,
     pub drops: u64,
@@ -37,9 +38,9 @@ pub(crate) struct Survey {
     pub last: Part,
 }
 
-pub(crate) enum Surveyed {
+pub(crate) enum UnitsEffect {
     Malformed,
-    Units(Survey),
+    Units(MediaEffect),
 }
 
 pub(crate) fn one(x: bool) -> u64
@@ -150,12 +151,12 @@ pub(crate) fn with_length(n: u32, o: Object) -> Object
     }
 }
 
-fn complete_unit(t: Survey, p: Part, n: u64) -> Survey
+fn complete_unit(t: MediaEffect, p: Part, n: u64) -> MediaEffect
     requires { ⌜ (t .drops < 4294967296) × ((t .records < 4294967296) × ((t .bytes < 1099511627776) × (n < 4294967296))) ⌝ }
     ensures { λ r. ⌜ r ≡ completeUnit t p n ⌝ }
 {
     let object = no_object();
-    Survey {
+    MediaEffect {
         held: false,
         object,
         drops: t.drops + one(t.held),
@@ -166,11 +167,11 @@ fn complete_unit(t: Survey, p: Part, n: u64) -> Survey
     }
 }
 
-fn head_unit(t: Survey, o: Object, p: Part, n: u64) -> Survey
+fn head_unit(t: MediaEffect, o: Object, p: Part, n: u64) -> MediaEffect
     requires { ⌜ t .drops < 4294967296 ⌝ }
     ensures { λ r. ⌜ r ≡ headUnit t o p n ⌝ }
 {
-    Survey {
+    MediaEffect {
         held: true,
         object: o,
         drops: t.drops + one(t.held),
@@ -181,12 +182,12 @@ fn head_unit(t: Survey, o: Object, p: Part, n: u64) -> Survey
     }
 }
 
-fn dropped_unit(t: Survey, p: Part) -> Survey
+fn dropped_unit(t: MediaEffect, p: Part) -> MediaEffect
     requires { ⌜ t .drops < 4294967296 ⌝ }
     ensures { λ r. ⌜ r ≡ droppedUnit t p ⌝ }
 {
     let object = no_object();
-    Survey {
+    MediaEffect {
         held: false,
         object,
         drops: t.drops + 1,
@@ -197,13 +198,13 @@ fn dropped_unit(t: Survey, p: Part) -> Survey
     }
 }
 
-fn grown_to(ends: bool, t: Survey, p: Part, n: u64) -> Survey
+fn grown_to(ends: bool, t: MediaEffect, p: Part, n: u64) -> MediaEffect
     requires { ⌜ (t .records < 4294967296) × ((t .bytes < 1099511627776) × (n < 4294967296)) ⌝ }
     ensures { λ r. ⌜ r ≡ grownTo ends t p n ⌝ }
 {
     if ends {
         let object = no_object();
-        return Survey {
+        return MediaEffect {
             held: false,
             object,
             drops: t.drops,
@@ -215,7 +216,7 @@ fn grown_to(ends: bool, t: Survey, p: Part, n: u64) -> Survey
     }
     let o = t.object;
     let object = with_length(n as u32, o);
-    Survey {
+    MediaEffect {
         held: true,
         object,
         drops: t.drops,
@@ -229,7 +230,7 @@ fn grown_to(ends: bool, t: Survey, p: Part, n: u64) -> Survey
 // An object has at most 16,777,216 bytes.
 const MOST_OBJECT: u64 = 16777216;
 
-fn grown_unit(ends: bool, t: Survey, p: Part, n: u64) -> Survey
+fn grown_unit(ends: bool, t: MediaEffect, p: Part, n: u64) -> MediaEffect
     requires { ⌜ (t .drops < 4294967296) × ((t .records < 4294967296) × ((t .bytes < 1099511627776) × (n < 4294967296))) ⌝ }
     ensures { λ r. ⌜ r ≡ grownUnit ends t p n ⌝ }
 {
@@ -244,9 +245,16 @@ fn grown_unit(ends: bool, t: Survey, p: Part, n: u64) -> Survey
     dropped_unit(t, p)
 }
 
-fn step(f: FragmentationIndicator, mpu: u32, rap: bool, t: Survey, u: Unit, n: u64) -> Survey
+fn step(
+    f: FragmentationIndicator,
+    mpu: u32,
+    rap: bool,
+    t: MediaEffect,
+    u: Unit,
+    n: u64,
+) -> MediaEffect
     requires { ⌜ Light t n ⌝ }
-    ensures { λ r. ⌜ r ≡ surveyed f mpu rap t u n ⌝ }
+    ensures { λ r. ⌜ r ≡ withUnit f mpu rap t u n ⌝ }
 {
     let p = u.data;
     match f {
@@ -257,24 +265,24 @@ fn step(f: FragmentationIndicator, mpu: u32, rap: bool, t: Survey, u: Unit, n: u
     }
 }
 
-pub(crate) fn survey_units(
+pub(crate) fn units_effect(
     q: &[u8],
     timed: bool,
     aggregated: bool,
     f: FragmentationIndicator,
     mpu: u32,
     rap: bool,
-    start: Survey,
-) -> Surveyed
+    start: MediaEffect,
+) -> UnitsEffect
     requires { ⌜ Ready (now q) start ⌝ }
-    ensures { λ r. ⌜ r ≡ surveyOf f mpu rap (now (q .entry)) start (unitsOf (now (q .entry)) timed aggregated) ⌝ }
+    ensures { λ r. ⌜ r ≡ unitsEffect f mpu rap (now (q .entry)) start (unitsOf (now (q .entry)) timed aggregated) ⌝ }
 {
     let mut at: usize = 8;
     let mut t = start;
     loop {
         match mpu::next_unit(q, timed, aggregated, at) {
-            UnitStep::End => return Surveyed::Units(t),
-            UnitStep::Malformed => return Surveyed::Malformed,
+            UnitStep::End => return UnitsEffect::Units(t),
+            UnitStep::Malformed => return UnitsEffect::Malformed,
             UnitStep::Unit(u, next) => {
                 let p = u.data;
                 let n = p.of(q).len();
@@ -328,8 +336,8 @@ fn item_if(there: bool, x: u32) -> u32
     0
 }
 
-fn tidied_object(o: Object) -> Object
-    ensures { λ r. ⌜ r ≡ tidied o ⌝ }
+fn normal_object(o: Object) -> Object
+    ensures { λ r. ⌜ r ≡ normalObject o ⌝ }
 {
     let h = o.header;
     let header = header_if(o.timed, h);
@@ -344,14 +352,14 @@ fn tidied_object(o: Object) -> Object
     }
 }
 
-fn begin(held: bool, o: Object, drops: u64) -> Survey
+fn begin(held: bool, o: Object, drops: u64) -> MediaEffect
     ensures { λ r. ⌜ r ≡ begun held o drops ⌝ }
 {
     let last = Part {
         start: 0,
         length: 0,
     };
-    Survey {
+    MediaEffect {
         held,
         object: o,
         drops,
@@ -363,7 +371,7 @@ fn begin(held: bool, o: Object, drops: u64) -> Survey
 }
 
 // Before the units: a gap drops the held object.
-pub(crate) fn start_of(p: Media, n: u32) -> Survey
+pub(crate) fn start_of(p: Media, n: u32) -> MediaEffect
     ensures { λ r. ⌜ r ≡ startOf p n ⌝ }
 {
     if !p.held {
@@ -373,7 +381,7 @@ pub(crate) fn start_of(p: Media, n: u32) -> Survey
         return begin(false, no_object(), 1);
     }
     let o = p.object;
-    begin(true, tidied_object(o), 0)
+    begin(true, normal_object(o), 0)
 }
 
 fn new_in(p: Media, h: MaybeHeader) -> bool
@@ -462,17 +470,17 @@ fn both(a: bool, b: bool) -> bool
 
 // What a packet would do: whether its payload is malformed, whether its units are taken, the payload's header, the survey of the
 // units.
-pub(crate) struct Look {
+pub(crate) struct MediaOutcome {
     pub bad: bool,
     pub taken: bool,
     pub header: MaybeHeader,
-    pub units: Survey,
+    pub units: MediaEffect,
 }
 
-fn look_made(bad: bool, taken: bool, header: MaybeHeader, units: Survey) -> Look
-    ensures { λ r. ⌜ r ≡ looked bad taken header units ⌝ }
+fn outcome_with(bad: bool, taken: bool, header: MaybeHeader, units: MediaEffect) -> MediaOutcome
+    ensures { λ r. ⌜ r ≡ outcomeWith bad taken header units ⌝ }
 {
-    Look {
+    MediaOutcome {
         bad,
         taken,
         header,
@@ -480,15 +488,15 @@ fn look_made(bad: bool, taken: bool, header: MaybeHeader, units: Survey) -> Look
     }
 }
 
-fn look_units(t: Survey, h: PayloadHeader, rap: bool, b: &[u8]) -> Look
+fn units_outcome(t: MediaEffect, h: PayloadHeader, rap: bool, b: &[u8]) -> MediaOutcome
     requires { ⌜ Ready (now b) t ⌝ }
-    ensures { λ r. ⌜ r ≡ lookUnits t h rap (now (b .entry)) (h .«fragment_type») ⌝ }
+    ensures { λ r. ⌜ r ≡ unitsOutcome t h rap (now (b .entry)) (h .«fragment_type») ⌝ }
 {
     let k = h.fragment_type;
     let f = h.fragmentation;
     match k {
         FragmentType::Mfu => {
-            match survey_units(
+            match units_effect(
                 mpu::declared(b),
                 h.timed,
                 h.aggregated,
@@ -497,34 +505,41 @@ fn look_units(t: Survey, h: PayloadHeader, rap: bool, b: &[u8]) -> Look
                 rap,
                 t,
             ) {
-                Surveyed::Malformed => look_made(true, false, MaybeHeader::Some(h), t),
-                Surveyed::Units(r) => look_made(false, true, MaybeHeader::Some(h), r),
+                UnitsEffect::Malformed => outcome_with(true, false, MaybeHeader::Some(h), t),
+                UnitsEffect::Units(r) => outcome_with(false, true, MaybeHeader::Some(h), r),
             }
         }
-        FragmentType::MpuMetadata => look_made(false, false, MaybeHeader::Some(h), t),
-        FragmentType::MovieFragmentMetadata => look_made(false, false, MaybeHeader::Some(h), t),
-        FragmentType::Reserved(c) => look_made(false, false, MaybeHeader::Some(h), t),
+        FragmentType::MpuMetadata => outcome_with(false, false, MaybeHeader::Some(h), t),
+        FragmentType::MovieFragmentMetadata => outcome_with(false, false, MaybeHeader::Some(h), t),
+        FragmentType::Reserved(c) => outcome_with(false, false, MaybeHeader::Some(h), t),
     }
 }
 
-pub(crate) fn look_at(p: Media, n: u32, scrambled: bool, rap: bool, b: &[u8]) -> Look
-    requires { ⌜ CanLook p (now b) ⌝ }
-    ensures { λ r. ⌜ r ≡ lookOf p n scrambled rap (now (b .entry)) ⌝ }
+pub(crate) fn media_outcome(p: Media, n: u32, scrambled: bool, rap: bool, b: &[u8]) -> MediaOutcome
+    requires { ⌜ CanReadUnits p (now b) ⌝ }
+    ensures { λ r. ⌜ r ≡ mediaOutcome p n scrambled rap (now (b .entry)) ⌝ }
 {
     let t = start_of(p, n);
     match mpu::parse_header(b) {
-        MaybeHeader::None => look_made(true, false, MaybeHeader::None, t),
+        MaybeHeader::None => outcome_with(true, false, MaybeHeader::None, t),
         MaybeHeader::Some(h) => {
             if scrambled {
-                return look_made(false, false, MaybeHeader::Some(h), t);
+                return outcome_with(false, false, MaybeHeader::Some(h), t);
             }
-            look_units(t, h, rap, b)
+            units_outcome(t, h, rap, b)
         }
     }
 }
 
 // What a packet adds to the counts.
-fn adds_of(p: Media, n: u32, scrambled: bool, h: MaybeHeader, bad: bool, t: Survey) -> AssetStats
+fn adds_of(
+    p: Media,
+    n: u32,
+    scrambled: bool,
+    h: MaybeHeader,
+    bad: bool,
+    t: MediaEffect,
+) -> AssetStats
     ensures { λ r. ⌜ r ≡ addsOf p n scrambled h bad t ⌝ }
 {
     AssetStats {
@@ -541,7 +556,7 @@ fn adds_of(p: Media, n: u32, scrambled: bool, h: MaybeHeader, bad: bool, t: Surv
 }
 
 fn add_stats(s: AssetStats, d: AssetStats) -> AssetStats
-    requires { ⌜ Modest s × Steps d ⌝ }
+    requires { ⌜ StatsWithin mostCount s × StatsWithin 4294967295 d ⌝ }
     ensures { λ r. ⌜ r ≡ summed s d ⌝ }
 {
     AssetStats {
@@ -565,9 +580,9 @@ pub(crate) fn place_after(
     scrambled: bool,
     h: MaybeHeader,
     bad: bool,
-    t: Survey,
+    t: MediaEffect,
 ) -> Media
-    requires { ⌜ Modest (p .stats) × ((t .records < 4294967296) × (t .drops < 4294967296)) ⌝ }
+    requires { ⌜ StatsWithin mostCount (p .stats) × ((t .records < 4294967296) × (t .drops < 4294967296)) ⌝ }
     ensures { λ r. ⌜ r ≡ placeAfter id p n scrambled h bad t ⌝ }
 {
     let object = t.object;

@@ -1,10 +1,10 @@
 // The place of a kept section: its key, version and length. Its bytes lie in the place's table area.
 ghost use mathlib.Core.Path.{_≡_};
-ghost use Prim.Native.Nat.{_+_, _*_, _≤_, _<_};
+ghost use Prim.Native.Nat.{_+_, _≤_, _<_};
 ghost use lib.ListN.{length};
 ghost use Rattle.isdb_tlv.specs.Fields.{written};
 ghost use Rattle.isdb_mmt.specs.Lent.{part, over};
-ghost use Rattle.isdb_mmt.specs.Layout.{mostSections, sectionPlaces, sectionSize, stateSize};
+ghost use Rattle.isdb_mmt.specs.Layout.{mostSections, sectionSize};
 ghost use Rattle.isdb_mmt.specs.Session.{sectionPlaceOf, sectionFields, sectionAt};
 use crate::decoder::layout::SECTION_PLACES;
 use crate::decoder::layout::SECTION_SIZE;
@@ -50,11 +50,4 @@ pub(crate) fn put_section_at(s: &mut [u8], at: usize, x: KeptSection)
         x.length as u64,
         0,
     );
-}
-
-pub(crate) fn store_section(s: &mut [u8], i: usize, x: KeptSection)
-    requires { ⌜ (i < mostSections) × (stateSize ≤ length (now s)) ⌝ }
-    ensures { λ r. ⌜ now (s .exit) ≡ over (sectionPlaces + sectionSize * i) (written (sectionFields x)) (now (s .entry)) ⌝ }
-{
-    put_section_at(s, SECTION_PLACES + SECTION_SIZE * i, x);
 }

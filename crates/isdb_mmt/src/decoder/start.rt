@@ -4,8 +4,8 @@ ghost use Prim.Native.Nat.{_+_, _*_, _≤_};
 ghost use lib.ListN.{length};
 ghost use Rattle.isdb_mmt.specs.Lent.{part};
 ghost use Rattle.isdb_mmt.specs.Layout.{sectionPlaces, stateSize};
-ghost use Rattle.isdb_mmt.specs.Verdict.{indexSize};
-ghost use Rattle.isdb_mmt.specs.Start.{recentAt, startOf, countersWith, noRecent, goingIn, recentLength, latestWith, tablesAsk, CanGo};
+ghost use Rattle.isdb_mmt.specs.TableOutcome.{indexSize};
+ghost use Rattle.isdb_mmt.specs.Start.{recentAt, startOf, countersWith, noRecent, walkStart, recentLength, latestWith, tablesAsk, CanGo};
 use crate::decoder::counts::Counters;
 use crate::decoder::head;
 use crate::decoder::head::Latest;
@@ -14,8 +14,8 @@ use crate::decoder::layout::SECTION_PLACES;
 use crate::decoder::layout::SECTION_SIZE;
 use crate::decoder::limits::Limits;
 use crate::decoder::place;
-use crate::decoder::verdict::Recent;
-use crate::decoder::walk::Going;
+use crate::decoder::table_outcome::Recent;
+use crate::decoder::walk::WalkState;
 use isdb_tlv::bytes;
 
 // All section places.
@@ -54,10 +54,10 @@ pub(crate) fn recent_in(tables: &[u8], i: usize, area: usize, there: bool, n: u3
     }
 }
 
-pub(crate) fn start_of(c: Counters, used: usize, mpt: Recent, plt: Recent, tot: Recent) -> Going
+pub(crate) fn start_of(c: Counters, used: usize, mpt: Recent, plt: Recent, tot: Recent) -> WalkState
     ensures { λ r. ⌜ r ≡ startOf c used mpt plt tot ⌝ }
 {
-    Going {
+    WalkState {
         used,
         tables: c.tables,
         crc_errors: c.crc_errors,
@@ -74,7 +74,7 @@ pub(crate) fn start_of(c: Counters, used: usize, mpt: Recent, plt: Recent, tot: 
 }
 
 // The counters with what a walk has counted.
-pub(crate) fn counters_with(c: Counters, g: Going) -> Counters
+pub(crate) fn counters_with(c: Counters, g: WalkState) -> Counters
     ensures { λ r. ⌜ r ≡ countersWith c g ⌝ }
 {
     Counters {
@@ -105,9 +105,9 @@ pub(crate) fn no_recent() -> Recent
 }
 
 // What a walk starts with in a session, with these counters and the MPT of a control id.
-pub(crate) fn going_in(state: &[u8], tables: &[u8], c: Counters, mpt: Recent) -> Going
+pub(crate) fn walk_start(state: &[u8], tables: &[u8], c: Counters, mpt: Recent) -> WalkState
     requires { ⌜ CanGo (now state) (now tables) ⌝ }
-    ensures { λ r. ⌜ r ≡ goingIn (now (state .entry)) (now (tables .entry)) c mpt ⌝ }
+    ensures { λ r. ⌜ r ≡ walkStart (now (state .entry)) (now (tables .entry)) c mpt ⌝ }
 {
     let l = head::load_limits(state);
     let u = head::load_used(state);
@@ -120,7 +120,7 @@ pub(crate) fn going_in(state: &[u8], tables: &[u8], c: Counters, mpt: Recent) ->
 }
 
 // Questions 8 and 9 of the tables, after a walk.
-pub(crate) fn tables_ask(l: Limits, g: Going) -> u8
+pub(crate) fn tables_ask(l: Limits, g: WalkState) -> u8
     ensures { λ r. ⌜ r ≡ tablesAsk l g ⌝ }
 {
     if g.full {
@@ -145,7 +145,7 @@ pub(crate) fn recent_length(r: Recent) -> u32
     0
 }
 
-pub(crate) fn latest_with(g: Going) -> Latest
+pub(crate) fn latest_with(g: WalkState) -> Latest
     ensures { λ r. ⌜ r ≡ latestWith g ⌝ }
 {
     let plt = g.plt;

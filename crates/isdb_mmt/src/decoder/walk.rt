@@ -5,18 +5,18 @@ ghost use Prim.Native.Nat.{_+_, _*_, _≤_, _<_, max};
 ghost use lib.ListN.{length, getD, set};
 ghost use Rattle.isdb_mmt.specs.Layout.{mostSections, mostCount, tableIds};
 ghost use Rattle.isdb_mmt.specs.Message.{tablesFrom};
-ghost use Rattle.isdb_mmt.specs.Joins.{tablesOf, cutOf};
+ghost use Rattle.isdb_mmt.specs.Reassembly.{tablesOf, cutOf};
 ghost use Rattle.isdb_mmt.specs.Kept.{tableRead};
 ghost use Rattle.isdb_mmt.specs.Placed.{joinOf, placed, placedOf, placedFrom, malformedFrom, placedCut, placedSections};
-ghost use Rattle.isdb_mmt.specs.Dry.{mostBefore, sectionRead, recent as recentOf, CanNote, CanCount, countedBy, keptWith, marked as markedOf, cutShort, usedWith, Noted, Walked, at as placedAt, CanTakeSection, CanWalkSections, CanTake, CanWalk, inBody};
+ghost use Rattle.isdb_mmt.specs.PendingTables.{mostBefore, sectionRead, recent as recentOf, CanApply, CanCount, countedBy, keptWith, marked as markedOf, cutShort, usedWith, Applied, Walked, at as placedAt, CanTakeSection, CanWalkSections, CanTake, CanWalk, inBody};
 use crate::decoder::joined;
 use crate::decoder::layout::MOST_SECTIONS;
 use crate::decoder::layout::SECTION_SIZE;
 use crate::decoder::section::put_section_at;
-use crate::decoder::verdict;
-use crate::decoder::verdict::Act;
-use crate::decoder::verdict::Recent;
-use crate::decoder::verdict::Told;
+use crate::decoder::table_outcome;
+use crate::decoder::table_outcome::Recent;
+use crate::decoder::table_outcome::TableAction;
+use crate::decoder::table_outcome::TableOutcome;
 use crate::message::Content;
 use crate::message::MessageStep;
 use crate::message::TableStep;
@@ -28,7 +28,7 @@ use isdb_tlv::si::MaybeSection;
 const SECTIONS: usize = MOST_SECTIONS as usize;
 
 // What the walk carries.
-pub(crate) struct Going {
+pub(crate) struct WalkState {
     pub used: usize,
     pub tables: u64,
     pub crc_errors: u64,
@@ -75,14 +75,14 @@ fn recent(version: u8, from: u64, length: u32) -> Recent
     }
 }
 
-fn counted(g: Going, t: Told) -> Going
+fn counted(g: WalkState, t: TableOutcome) -> WalkState
     requires { ⌜ CanCount g t ⌝ }
     ensures { λ r. ⌜ r ≡ countedBy g t ⌝ }
 {
     let mpt = g.mpt;
     let plt = g.plt;
     let tot = g.tot;
-    Going {
+    WalkState {
         used: g.used,
         tables: g.tables + 1,
         crc_errors: g.crc_errors + t.crc_errors,
@@ -98,10 +98,10 @@ fn counted(g: Going, t: Told) -> Going
     }
 }
 
-fn kept(g: Going, used: usize, mpt: Recent, plt: Recent, tot: Recent, n: u32) -> Going
+fn kept(g: WalkState, used: usize, mpt: Recent, plt: Recent, tot: Recent, n: u32) -> WalkState
     ensures { λ r. ⌜ r ≡ keptWith g used mpt plt tot n ⌝ }
 {
-    Going {
+    WalkState {
         used,
         tables: g.tables,
         crc_errors: g.crc_errors,
@@ -117,13 +117,13 @@ fn kept(g: Going, used: usize, mpt: Recent, plt: Recent, tot: Recent, n: u32) ->
     }
 }
 
-fn marked(g: Going, message_malformed: u64, full: bool) -> Going
+fn marked(g: WalkState, message_malformed: u64, full: bool) -> WalkState
     ensures { λ r. ⌜ r ≡ markedOf g «message_malformed» full ⌝ }
 {
     let mpt = g.mpt;
     let plt = g.plt;
     let tot = g.tot;
-    Going {
+    WalkState {
         used: g.used,
         tables: g.tables,
         crc_errors: g.crc_errors,
@@ -140,7 +140,7 @@ fn marked(g: Going, message_malformed: u64, full: bool) -> Going
 }
 
 // A message, or a table of one, is cut short.
-fn cut_short(g: Going) -> Going
+fn cut_short(g: WalkState) -> WalkState
     requires { ⌜ g .«message_malformed» ≤ mostBefore ⌝ }
     ensures { λ r. ⌜ r ≡ cutShort g ⌝ }
 {
@@ -158,16 +158,16 @@ fn count_other(others: &mut [u64], id: u8)
 }
 
 // One step on the copies.
-pub(crate) fn note(
+pub(crate) fn apply(
     ix: &mut [u8],
     log: &mut [u64],
     others: &mut [u64],
-    g: Going,
-    t: Told,
+    g: WalkState,
+    t: TableOutcome,
     from: u64,
-) -> Going
-    requires { ⌜ CanNote (now ix) (now log) (now others) g t ⌝ }
-    ensures { λ r. ⌜ Noted (now (ix .entry)) (now (log .entry)) (now (others .entry)) g t from r (now (ix .exit)) (now (log .exit)) (now (others .exit)) ⌝ }
+) -> WalkState
+    requires { ⌜ CanApply (now ix) (now log) (now others) g t ⌝ }
+    ensures { λ r. ⌜ Applied (now (ix .entry)) (now (log .entry)) (now (others .entry)) g t from r (now (ix .exit)) (now (log .exit)) (now (others .exit)) ⌝ }
 {
     if g.full {
         return g;
@@ -179,15 +179,15 @@ pub(crate) fn note(
     let used = c.used;
     let act = t.act;
     match act {
-        Act::Nothing => c,
-        Act::Other(id) => {
+        TableAction::Nothing => c,
+        TableAction::Other(id) => {
             count_other(others, id);
             c
         }
-        Act::Mpt(v, n) => kept(c, used, recent(v, from, n), plt, tot, n),
-        Act::Plt(v, n) => kept(c, used, mpt, recent(v, from, n), tot, n),
-        Act::Tot(n) => kept(c, used, mpt, plt, recent(0, from, n), n),
-        Act::Put(i, x) => {
+        TableAction::Mpt(v, n) => kept(c, used, recent(v, from, n), plt, tot, n),
+        TableAction::Plt(v, n) => kept(c, used, mpt, recent(v, from, n), tot, n),
+        TableAction::Tot(n) => kept(c, used, mpt, plt, recent(0, from, n), n),
+        TableAction::Put(i, x) => {
             if SECTIONS <= i {
                 return marked(c, c.message_malformed, true);
             }
@@ -203,16 +203,16 @@ fn section(
     ix: &mut [u8],
     log: &mut [u64],
     others: &mut [u64],
-    g: Going,
+    g: WalkState,
     t: &[u8],
     at: usize,
-) -> Going
+) -> WalkState
     requires { ⌜ CanTakeSection (now ix) (now log) (now others) g (now t) at ⌝ }
     ensures { λ r. ⌜ Walked sectionRead (now (ix .entry)) (now (log .entry)) (now (others .entry)) g (placedAt at (now (t .entry)) ∷ []) 1 0 r (now (ix .exit)) (now (log .exit)) (now (others .exit)) ⌝ }
 {
     let used = g.used;
-    let x = verdict::section_told(ix, used, t);
-    note(ix, log, others, g, x, at as u64 + 1)
+    let x = table_outcome::section_outcome(ix, used, t);
+    apply(ix, log, others, g, x, at as u64 + 1)
 }
 
 // The sections of a control packet's data.
@@ -220,9 +220,9 @@ pub(crate) fn sections(
     ix: &mut [u8],
     log: &mut [u64],
     others: &mut [u64],
-    start: Going,
+    start: WalkState,
     b: &[u8],
-) -> Going
+) -> WalkState
     requires { ⌜ CanWalkSections (now ix) (now log) (now others) start (now b) ⌝ }
     ensures { λ r. ⌜ Walked sectionRead (now (ix .entry)) (now (log .entry)) (now (others .entry)) start (placedSections (now (b .entry)) 0) (length (now (b .entry)) + 1) 0 r (now (ix .exit)) (now (log .exit)) (now (others .exit)) ⌝ }
 {
@@ -248,14 +248,14 @@ fn table(
     ix: &mut [u8],
     log: &mut [u64],
     others: &mut [u64],
-    seam: &mut [u8],
-    g: Going,
+    assembled: &mut [u8],
+    g: WalkState,
     a: &[u8],
     b: &[u8],
     p: Part,
     from: usize,
-) -> Going
-    requires { ⌜ CanTake (now ix) (now log) (now others) (now seam) g (now a ++ now b) p from ⌝ }
+) -> WalkState
+    requires { ⌜ CanTake (now ix) (now log) (now others) (now assembled) g (now a ++ now b) p from ⌝ }
     ensures { λ r. ⌜ Walked tableRead (now (ix .entry)) (now (log .entry)) (now (others .entry)) g (placed from (now (a .entry) ++ now (b .entry)) p ∷ []) 1 0 r (now (ix .exit)) (now (log .exit)) (now (others .exit)) ⌝ }
 {
     let mpt = g.mpt;
@@ -263,8 +263,8 @@ fn table(
     let used = g.used;
     let k = from + p.start;
     let q = joined::behind(a.len(), p);
-    let x = verdict::joined_verdict(seam, ix, used, mpt, plt, p.of(a), q.of(b));
-    note(ix, log, others, g, x, k as u64 + 1)
+    let x = table_outcome::joined_outcome(assembled, ix, used, mpt, plt, p.of(a), q.of(b));
+    apply(ix, log, others, g, x, k as u64 + 1)
 }
 
 // The tables of a PA message's body, which starts at a place of the joined data.
@@ -272,14 +272,14 @@ fn tables(
     ix: &mut [u8],
     log: &mut [u64],
     others: &mut [u64],
-    seam: &mut [u8],
-    start: Going,
+    assembled: &mut [u8],
+    start: WalkState,
     a: &[u8],
     b: &[u8],
     first: usize,
     from: usize,
-) -> Going
-    requires { ⌜ CanWalk (now ix) (now log) (now others) (now seam) start (now a ++ now b) from (2 * mostCount) ⌝ }
+) -> WalkState
+    requires { ⌜ CanWalk (now ix) (now log) (now others) (now assembled) start (now a ++ now b) from (2 * mostCount) ⌝ }
     ensures { λ r. ⌜ Walked tableRead (now (ix .entry)) (now (log .entry)) (now (others .entry)) start (inBody (now (a .entry) ++ now (b .entry)) from first) (length (now (a .entry) ++ now (b .entry)) + 1) (tablesFrom (now (a .entry) ++ now (b .entry)) first .malformed) r (now (ix .exit)) (now (log .exit)) (now (others .exit)) ⌝ }
 {
     let mut g = start;
@@ -287,7 +287,7 @@ fn tables(
     loop {
         match joined::next_table(a, b, at) {
             TableStep::Table(p, next) => {
-                g = table(ix, log, others, seam, g, a, b, p, from);
+                g = table(ix, log, others, assembled, g, a, b, p, from);
                 at = next;
             }
             TableStep::Malformed => {
@@ -305,23 +305,23 @@ fn message(
     ix: &mut [u8],
     log: &mut [u64],
     others: &mut [u64],
-    seam: &mut [u8],
-    g: Going,
+    assembled: &mut [u8],
+    g: WalkState,
     a: &[u8],
     b: &[u8],
     from: usize,
-) -> Going
-    requires { ⌜ CanWalk (now ix) (now log) (now others) (now seam) g (now a ++ now b) from (2 * mostCount) ⌝ }
+) -> WalkState
+    requires { ⌜ CanWalk (now ix) (now log) (now others) (now assembled) g (now a ++ now b) from (2 * mostCount) ⌝ }
     ensures { λ r. ⌜ Walked tableRead (now (ix .entry)) (now (log .entry)) (now (others .entry)) g (placedOf from (now (a .entry) ++ now (b .entry))) (length (now (a .entry) ++ now (b .entry)) + 1) (tablesOf (now (a .entry) ++ now (b .entry)) .malformed) r (now (ix .exit)) (now (log .exit)) (now (others .exit)) ⌝ }
 {
     match joined::content_of(a, b) {
         Content::Malformed => cut_short(g),
         Content::Nothing => g,
-        Content::Table(p) => table(ix, log, others, seam, g, a, b, p, from),
+        Content::Table(p) => table(ix, log, others, assembled, g, a, b, p, from),
         Content::Tables { body, at } => {
             let k = from + body.start;
             let q = joined::behind(a.len(), body);
-            tables(ix, log, others, seam, g, body.of(a), q.of(b), at, k)
+            tables(ix, log, others, assembled, g, body.of(a), q.of(b), at, k)
         }
     }
 }
@@ -331,13 +331,13 @@ fn messages(
     ix: &mut [u8],
     log: &mut [u64],
     others: &mut [u64],
-    seam: &mut [u8],
-    start: Going,
+    assembled: &mut [u8],
+    start: WalkState,
     a: &[u8],
     b: &[u8],
     long: bool,
-) -> Going
-    requires { ⌜ CanWalk (now ix) (now log) (now others) (now seam) start (now a ++ now b) 0 mostCount ⌝ }
+) -> WalkState
+    requires { ⌜ CanWalk (now ix) (now log) (now others) (now assembled) start (now a ++ now b) 0 mostCount ⌝ }
     ensures { λ r. ⌜ Walked tableRead (now (ix .entry)) (now (log .entry)) (now (others .entry)) start (placedFrom (now (a .entry) ++ now (b .entry)) long 0) (length (now (a .entry) ++ now (b .entry)) + 1) (malformedFrom (now (a .entry) ++ now (b .entry)) long 0) r (now (ix .exit)) (now (log .exit)) (now (others .exit)) ⌝ }
 {
     let mut g = start;
@@ -347,7 +347,7 @@ fn messages(
             MessageStep::Message(p, next) => {
                 let k = p.start;
                 let q = joined::behind(a.len(), p);
-                g = message(ix, log, others, seam, g, p.of(a), q.of(b), k);
+                g = message(ix, log, others, assembled, g, p.of(a), q.of(b), k);
                 at = next;
             }
             MessageStep::Malformed => {
@@ -365,18 +365,18 @@ pub(crate) fn joined_tables(
     ix: &mut [u8],
     log: &mut [u64],
     others: &mut [u64],
-    seam: &mut [u8],
-    g: Going,
+    assembled: &mut [u8],
+    g: WalkState,
     a: &[u8],
     b: &[u8],
     long: bool,
     aggregated: bool,
-) -> Going
-    requires { ⌜ CanWalk (now ix) (now log) (now others) (now seam) g (now a ++ now b) 0 mostCount ⌝ }
+) -> WalkState
+    requires { ⌜ CanWalk (now ix) (now log) (now others) (now assembled) g (now a ++ now b) 0 mostCount ⌝ }
     ensures { λ r. ⌜ Walked tableRead (now (ix .entry)) (now (log .entry)) (now (others .entry)) g (placedCut (joinOf long aggregated (now (a .entry) ++ now (b .entry)))) (length (now (a .entry) ++ now (b .entry)) + 1) (cutOf (joinOf long aggregated (now (a .entry) ++ now (b .entry))) .malformed) r (now (ix .exit)) (now (log .exit)) (now (others .exit)) ⌝ }
 {
     if aggregated {
-        return messages(ix, log, others, seam, g, a, b, long);
+        return messages(ix, log, others, assembled, g, a, b, long);
     }
-    message(ix, log, others, seam, g, a, b, 0)
+    message(ix, log, others, assembled, g, a, b, 0)
 }

@@ -11,29 +11,24 @@ use crate::desc::Found;
 use crate::location::Located;
 use crate::location::Location;
 use crate::maybe::MaybeU16;
+use crate::maybe::MaybeUsize;
 use crate::part;
 use crate::part::Part;
 use crate::table::section;
 use isdb_tlv::bytes;
 
-// A place, or none.
-pub enum Place {
-    None,
-    At(usize),
-}
-
 // How many bytes a table of an MPT's or a PLT's form declares, where they are there.
-pub fn declared_length(b: &[u8]) -> Place
+pub fn declared_length(b: &[u8]) -> MaybeUsize
     ensures { λ r. ⌜ r ≡ declaredLength (now (b .entry)) ⌝ }
 {
     if b.len() < 4 {
-        return Place::None;
+        return MaybeUsize::None;
     }
     let n = bytes::get_u16(b, 2) as usize + 4;
     if b.len() < n {
-        return Place::None;
+        return MaybeUsize::None;
     }
-    Place::At(n)
+    MaybeUsize::Some(n)
 }
 
 pub struct Asset {
@@ -62,19 +57,19 @@ pub fn location_at(t: &[u8], at: usize) -> Located
 }
 
 // Behind n locations, the first of which stands at a place.
-fn locations_end(t: &[u8], n: u8, from: usize) -> Place
+fn locations_end(t: &[u8], n: u8, from: usize) -> MaybeUsize
     ensures { λ r. ⌜ r ≡ locationsEnd n (now (t .entry)) from ⌝ }
 {
     let mut at = from;
     let mut left = n;
     while 0 < left {
         match location_at(t, at) {
-            Located::None => return Place::None,
+            Located::None => return MaybeUsize::None,
             Located::Some(_, taken) => at += taken,
         }
         left -= 1;
     }
-    Place::At(at)
+    MaybeUsize::Some(at)
 }
 
 // The asset at p whose type stands at q and whose descriptors' length stands at end.
@@ -125,8 +120,8 @@ pub fn asset_at(t: &[u8], at: usize) -> AssetStep
         return AssetStep::Malformed;
     }
     match locations_end(t, bytes::get_u8(t, q + 5), q + 6) {
-        Place::None => AssetStep::Malformed,
-        Place::At(end) => asset_fields(t, at, q, end),
+        MaybeUsize::None => AssetStep::Malformed,
+        MaybeUsize::Some(end) => asset_fields(t, at, q, end),
     }
 }
 
@@ -252,8 +247,8 @@ pub fn parse(b: &[u8]) -> MptParsed
     ensures { λ r. ⌜ r ≡ mptOf (now (b .entry)) ⌝ }
 {
     match declared_length(b) {
-        Place::None => no_table(0),
-        Place::At(n) => read(bytes::part(b, 0, n)),
+        MaybeUsize::None => no_table(0),
+        MaybeUsize::Some(n) => read(bytes::part(b, 0, n)),
     }
 }
 

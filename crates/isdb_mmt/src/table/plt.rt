@@ -4,10 +4,10 @@ ghost use mathlib.Core.Path.{_≡_};
 ghost use Rattle.isdb_mmt.specs.Plt.{packageAt, packagesEnd, deliverySize, deliveryAt, deliveriesWhole, pltWith, pltDeliveries, pltTable, pltOf};
 use crate::location::Located;
 use crate::location::Location;
+use crate::maybe::MaybeUsize;
 use crate::part;
 use crate::part::Part;
 use crate::table::mpt;
-use crate::table::mpt::Place;
 use isdb_tlv::bytes;
 
 pub struct Package {
@@ -49,19 +49,19 @@ pub fn package_at(t: &[u8], at: usize) -> PackageStep
 }
 
 // Behind n packages, the first of which stands at a place.
-fn packages_end(t: &[u8], n: u8, from: usize) -> Place
+fn packages_end(t: &[u8], n: u8, from: usize) -> MaybeUsize
     ensures { λ r. ⌜ r ≡ packagesEnd n (now (t .entry)) from ⌝ }
 {
     let mut at = from;
     let mut left = n;
     while 0 < left {
         match package_at(t, at) {
-            PackageStep::Malformed => return Place::None,
+            PackageStep::Malformed => return MaybeUsize::None,
             PackageStep::Package(_, next) => at = next,
         }
         left -= 1;
     }
-    Place::At(at)
+    MaybeUsize::Some(at)
 }
 
 pub struct IpDelivery {
@@ -75,19 +75,19 @@ pub enum DeliveryStep {
 }
 
 // How many bytes of location follow the type, in the bytes from it on: types 1, 2 and 5 alone are known.
-fn delivery_size(b: &[u8]) -> Place
+fn delivery_size(b: &[u8]) -> MaybeUsize
     ensures { λ r. ⌜ r ≡ deliverySize (now (b .entry)) ⌝ }
 {
     match bytes::get_u8(b, 0) {
-        1 => Place::At(10),
-        2 => Place::At(34),
+        1 => MaybeUsize::Some(10),
+        2 => MaybeUsize::Some(34),
         5 => {
             if b.len() < 2 {
-                return Place::None;
+                return MaybeUsize::None;
             }
-            Place::At(bytes::get_u8(b, 1) as usize + 1)
+            MaybeUsize::Some(bytes::get_u8(b, 1) as usize + 1)
         }
-        _ => Place::None,
+        _ => MaybeUsize::None,
     }
 }
 
@@ -100,8 +100,8 @@ pub fn delivery_at(t: &[u8], at: usize) -> DeliveryStep
     }
     let p = at + 4;
     match delivery_size(bytes::rest(t, p)) {
-        Place::None => DeliveryStep::Malformed,
-        Place::At(n) => {
+        MaybeUsize::None => DeliveryStep::Malformed,
+        MaybeUsize::Some(n) => {
             let start = at + 7 + n;
             if t.len() < start {
                 return DeliveryStep::Malformed;
@@ -181,8 +181,8 @@ fn read(t: &[u8]) -> MaybePlt
         return MaybePlt::None;
     }
     match packages_end(t, bytes::get_u8(t, 4), 5) {
-        Place::None => MaybePlt::None,
-        Place::At(at) => read_deliveries(t, at),
+        MaybeUsize::None => MaybePlt::None,
+        MaybeUsize::Some(at) => read_deliveries(t, at),
     }
 }
 
@@ -191,7 +191,7 @@ pub fn parse(b: &[u8]) -> MaybePlt
     ensures { λ r. ⌜ r ≡ pltOf (now (b .entry)) ⌝ }
 {
     match mpt::declared_length(b) {
-        Place::None => MaybePlt::None,
-        Place::At(n) => read(bytes::part(b, 0, n)),
+        MaybeUsize::None => MaybePlt::None,
+        MaybeUsize::Some(n) => read(bytes::part(b, 0, n)),
     }
 }

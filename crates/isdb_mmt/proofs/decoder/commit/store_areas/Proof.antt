@@ -1,5 +1,4 @@
 use Rattle.isdb_mmt.proofs.Commits.{areas-mpt, areas-done}
-use native.Mathlib.Omega.{arith}
 use borrow.Author.Needs.{needs}
 use Rattle.isdb_mmt.proofs.decoder.commit.store_areas.Statement.{statement}
 use Rattle.isdb_mmt.proofs.decoder.commit.store_areas.Tie as tie

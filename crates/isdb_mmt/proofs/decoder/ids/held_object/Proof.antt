@@ -1,7 +1,5 @@
 use Rattle.isdb_mmt.proofs.ReadSteps.{object-place, item-is}
 use mathlib.Core.Path.{refl}
-use native.Mathlib.Omega.{arith}
-use Rattle.isdb_mmt.proofs.Limits.{areas-fit}
 use borrow.Author.Needs.{needs}
 use Rattle.isdb_mmt.proofs.decoder.ids.held_object.Statement.{statement}
 use Rattle.isdb_mmt.proofs.decoder.ids.held_object.Tie as tie

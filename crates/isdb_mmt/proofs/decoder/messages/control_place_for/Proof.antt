@@ -1,4 +1,4 @@
-use Rattle.isdb_mmt.proofs.Lines.{place-for-there, place-for-is}
+use Rattle.isdb_mmt.proofs.FragmentPushes.{place-for-there, place-for-is}
 use borrow.Author.Needs.{needs}
 use Rattle.isdb_mmt.proofs.decoder.messages.control_place_for.Statement.{statement}
 use Rattle.isdb_mmt.proofs.decoder.messages.control_place_for.Tie as tie

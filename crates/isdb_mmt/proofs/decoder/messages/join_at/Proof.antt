@@ -1,4 +1,4 @@
-use Rattle.isdb_mmt.proofs.Lines.{area-fits, joins-within, no-area, area-joined}
+use Rattle.isdb_mmt.proofs.FragmentPushes.{area-fits, joins-within, no-area, area-joined}
 use borrow.Author.Needs.{needs}
 use Rattle.isdb_mmt.proofs.decoder.messages.join_at.Statement.{statement}
 use Rattle.isdb_mmt.proofs.decoder.messages.join_at.Tie as tie

@@ -1,4 +1,4 @@
-use Rattle.isdb_mmt.proofs.Lines.{old-there, old-place, new-place, full-place}
+use Rattle.isdb_mmt.proofs.FragmentPushes.{old-there, old-place, new-place, full-place}
 use borrow.Author.Needs.{needs}
 use Rattle.isdb_mmt.proofs.decoder.messages.place_in.Statement.{statement}
 use Rattle.isdb_mmt.proofs.decoder.messages.place_in.Tie as tie

@@ -1,4 +1,4 @@
-use Rattle.isdb_mmt.proofs.Lines.{joins-old, joins-new, pushed-old, pushed-new, pushed-full}
+use Rattle.isdb_mmt.proofs.FragmentPushes.{joins-old, joins-new, pushed-old, pushed-new, pushed-full}
 use borrow.Author.Needs.{needs}
 use Rattle.isdb_mmt.proofs.decoder.messages.push_fragment.Statement.{statement}
 use Rattle.isdb_mmt.proofs.decoder.messages.push_fragment.Tie as tie

@@ -1,4 +1,4 @@
-use Rattle.isdb_mmt.proofs.Lines.{counts-stored}
+use Rattle.isdb_mmt.proofs.FragmentPushes.{counts-stored}
 use borrow.Author.Needs.{needs}
 use Rattle.isdb_mmt.proofs.decoder.messages.store_counts.Statement.{statement}
 use Rattle.isdb_mmt.proofs.decoder.messages.store_counts.Tie as tie

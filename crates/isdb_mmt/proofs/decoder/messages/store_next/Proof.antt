@@ -1,4 +1,4 @@
-use Rattle.isdb_mmt.proofs.Lines.{can-count, few-used, next-stored}
+use Rattle.isdb_mmt.proofs.FragmentPushes.{can-count, few-used, next-stored}
 use borrow.Author.Needs.{needs}
 use Rattle.isdb_mmt.proofs.decoder.messages.store_next.Statement.{statement}
 use Rattle.isdb_mmt.proofs.decoder.messages.store_next.Tie as tie

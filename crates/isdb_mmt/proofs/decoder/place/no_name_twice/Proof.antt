@@ -1,5 +1,5 @@
 use borrow.Author.Needs.{needs}
-use Rattle.isdb_mmt.proofs.Names.{next-in, name-in, earlier-in, Marked, none-marked, stands-twice, mark-next, all-apart}
+use Rattle.isdb_mmt.proofs.Names.{next-in, name-in, earlier-in, Marked, none-marked, located-twice, mark-next, all-apart}
 use Rattle.isdb_mmt.specs.Lent.{namesFrom}
 use mathlib.Core.Path.{_≡_, refl}
 use Prim.Native.Nat.{_+_, _*_, _-_, _≤_}
@@ -22,7 +22,7 @@ is-among-requires : tie.Need-is-among-requires Inv-loop μ-loop
 is-among-requires c κs = (search needs, search (needs, earlier-in))
 
 returns : tie.Need-returns Inv-loop μ-loop
-returns c = stands-twice _ _ _ _ _ _ (c .before .before .before .before .before .before .loop .inv .1 .1) _ _ (c .before .before .before .before .before .before .loop .inv .1 .0) (c .before .before .before .before .word .ensures) _ (c .before .before .before .cell .ensures .0) _ (c .before .is-among .ensures) (c .before .before .before .before .before .loop-test .taken) (c .if1 .taken)
+returns c = located-twice _ _ _ _ _ _ (c .before .before .before .before .before .before .loop .inv .1 .1) _ _ (c .before .before .before .before .before .before .loop .inv .1 .0) (c .before .before .before .before .word .ensures) _ (c .before .before .before .cell .ensures .0) _ (c .before .is-among .ensures) (c .before .before .before .before .before .loop-test .taken) (c .if1 .taken)
 
 add-p : tie.Need-add-p Inv-loop μ-loop
 add-p c = let k = next-in _ _ _ _ _ _ (c .before .before .before .before .before .before .before .before .before .before .pre .1 .0) (c .before .before .before .before .before .before .loop-test .taken) (c .before .before .before .before .before .before .before .loop .inv .1 .0) in search needs

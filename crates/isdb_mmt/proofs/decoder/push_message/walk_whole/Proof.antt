@@ -14,7 +14,7 @@ before-by-requires : tie.Need-before-by-requires
 before-by-requires c κs = walk-before _ _ _ _ _ _ _ _ _ _ _ _ _ (c .before .before .before .before .before .before .before .before .before .before .before .before .before .before .before .before .before .before .before .before .before .before .before .before .pre) _ (c .before .before .before .before .before .before .before .before .before .before .before .before .before .before .load-limits .ensures)
 
 joined-tables-requires : tie.Need-joined-tables-requires
-joined-tables-requires c κs = walk-can _ _ _ _ _ _ _ _ _ _ _ _ _ (c .before .before .before .before .before .before .before .before .before .before .before .before .before .before .before .before .before .before .before .before .before .before .before .before .before .before .before .before .before .before .before .before .pre) _ (c .before .before .before .before .before .before .before .before .before .before .before .before .before .before .before .before .before .before .before .before .before .before .load-limits .ensures) _ _ _ (c .before .before .before .before .before .before .before .before .before .before .before .before .before .before .before .before .before .before .before .before .load-index .ensures) (c .before .before .before .before .before .before .before .before .before .before .before .before .before .before .before .before .clear-counts .ensures) (c .before .before .before .before .before .before .before .before .before .before .before .before .copy-counts .ensures) _ (c .before .before .before .before .before .before .before .before .before .recent-in .ensures) _ (c .before .before .before .before .before .before .before .before .going-in .ensures) _ (c .before .before .before .before .before .before .before .before-by .ensures) _ (c .rest .ensures)
+joined-tables-requires c κs = walk-can _ _ _ _ _ _ _ _ _ _ _ _ _ (c .before .before .before .before .before .before .before .before .before .before .before .before .before .before .before .before .before .before .before .before .before .before .before .before .before .before .before .before .before .before .before .before .pre) _ (c .before .before .before .before .before .before .before .before .before .before .before .before .before .before .before .before .before .before .before .before .before .before .load-limits .ensures) _ _ _ (c .before .before .before .before .before .before .before .before .before .before .before .before .before .before .before .before .before .before .before .before .load-index .ensures) (c .before .before .before .before .before .before .before .before .before .before .before .before .before .before .before .before .clear-counts .ensures) (c .before .before .before .before .before .before .before .before .before .before .before .before .copy-counts .ensures) _ (c .before .before .before .before .before .before .before .before .before .recent-in .ensures) _ (c .before .before .before .before .before .before .before .before .walk-start .ensures) _ (c .before .before .before .before .before .before .before .before-by .ensures) _ (c .rest .ensures)
 
 same-length : tie.Need-same-length
 same-length c = omega (arith, c .before .before .before .before .before .before .before .ix2 .given, c .before .before .before .before .before .before .before .before .before .before .before .before .before .before .before .before .before .before .before .before .before .before .before .before .before .before .before .before .ix .given)
@@ -26,7 +26,7 @@ same-length-3 : tie.Need-same-length-3
 same-length-3 c = omega (arith, c .before .before .before .mine2 .given, c .before .before .before .before .before .before .before .before .before .before .before .before .before .before .before .before .before .before .before .before .mine .given)
 
 returns : tie.Need-returns
-returns c = walk-done _ _ _ _ _ _ _ _ _ _ _ _ _ (c .before .before .before .before .before .before .before .before .before .before .before .before .before .before .before .before .before .before .before .before .before .before .before .before .before .before .before .before .before .before .before .before .before .before .before .before .before .before .before .before .before .pre) _ (c .before .before .before .before .before .before .before .before .before .before .before .before .before .before .before .before .before .before .before .before .before .before .before .before .before .before .before .before .before .before .before .load-limits .ensures) _ _ _ (c .before .before .before .before .before .before .before .before .before .before .before .before .before .before .before .before .before .before .before .before .before .before .before .before .before .before .before .before .before .load-index .ensures) (c .before .before .before .before .before .before .before .before .before .before .before .before .before .before .before .before .before .before .before .before .before .before .before .before .before .clear-counts .ensures) (c .before .before .before .before .before .before .before .before .before .before .before .before .before .before .before .before .before .before .before .before .before .copy-counts .ensures) _ (c .before .before .before .before .before .before .before .before .before .before .before .before .before .before .before .before .before .before .recent-in .ensures) _ (c .before .before .before .before .before .before .before .before .before .before .before .before .before .before .before .before .before .going-in .ensures) _ (c .before .before .before .before .before .before .before .before .before .before .before .before .before .before .before .before .before-by .ensures) _ (c .before .before .before .before .before .before .before .before .before .rest .ensures) _ (c .before .before .before .before .before .before .before .before .before .before .before .before .before .before .before .long-by .ensures) _ (c .before .before .before .before .before .before .before .before .before .before .before .before .before .before .aggregated-by .ensures) _ _ _ _ (c .before .before .before .before .before .before .before .before .joined-tables .ensures)
+returns c = walk-done _ _ _ _ _ _ _ _ _ _ _ _ _ (c .before .before .before .before .before .before .before .before .before .before .before .before .before .before .before .before .before .before .before .before .before .before .before .before .before .before .before .before .before .before .before .before .before .before .before .before .before .before .before .before .before .pre) _ (c .before .before .before .before .before .before .before .before .before .before .before .before .before .before .before .before .before .before .before .before .before .before .before .before .before .before .before .before .before .before .before .load-limits .ensures) _ _ _ (c .before .before .before .before .before .before .before .before .before .before .before .before .before .before .before .before .before .before .before .before .before .before .before .before .before .before .before .before .before .load-index .ensures) (c .before .before .before .before .before .before .before .before .before .before .before .before .before .before .before .before .before .before .before .before .before .before .before .before .before .clear-counts .ensures) (c .before .before .before .before .before .before .before .before .before .before .before .before .before .before .before .before .before .before .before .before .before .copy-counts .ensures) _ (c .before .before .before .before .before .before .before .before .before .before .before .before .before .before .before .before .before .before .recent-in .ensures) _ (c .before .before .before .before .before .before .before .before .before .before .before .before .before .before .before .before .before .walk-start .ensures) _ (c .before .before .before .before .before .before .before .before .before .before .before .before .before .before .before .before .before-by .ensures) _ (c .before .before .before .before .before .before .before .before .before .rest .ensures) _ (c .before .before .before .before .before .before .before .before .before .before .before .before .before .before .before .long-by .ensures) _ (c .before .before .before .before .before .before .before .before .before .before .before .before .before .before .aggregated-by .ensures) _ _ _ _ (c .before .before .before .before .before .before .before .before .joined-tables .ensures)
 
 pub walk-whole-spec : {M : Type 1} → statement M
 walk-whole-spec =

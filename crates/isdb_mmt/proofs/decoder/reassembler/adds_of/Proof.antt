@@ -1,4 +1,4 @@
-use Rattle.isdb_mmt.proofs.Looks.{adds-made}
+use Rattle.isdb_mmt.proofs.MediaOutcomes.{adds-made}
 use borrow.Author.Needs.{needs}
 use Rattle.isdb_mmt.proofs.decoder.reassembler.adds_of.Statement.{statement}
 use Rattle.isdb_mmt.proofs.decoder.reassembler.adds_of.Tie as tie

@@ -1,4 +1,4 @@
-use Rattle.isdb_mmt.specs.Place.{startOf}
+use Rattle.isdb_mmt.specs.MediaPlace.{startOf}
 use borrow.Author.Needs.{needs}
 use Rattle.isdb_mmt.proofs.decoder.reassembler.start_of.Statement.{statement}
 use Rattle.isdb_mmt.proofs.decoder.reassembler.start_of.Tie as tie
@@ -30,7 +30,7 @@ returns-3 c =
       c .before .before .before .before .before .if1 .left,
       ← c .before .before .before .before .gap-in .ensures,
       c .before .before .before .if2 .left,
-      ← c .before .tidied-object .ensures,
+      ← c .before .normal-object .ensures,
       ← c .begin3 .ensures,
     )
 

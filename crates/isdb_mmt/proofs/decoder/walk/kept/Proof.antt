@@ -1,4 +1,4 @@
-use Rattle.isdb_mmt.proofs.Notes.{kept-is}
+use Rattle.isdb_mmt.proofs.Applied.{kept-is}
 use borrow.Author.Needs.{needs}
 use Rattle.isdb_mmt.proofs.decoder.walk.kept.Statement.{statement}
 use Rattle.isdb_mmt.proofs.decoder.walk.kept.Tie as tie

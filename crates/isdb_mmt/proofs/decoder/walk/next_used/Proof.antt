@@ -1,4 +1,4 @@
-use Rattle.isdb_mmt.proofs.Notes.{used-same, used-next}
+use Rattle.isdb_mmt.proofs.Applied.{used-same, used-next}
 use borrow.Author.Needs.{needs}
 use Rattle.isdb_mmt.proofs.decoder.walk.next_used.Statement.{statement}
 use Rattle.isdb_mmt.proofs.decoder.walk.next_used.Tie as tie

@@ -9,10 +9,10 @@ use Rattle.isdb_mmt.proofs.decoder.walk.tables.Statement.{statement}
 use Rattle.isdb_mmt.proofs.decoder.walk.tables.Tie as tie
 
 abbrev Inv-loop : tie.InvT-loop
-Inv-loop ix₀ log₀ others₀ seam₀ a b first from g₀ at₀ ix log others seam g at = InTables ix₀ log₀ others₀ seam₀ g₀ (a ++ b) first from ix log others seam g at
+Inv-loop ix₀ log₀ others₀ assembled₀ a b first from g₀ at₀ ix log others assembled g at = InTables ix₀ log₀ others₀ assembled₀ g₀ (a ++ b) first from ix log others assembled g at
 
 abbrev μ-loop : tie.MeasureT-loop
-μ-loop ix₀ log₀ others₀ seam₀ a b first from g₀ at₀ ix log others seam g at = length (a ++ b) - at
+μ-loop ix₀ log₀ others₀ assembled₀ a b first from g₀ at₀ ix log others assembled g at = length (a ++ b) - at
 
 loop-holds : tie.Need-loop-holds Inv-loop μ-loop
 loop-holds c = tables-start _ _ _ _ _ _ _ _ (c .before .before .before .before .before .before .pre)
@@ -42,7 +42,7 @@ same-length-3 : tie.Need-same-length-3 Inv-loop μ-loop
 same-length-3 c = omega (arith, c .before .before .before .before .loop .inv .goes .copies .othersLong, c .before .before .before .before .loop .inv .can .copies .othersLong)
 
 same-length-4 : tie.Need-same-length-4 Inv-loop μ-loop
-same-length-4 c = omega (arith, c .before .before .before .before .loop .inv .seamLong, c .before .before .before .before .loop .inv .can .seamLong)
+same-length-4 c = omega (arith, c .before .before .before .before .loop .inv .assembledLong, c .before .before .before .before .loop .inv .can .assembledLong)
 
 returns : tie.Need-returns Inv-loop μ-loop
 returns c = tables-cut _ _ _ _ _ _ _ _ _ _ _ _ _ _ (c .before .before .before .before .loop .inv) _ (c .before .before .before .next-table .ensures) (c .before .enum-told .given .1) _ (c .cut-short .ensures)
@@ -57,7 +57,7 @@ same-length-7 : tie.Need-same-length-7 Inv-loop μ-loop
 same-length-7 c = omega (arith, c .before .before .before .loop .inv .goes .copies .othersLong, c .before .before .before .loop .inv .can .copies .othersLong)
 
 same-length-8 : tie.Need-same-length-8 Inv-loop μ-loop
-same-length-8 c = omega (arith, c .before .before .before .loop .inv .seamLong, c .before .before .before .loop .inv .can .seamLong)
+same-length-8 c = omega (arith, c .before .before .before .loop .inv .assembledLong, c .before .before .before .loop .inv .can .assembledLong)
 
 returns-2 : tie.Need-returns-2 Inv-loop μ-loop
 returns-2 c = tables-end _ _ _ _ _ _ _ _ _ _ _ _ _ _ (c .before .before .before .loop .inv) _ (c .before .before .next-table .ensures) (c .enum-told2 .given .1)
