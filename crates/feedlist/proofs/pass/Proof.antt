@@ -10,7 +10,8 @@ Inv-loop state₀ others₀ objects₀ messages₀ tables₀ window rows₀ data
     Unit {0}
 
 abbrev μ-loop : tie.MeasureT-loop
-μ-loop state₀ others₀ objects₀ messages₀ tables₀ window rows₀ data₀ at₀ state others objects messages tables rows «data» at = length window - at
+μ-loop state₀ others₀ objects₀ messages₀ tables₀ window rows₀ data₀ at₀ state others objects messages tables rows «data» at =
+    length window - at
 
 loop-less : tie.Need-loop-less Inv-loop μ-loop
 loop-less c = search (needs, packet-less)

@@ -11,7 +11,8 @@ use Rattle.isdb_text.proofs.listing.media_lines.Tie as tie
 abbrev Inv-loop : tie.InvT-loop
 Inv-loop state others objects messages tables out₀ at p₀ from₀ left₀ out p from left =
     (length out ≡ length out₀)
-    × Left out₀ at (mediaLines (lent state others objects messages tables)) out p (mediaLinesFrom left (lent state others objects messages tables) from)
+    × Left out₀ at (mediaLines (lent state others objects messages tables)) out p
+    (mediaLinesFrom left (lent state others objects messages tables) from)
 
 abbrev μ-loop : tie.MeasureT-loop
 μ-loop state others objects messages tables out₀ at p₀ from₀ left₀ out p from left = left
@@ -29,7 +30,8 @@ loop-again c =
     let d = r .before .before .before in
     let n = d .before .before .before in (
       search needs,
-      lines-turn _ _ _ (n .before .before .loop .inv .1) _ (n .next-media .ensures) _ (d .before .id .given .1) (n .before .loop-test .taken) _
+      lines-turn _ _ _ (n .before .before .loop .inv .1) _ (n .next-media .ensures) _ (d .before .id .given .1)
+          (n .before .loop-test .taken) _
           (r .before .media .ensures) (r .media-text .ensures),
     )
 
