@@ -1,0 +1,187 @@
+// Lists the media ids of a recording: standard input as TLV packets, pushed into a session one by one.
+use isdb_mmt::decoder;
+use isdb_mmt::decoder::limits::Limits;
+use isdb_text::cut;
+use isdb_text::cut::Cut;
+use isdb_text::cut::Stop;
+use isdb_text::listing;
+use isdb_tlv::bytes;
+
+// The most data of a packet.
+const MOST: usize = 16384;
+
+// What was made of a window: all whole packets in it taken, and where the rest starts; or where reading stops.
+enum Passed {
+    More(usize),
+    Bad(usize),
+    Refused(u8),
+}
+
+fn limits() -> Limits {
+    Limits {
+        media_ids: 4,
+        control_ids: 4,
+        sections: 4,
+        mfu_area: 4096,
+        message_area: 4096,
+        table_area: 2048,
+        packets: 4294967295,
+        pass_scrambled: false,
+    }
+}
+
+// Pushes the packets of a window, one after the other.
+fn pass(
+    state: &mut [u8; 13144],
+    others: &mut [u64; 256],
+    objects: &mut [u8; 16384],
+    messages: &mut [u8; 16384],
+    tables: &mut [u8; 20480],
+    window: &[u8],
+    rows: &mut [u8; 36864],
+    data: &mut [u8; 16384],
+) -> Passed {
+    let mut at: usize = 0;
+    while at < window.len() {
+        match cut::cut_at(window, MOST, at) {
+            Cut::Packet {
+                kind,
+                start,
+                length,
+                next,
+            } => {
+                let packet = bytes::part(window, start, length);
+                let a = decoder::push(
+                    state,
+                    others,
+                    objects,
+                    messages,
+                    tables,
+                    kind,
+                    packet,
+                    rows,
+                    data,
+                );
+                if a.number != 0 {
+                    return Passed::Refused(a.number);
+                }
+                at = next;
+            }
+            Cut::Bad => return Passed::Bad(at),
+            Cut::Short => return Passed::More(at),
+            Cut::End => return Passed::More(at),
+        }
+    }
+    Passed::More(at)
+}
+
+// Moves what lies from at to end to the front, and answers how much that is.
+fn to_front(window: &mut [u8; 65536], at: usize, end: usize) -> usize {
+    if end <= at {
+        return 0;
+    }
+    let left = end - at;
+    let mut i: usize = 0;
+    while i < left {
+        let x = bytes::get_u8(window, at + i);
+        bytes::put_u8(window, i, x);
+        i += 1;
+    }
+    left
+}
+
+// Reads more into a window that holds n bytes, and answers how many it holds then.
+fn read_behind(window: &mut [u8], n: usize) -> usize {
+    if window.len() <= n {
+        return n;
+    }
+    let got = libc::read(0, &mut window[n..]);
+    n + io::count(got, &window[n..])
+}
+
+fn read_all(
+    state: &mut [u8; 13144],
+    others: &mut [u64; 256],
+    objects: &mut [u8; 16384],
+    messages: &mut [u8; 16384],
+    tables: &mut [u8; 20480],
+    window: &mut [u8; 65536],
+    rows: &mut [u8; 36864],
+    data: &mut [u8; 16384],
+) -> Stop {
+    let mut base: u64 = 0;
+    let mut n: usize = 0;
+    let mut turns = u64::MAX;
+    while turns > 0 {
+        let m = read_behind(window, n);
+        if m <= n {
+            if n == 0 {
+                return Stop::Clean;
+            }
+            return Stop::Bad(base);
+        }
+        match pass(
+            state,
+            others,
+            objects,
+            messages,
+            tables,
+            bytes::part(window, 0, m),
+            rows,
+            data,
+        ) {
+            Passed::More(at) => {
+                n = to_front(window, at, m);
+                base = std::num::wrapping_add_u64(base, at as u64);
+            }
+            Passed::Bad(at) => return Stop::Bad(std::num::wrapping_add_u64(base, at as u64)),
+            Passed::Refused(number) => return Stop::Refused(number),
+        }
+        turns -= 1;
+    }
+    Stop::Clean
+}
+
+// Writes the list.
+fn report(
+    state: &[u8; 13144],
+    others: &[u64; 256],
+    objects: &[u8; 16384],
+    messages: &[u8; 16384],
+    tables: &[u8; 20480],
+    stop: Stop,
+) {
+    let mut text = [0u8; 4096];
+    let n = listing::listing(state, others, objects, messages, tables, stop, &mut text, 0);
+    io::write_all(1, bytes::part(&text, 0, n));
+}
+
+fn main() {
+    let mut state = [0u8; 13144];
+    let mut others = [0u64; 256];
+    let mut objects = [0u8; 16384];
+    let mut messages = [0u8; 16384];
+    let mut tables = [0u8; 20480];
+    let mut window = [0u8; 65536];
+    let mut rows = [0u8; 36864];
+    let mut data = [0u8; 16384];
+    decoder::open(
+        limits(),
+        &mut state,
+        &mut others,
+        &objects,
+        &messages,
+        &tables,
+    );
+    let stop = read_all(
+        &mut state,
+        &mut others,
+        &mut objects,
+        &mut messages,
+        &mut tables,
+        &mut window,
+        &mut rows,
+        &mut data,
+    );
+    report(&state, &others, &objects, &messages, &tables, stop);
+}

@@ -1,0 +1,5 @@
+-- The definitions that the contracts cite.
+pub mod Text
+pub mod Fill
+pub mod Cut
+pub mod Listing

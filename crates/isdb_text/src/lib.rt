@@ -1,0 +1,5 @@
+// Text in lent bytes, and what the programs write.
+pub mod cut;
+pub mod fill;
+pub mod listing;
+pub mod text;
