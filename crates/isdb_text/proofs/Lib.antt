@@ -1,6 +1,7 @@
 -- Laws that belong to no one function, a file a subject.
 pub mod Written
 pub mod Spelling
+pub mod DigitValues
 pub mod Filling
 pub mod Examples
 pub mod Cutting

@@ -2,4 +2,5 @@
 pub mod Text
 pub mod Fill
 pub mod Cut
+pub mod Digits
 pub mod Listing
