@@ -3,7 +3,6 @@
 use Prim.Native.Nat.{ℕ, _+_, _≤_, _<_}
 use mathlib.Core.Path.{_≡_}
 use mathlib.Core.List.{List}
-use native.Mathlib.Omega.{arith}
 use lib.ListN.{length}
 use Rattle.isdb_mmt.specs.declared.part.Part.{Part}
 
@@ -12,7 +11,3 @@ pub record Lies (s : List ℕ) (at : ℕ) (p : Part) (next : ℕ) : Type 0 where
   pub within : next ≤ length s
   pub starts : at ≤ p .start
   pub ends : p .start + p .length ≡ next
-
--- it has no more bytes than there are
-pub no-longer : {s : List ℕ} {at next : ℕ} {p : Part} → Lies s at p next → p .length ≤ length s
-no-longer l = omega (arith, l .within, l .ends)
