@@ -5,6 +5,7 @@ use mathlib.Core.List.{[], _∷_}
 use lib.Ieee.{binary64, ofInt, sub, div, toBits}
 use Rattle.isdb_tlv.specs.Fields.{bytesOf}
 use Rattle.isdb_tlv.specs.Bytes.{be}
+use Rattle.isdb_mmt.specs.Maps.{isSome}
 use Rattle.isdb_mmt.specs.Part.{partAt}
 use Rattle.isdb_mmt.specs.Location.{sized, urlOf, locationOf, packetId}
 use Rattle.isdb_mmt.specs.Ntp.{ntpToUnix}
@@ -56,7 +57,7 @@ desc-next = refl
 -- wrong: count = 1 => count = 2 (the broken one too)
 -- wrong: broken = true => broken = false (a break taken for the end)
 pub decode-all : counted (splitOf (bytesOf 8 0x8011020010801109)) ≡ record { count = 1; broken = true }
-unfolding bytesOf be lengthWidth stepAt splitFrom splitOf counted
+unfolding bytesOf be lengthWidth stepAt splitFrom splitOf counted isSome
 decode-all = refl
 
 -- Descriptor::decode: a body too short for its structure
@@ -115,7 +116,7 @@ next-mpu = refl
 -- wrong: notExtended => extended (record { timescale = noU32; «default_pts_offset» = someU16 16; «own_pts_offset» = false; start = 3 }) (its head alone)
 -- wrong: notExtended => extended (record { timescale = someU32 0; «default_pts_offset» = noU16; «own_pts_offset» = false; start = 1 }) (the flags misread)
 pub parse-extended : extendedOf (bytesOf 12 0x020010000000074000640100) ≡ notExtended
-unfolding bytesOf be mpuAt mpusFrom mpusWhole extendedOf
+unfolding bytesOf be mpuAt mpusFrom mpusWhole extendedOf isSome
 parse-extended = refl
 
 -- a default PTS offset of 16

@@ -4,7 +4,7 @@ use mathlib.Core.Bool.{true, false}
 use Rattle.isdb_tlv.specs.Fields.{bytesOf}
 use Rattle.isdb_tlv.specs.Bytes.{be, withBit}
 use Rattle.isdb_tlv.specs.Crc.{feed, feedByte, crcOf}
-use Rattle.isdb_tlv.specs.Mmtp.{fecCode, fecType, payloadCode, payloadType, bitsOf, entry, scrambleInfo, scrambleControl, extensionAt, afterFixed, mmtpOf}
+use Rattle.isdb_tlv.specs.Mmtp.{fecCode, fecType, payloadCode, payloadType, bitsOf, entry, entries, scrambleInfo, scrambleControl, extensionAt, afterFixed, mmtpOf}
 use Rattle.isdb_tlv.specs.Messages.{wordOf, has, insert, setOf, sectionMessage, messageOf, messageIn, prefixedAt, messageAt, messageStep, messagesFrom, messagesOf, counted}
 use Rattle.isdb_tlv.specs.Si.{isTlvSi, sectionAt, sectionsFrom, nextSection}
 use Rattle.isdb_tlv.specs.declared.mmtp.FecType.the-variants.{NotProtected, Repair, Reserved as reservedFec}
@@ -63,7 +63,7 @@ scramble-control = refl
 -- wrong: start = 30 => start = 26 (without the packet counter)
 pub parse : mmtpOf (bytesOf 31 0x2300F1000000000000000005000000090000000A000100011080010001007A)
     ≡ somePacket (record { header = record { «fec_type» = NotProtected; rap = true; «payload_type» = Mpu; «packet_id» = 0xF100; sequence = 5; «scramble_info» = true; «scramble_control» = someControl 2 }; start = 30 })
-unfolding bytesOf be fecType payloadType bitsOf entry extensionAt afterFixed mmtpOf
+unfolding bytesOf be fecType payloadType bitsOf entry entries extensionAt afterFixed mmtpOf
 parse = refl
 
 -- TableIds::contains

@@ -8,6 +8,7 @@ use Rattle.isdb_tlv.specs.Fields.{bytesOf}
 use Rattle.isdb_tlv.specs.Bytes.{be}
 use Rattle.isdb_tlv.specs.Crc.{feed, feedByte, crcOf}
 use Rattle.isdb_tlv.specs.declared.ip.Address.the-variants.{V4}
+use Rattle.isdb_mmt.specs.Maps.{isSome}
 use Rattle.isdb_mmt.specs.Part.{partAt}
 use Rattle.isdb_mmt.specs.Location.{sized, locationOf}
 use Rattle.isdb_mmt.specs.Desc.{lengthWidth, stepAt, splitFrom, splitOf, broken, streamIdentifier, serviceText, shortEvent, descriptorOf, firstOf}
@@ -80,14 +81,14 @@ next-entry = refl
 -- wrong: 1 => 0 (a break taken for the end)
 -- wrong: 1 => 3 (the bytes left over)
 pub broken-loop : broken (bytesOf 3 0x801109) ≡ 1
-unfolding bytesOf be lengthWidth stepAt splitFrom splitOf
+unfolding bytesOf be lengthWidth stepAt splitFrom splitOf isSome
 broken-loop = refl
 
 -- section::read_entries: two entries, the second with a broken loop, and a byte left over
 -- wrong: count = 2 => count = 3 (the byte too)
 -- wrong: breaks = 1; whole = false => breaks = 0; whole = false (no breaks of what fails)
 pub read-entries : entriesTold (entriesFrom (bytesOf 10 0x01F00002F00380110903) 1 0) ≡ record { count = 2; breaks = 1; whole = false }
-unfolding bytesOf be lengthWidth stepAt splitFrom splitOf entryAt entriesFrom entriesTold
+unfolding bytesOf be lengthWidth stepAt splitFrom splitOf entryAt entriesFrom entriesTold isSome
 read-entries = refl
 
 -- eit::read: five bytes
@@ -109,7 +110,7 @@ pub eit-parse : eitOf eitSection
       result = eitOk (header 0x8B 101 7 36) (record { «tlv_stream_id» = 11; «original_network_id» = 4; «segment_last_section_number» = 0; «last_table_id» = 78; events = 2 });
       breaks = 2;
     }
-unfolding bytesOf be feed feedByte crcOf lengthWidth stepAt splitFrom splitOf longSectionOf entryAt entriesFrom eitBody eitOf
+unfolding bytesOf be feed feedByte crcOf lengthWidth stepAt splitFrom splitOf longSectionOf entryAt entriesFrom eitBody eitOf isSome
 eit-parse = refl
 
 -- eit::next_event
@@ -173,7 +174,7 @@ pub bit-parse : bitOf (bytesOf 23 0x9DF0140004C30000F00380110901F00380110988268B
       result = bitOk (header 0x9D 4 1 11) (record { «broadcast_view_propriety» = true; descriptors = partAt 2 3; broadcasters = 1 });
       breaks = 2;
     }
-unfolding bytesOf be feed feedByte crcOf lengthWidth stepAt splitFrom splitOf longSectionOf entryAt entriesFrom bitBody bitOf
+unfolding bytesOf be feed feedByte crcOf lengthWidth stepAt splitFrom splitOf longSectionOf entryAt entriesFrom bitBody bitOf isSome
 bit-parse = refl
 
 -- bit::next_broadcaster
@@ -246,21 +247,21 @@ amt-service = refl
 -- wrong: noAmt Malformed => amtOk (header 0xFE 0 1 16) (record { services = 1 }) (as many as are there)
 -- wrong: noAmt Malformed => amtOk (header 0xFE 0 1 16) (record { services = 2 }) (as many as are said)
 pub amt-read : amtBody (header 0xFE 0 1 16) (bytesOf 16 0x008000657C0AC0A8000120EFFF010218) ≡ noAmt Malformed
-unfolding bytesOf be serviceAt servicesWhole amtBody
+unfolding bytesOf be serviceAt servicesWhole amtBody isSome
 amt-read = refl
 
 -- amt::parse: the number of services is the high ten bits
 -- wrong: services = 0 => services = 63 (all sixteen)
 -- wrong: amtOk (header 0xFE 0 1 2) (record { services = 0 }) => noAmt Malformed (no service)
 pub amt-parse : amtOf (bytesOf 14 0xFEF00B0000C30000003FB63BB41B) ≡ amtOk (header 0xFE 0 1 2) (record { services = 0 })
-unfolding bytesOf be feed feedByte crcOf longSectionOf servicesWhole amtBody amtOf
+unfolding bytesOf be feed feedByte crcOf longSectionOf servicesWhole amtBody amtOf isSome
 amt-parse = refl
 
 -- tot::parse: the descriptors may run into the CRC
 -- wrong: totOk (record { jst = 0xE3B9123456; descriptors = part 10 4 }); breaks = 1 => noTot Malformed; breaks = 0 (they may not)
 -- wrong: breaks = 1 => breaks = 0 (a break in the CRC's bytes not counted)
 pub tot-parse : totOf (bytesOf 14 0xA1700BE3B9123456F004A4B4A880) ≡ record { result = totOk (record { jst = 0xE3B9123456; descriptors = partAt 10 4 }); breaks = 1 }
-unfolding bytesOf be feed feedByte crcOf lengthWidth stepAt splitFrom splitOf totFields totOf
+unfolding bytesOf be feed feedByte crcOf lengthWidth stepAt splitFrom splitOf totFields totOf isSome
 tot-parse = refl
 
 -- mpt::declared_length
@@ -289,7 +290,7 @@ asset-at = refl
 -- wrong: breaks = 1 => breaks = 0 (it does not)
 -- wrong: mpt = noMpt; breaks = 1 => mpt = someMpt (record { «table_id» = 0x20; version = 3; mode = 1; «package_id» = part 6 2; descriptors = part 10 1; assets = 0; start = 12 }); breaks = 1 (the missing number of assets read as 0)
 pub mpt-parse : mptOf (bytesOf 11 0x20030007FD020065000100) ≡ record { mpt = noMpt; breaks = 1 }
-unfolding bytesOf be lengthWidth stepAt splitFrom splitOf declaredLength mptAssets mptTable mptOf
+unfolding bytesOf be lengthWidth stepAt splitFrom splitOf declaredLength mptAssets mptTable mptOf isSome
 mpt-parse = refl
 
 -- Mpt::service_id: the last two bytes of the package id
@@ -333,5 +334,5 @@ delivery-at = refl
 -- wrong: «ip_deliveries» = 1 => «ip_deliveries» = 0 (the last one left out)
 pub plt-parse : pltOf (bytesOf 23 0x80040013000100000009010000000000000000000001F4)
     ≡ somePlt (record { version = 4; packages = 0; «ip_deliveries» = 1; «deliveries_start» = 6 })
-unfolding bytesOf be declaredLength deliverySize deliveryAt deliveriesWhole pltDeliveries pltTable pltOf
+unfolding bytesOf be declaredLength deliverySize deliveryAt deliveriesWhole pltDeliveries pltTable pltOf isSome
 plt-parse = refl

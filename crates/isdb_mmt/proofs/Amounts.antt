@@ -11,18 +11,18 @@ use lib.Dec.{ltb, leb, eqb}
 use borrow.Author.Tests.{ltb-false}
 use Rattle.isdb_tlv.specs.Bytes.{be}
 use Rattle.isdb_tlv.specs.Crc.{crcOf}
-use Rattle.isdb_tlv.specs.Walk.{Next, stop, more, turn, run}
+use Rattle.isdb_tlv.specs.Walk.{Next, stop, more, turn, run, also}
 use Rattle.isdb_tlv.proofs.Guards.{cond-elim}
 use Rattle.isdb_mmt.specs.Part.{partAt, partOf}
 use Rattle.isdb_mmt.specs.Packet.{Bytes}
-use Rattle.isdb_mmt.specs.Mpu.{unitStep, item, also, unitsFrom, unitsOf}
+use Rattle.isdb_mmt.specs.Mpu.{unitStep, item, unitsFrom, unitsOf}
 use Rattle.isdb_mmt.specs.Message.{prefixWidth, aggregatedAt, bodyPart, paTables, sectionTable, contentOf, tableAt, Aggregated, aggregatedItem, aggregatedFrom, tableItem, tablesFrom}
-use Rattle.isdb_mmt.specs.Section.{length12, longSectionOf, entriesFrom, entriesTold}
-use Rattle.isdb_mmt.specs.Eit.{eitOf, eitIn, eitBody}
-use Rattle.isdb_mmt.specs.Sdt.{sdtOf, sdtIn, sdtBody}
-use Rattle.isdb_mmt.specs.Bit.{bitOf, bitIn, bitBody}
+use Rattle.isdb_mmt.specs.Section.{length12, longSectionOf, inSection, entriesFrom, entriesTold}
+use Rattle.isdb_mmt.specs.Eit.{eitOf, eitBody}
+use Rattle.isdb_mmt.specs.Sdt.{sdtOf, sdtBody}
+use Rattle.isdb_mmt.specs.Bit.{bitOf, bitBody}
 use Rattle.isdb_mmt.specs.Tot.{totOf, totFields}
-use Rattle.isdb_mmt.specs.Mpt.{mptOf, mptIn, mptTable as mptWhole, mptAssets, declaredLength, locationsEnd, behindLocation, assetFields, assetBehind, assetAt, assetThen, assetsFrom}
+use Rattle.isdb_mmt.specs.Mpt.{mptOf, mptIn, mptTable as mptWhole, mptAssets, declaredLength, locationsEnd, behindLocation, assetFields, assetBehind, assetAt, assetItem, assetsFrom}
 use Rattle.isdb_mmt.specs.Location.{locationOf}
 use Rattle.isdb_mmt.specs.Reassembly.{PartialMessage, TablesFound, partsOf, tablesIn, tablesOf, tablesOfAll, messagesOf, cutOf}
 use Rattle.isdb_mmt.specs.Kept.{sectionOf, bodyRead, Body, Table, emptyTable, mptTable, pltTable, totTable, truncatedSection, aSection, otherTable, longTable, tableById, tableRead}
@@ -36,6 +36,7 @@ use Rattle.isdb_mmt.specs.declared.message.Content.the-variants.{Malform
 use Rattle.isdb_mmt.specs.declared.mpu.Unit.{Unit as DataUnit}
 use Rattle.isdb_mmt.specs.declared.mpu.UnitStep.{UnitStep}
 use Rattle.isdb_mmt.specs.declared.mpu.UnitStep.the-variants.{End, Malformed, Unit as found}
+use Rattle.isdb_mmt.specs.declared.table.section.SectionError.{SectionError}
 use Rattle.isdb_mmt.specs.declared.table.section.LongSection.{LongSection}
 use Rattle.isdb_mmt.specs.declared.table.section.LongSection.the-variants.{Ok, Err}
 use Rattle.isdb_mmt.specs.declared.table.section.SectionHeader.{SectionHeader}
@@ -59,13 +60,13 @@ module _ {R : Type 0} (size : R → ℕ) (n : ℕ) where
   Grows at (stop r) = size r ≤ n - at
   Grows at (more next f) = (at ≤ next) × (next ≤ n) × ((r : R) → size (f r) ≤ size r + (next - at))
 
-  module _ (step : ℕ → Next R) (out : R) (z : size out ≡ 0) (grows : (at : ℕ) → Grows at (step at)) where
+  module _ (step : ℕ → Next R) (out : ℕ → R) (z : (at : ℕ) → size (out at) ≡ 0) (grows : (at : ℕ) → Grows at (step at)) where
     grows-on : (k at : ℕ) → ((p : ℕ) → size (run step out k p) ≤ n - p) → (d : Next R) → Grows at d → size (turn (run step out k) d) ≤ n - at
     grows-on k at h (stop r) g = g
     grows-on k at h (more next f) g = omega (arith, h next, g .0, g .1, g .2 (run step out k next))
 
     pub grows-within : (k at : ℕ) → size (run step out k at) ≤ n - at
-    grows-within zero at = omega (arith, z)
+    grows-within zero at = omega (arith, z at)
     grows-within (suc k) at = grows-on k at (grows-within k) (step at) (grows at)
 
 -- ---- units
@@ -91,7 +92,7 @@ module _ (s : Bytes) (timed aggregated : Bool) where
   pub units-le : unitCount (unitsOf s timed aggregated) ≤ length s
   unfolding unitsOf unitsFrom
   units-le =
-      let h = grows-within unitCount (length s) (λ p. item (unitStep s timed aggregated p)) none refl (λ p. unit-grows p (unitStep s timed aggregated p) (unit-inside s timed aggregated p)) (suc (length s)) 8 in
+      let h = grows-within unitCount (length s) (λ p. item (unitStep s timed aggregated p)) (λ p. none) (λ p. refl) (λ p. unit-grows p (unitStep s timed aggregated p) (unit-inside s timed aggregated p)) (suc (length s)) 8 in
       omega (arith, h)
 
 -- ---- messages and tables
@@ -150,7 +151,7 @@ module _ (s : Bytes) (long : Bool) where
   pieces-le : spread (aggregatedFrom s long 0) ≤ length s
   unfolding aggregatedFrom
   pieces-le =
-      omega (arith, grows-within spread (length s) (λ p. aggregatedItem (aggregatedAt s long p)) (record { found = []; malformed = 0 }) refl piece-grows (suc (length s)) 0)
+      omega (arith, grows-within spread (length s) (λ p. aggregatedItem (aggregatedAt s long p)) (λ p. record { found = []; malformed = 0 }) (λ p. refl) piece-grows (suc (length s)) 0)
 
 module _ (s : Bytes) where
   table-counts : (at : ℕ) → Grows count (length s) at (tableItem (tableAt s at))
@@ -178,12 +179,12 @@ module _ (s : Bytes) where
   tables-count : (at : ℕ) → count (tablesFrom s at) ≤ length s
   unfolding tablesFrom
   tables-count at =
-      omega (arith, grows-within count (length s) (λ p. tableItem (tableAt s p)) (record { found = []; malformed = 0 }) refl table-counts (suc (length s)) at)
+      omega (arith, grows-within count (length s) (λ p. tableItem (tableAt s p)) (λ p. record { found = []; malformed = 0 }) (λ p. refl) table-counts (suc (length s)) at)
 
   tables-cover : (at : ℕ) → covered (tablesFrom s at) ≤ length s
   unfolding tablesFrom
   tables-cover at =
-      omega (arith, grows-within covered (length s) (λ p. tableItem (tableAt s p)) (record { found = []; malformed = 0 }) refl table-covers (suc (length s)) at)
+      omega (arith, grows-within covered (length s) (λ p. tableItem (tableAt s p)) (λ p. record { found = []; malformed = 0 }) (λ p. refl) table-covers (suc (length s)) at)
 
 -- of a message: its tables, their bytes, what is malformed
 pub record Fills (n bad : ℕ) (c : TablesFound) : Type 0 where
@@ -277,28 +278,35 @@ bit-body h s =
     let c = broken-le (take (length12 s 0) (drop 2 s)) refl in
     omega (arith, entries-break s 1 (length12 s 0 + 2))))
 
-eit-in : (s : Bytes) (x : LongSection) → eitIn s x .breaks ≤ length s
-eit-in s (Err e) = omega arith
-eit-in s (Ok h) = omega (arith, eit-body h (partOf s (h .body)), part-in s (h .body))
+-- so no more break in a whole section
+in-section : {R : Type 0} (breaks : R → ℕ) (refused : SectionError → R) (read : SectionHeader → Bytes → R)
+    → ((e : SectionError) → breaks (refused e) ≡ 0) → ((h : SectionHeader) (b : Bytes) → breaks (read h b) ≤ length b)
+    → (s : Bytes) (x : LongSection) → breaks (inSection refused read s x) ≤ length s
+in-section breaks refused read clean few s (Err e) = omega (arith, clean e)
+in-section breaks refused read clean few s (Ok h) = omega (arith, few h (partOf s (h .body)), part-in s (h .body))
 
-sdt-in : (s : Bytes) (x : LongSection) → sdtIn s x .breaks ≤ length s
-sdt-in s (Err e) = omega arith
-sdt-in s (Ok h) = omega (arith, sdt-body h (partOf s (h .body)), part-in s (h .body))
+eit-breaks : (s : Bytes) → eitOf s .breaks ≤ length s
+unfolding eitOf
+eit-breaks s = in-section (λ (r : EitParsed). r .breaks) _ eitBody (λ e. refl) eit-body s (longSectionOf s)
 
-bit-in : (s : Bytes) (x : LongSection) → bitIn s x .breaks ≤ length s
-bit-in s (Err e) = omega arith
-bit-in s (Ok h) = omega (arith, bit-body h (partOf s (h .body)), part-in s (h .body))
+sdt-breaks : (s : Bytes) → sdtOf s .breaks ≤ length s
+unfolding sdtOf
+sdt-breaks s = in-section (λ (r : SdtParsed). r .breaks) _ sdtBody (λ e. refl) sdt-body s (longSectionOf s)
 
-body-breaks : (id : ℕ) (s : Bytes) → bodyRead id s .breaks ≤ length s
-unfolding bodyRead eitOf sdtOf bitOf
+bit-breaks : (s : Bytes) → bitOf s .breaks ≤ length s
+unfolding bitOf
+bit-breaks s = in-section (λ (r : BitParsed). r .breaks) _ bitBody (λ e. refl) bit-body s (longSectionOf s)
+
+pub body-breaks : (id : ℕ) (s : Bytes) → bodyRead id s .breaks ≤ length s
+unfolding bodyRead
 body-breaks id s =
     let P : Body → Type 0 = λ x. x .breaks ≤ length s in
-    cond-elim P (eqb id 0x9D) (λ e. bit-in s (longSectionOf s)) (λ e.
-    cond-elim P (eqb id 0x9F) (λ e. sdt-in s (longSectionOf s)) (λ e.
-    cond-elim P (eqb id 0xA0) (λ e. sdt-in s (longSectionOf s)) (λ e.
+    cond-elim P (eqb id 0x9D) (λ e. bit-breaks s) (λ e.
+    cond-elim P (eqb id 0x9F) (λ e. sdt-breaks s) (λ e.
+    cond-elim P (eqb id 0xA0) (λ e. sdt-breaks s) (λ e.
     cond-elim P (eqb id 0x40) (λ e. omega arith) (λ e.
     cond-elim P (eqb id 0x41) (λ e. omega arith) (λ e.
-    cond-elim P (eqb id 0xFE) (λ e. omega arith) (λ e. eit-in s (longSectionOf s)))))))
+    cond-elim P (eqb id 0xFE) (λ e. omega arith) (λ e. eit-breaks s))))))
 
 tot-breaks : (s : Bytes) → totOf s .breaks ≤ length s
 unfolding totOf totFields
@@ -320,7 +328,7 @@ module _ (s : Bytes) where
   Behind at nowhere = Unit {0}
   Behind at (At p) = at ≤ p
 
-  behind-on : (go : ℕ → MaybeUsize) → ((p : ℕ) → Behind p (go p)) → (at : ℕ) (d : Located) → Behind at (behindLocation go at d)
+  behind-on : (go : ℕ → MaybeUsize) → ((p : ℕ) → Behind p (go p)) → (at : ℕ) (d : Located) → Behind at (turn go (behindLocation at d))
   behind-on go h at notLocated = tt
   behind-on go h at (located l taken) = further (go (at + taken)) (h (at + taken))
     where
@@ -356,7 +364,7 @@ module _ (s : Bytes) where
       behind-leads p q (q + 6) (omega arith) (locationsEnd (getD s (q + 5) 0) s (q + 6)) (locations-behind (getD s (q + 5) 0) (q + 6)))))
 
   assets-then : (n at : ℕ) → ((p : ℕ) → assetsFrom n s p .breaks ≤ length s - p) → (d : AssetStep) → Leads at d
-      → assetThen s (assetsFrom n s) d .breaks ≤ length s - at
+      → turn (assetsFrom n s) (assetItem s d) .breaks ≤ length s - at
   assets-then n at h badAsset l = omega arith
   assets-then n at h (asset a next) l = let c = broken-le (partOf s (a .descriptors)) refl in omega (arith, h next, l .0, l .1)
 

@@ -11,7 +11,8 @@ use lib.ListN.{length, length-append}
 use Rattle.isdb_mmt.specs.Part.{partOf}
 use Rattle.isdb_mmt.specs.Packet.{Bytes}
 use Rattle.isdb_mmt.specs.Maps.{isSome}
-use Rattle.isdb_mmt.specs.Mpu.{unitStep, also, unitsFrom, unitsOf}
+use Rattle.isdb_tlv.specs.Walk.{also}
+use Rattle.isdb_mmt.specs.Mpu.{unitStep, unitsFrom, unitsOf}
 use Rattle.isdb_mmt.specs.Lent.{over}
 use Rattle.isdb_mmt.specs.MediaCommit.{dataIn, unitsData, CanAppend}
 use Rattle.isdb_mmt.specs.declared.mpu.Unit.{Unit as DataUnit}

@@ -1,21 +1,23 @@
 -- The locations and the assets of a package, one behind another: each leads on to a place within the table, so that a loop which
 -- counts them down goes over all of them. Assumes nothing.
 use Prim.Native.Nat.{ℕ, zero, suc, _+_, _-_, _≤_, _<_}
-use mathlib.Core.Path.{_≡_, refl}
-use mathlib.Core.Bool.{false}
+use mathlib.Core.Path.{_≡_, refl, ap}
+use mathlib.Core.Bool.{true, false}
 use mathlib.Core.List.{List, [], _∷_}
 use native.Mathlib.Nat.{zero-add, add-zero, add-assoc}
 use native.Mathlib.Omega.{arith}
 use lib.ListN.{length, drop, length-drop, drop-of-length-le}
 use denote.Enum.Declared.{tagOf as variantOf}
 use types.Run.{OneOf, miss}
+use Rattle.isdb_tlv.specs.Walk.{turn}
+use Rattle.isdb_tlv.proofs.Walk.{run-stop, run-more}
 use Rattle.isdb_mmt.proofs.desc.Descriptor.{the-type}
 use Rattle.isdb_mmt.proofs.Entries.{broken-le}
 use Rattle.isdb_mmt.proofs.Locations.{Takes, takes}
 use Rattle.isdb_mmt.specs.Location.{locationOf, packetId}
 use Rattle.isdb_mmt.specs.Part.{partOf}
-use Rattle.isdb_mmt.specs.Desc.{broken}
-use Rattle.isdb_mmt.specs.Mpt.{behindLocation, locationsEnd, locationsOf, firstPacketId, assetAt, Loop, assetThen, assetsFrom, loopTold, assetsTold, tagOf}
+use Rattle.isdb_mmt.specs.Desc.{broken, Loop, ended, alsoDescribed}
+use Rattle.isdb_mmt.specs.Mpt.{behindLocation, locationsEnd, locationItem, locationsOf, firstPacketId, assetAt, assetItem, assetsFrom, loopTold, assetsTold, tagOf}
 use Rattle.isdb_mmt.specs.declared.maybe.MaybeU16.the-variants.{None as noU16, Some as someU16}
 use Rattle.isdb_mmt.specs.declared.location.Location.{Location}
 use Rattle.isdb_mmt.specs.declared.location.Located.{Located}
@@ -41,28 +43,29 @@ module _ (s : List ℕ) (at : ℕ) where
 
   -- the turns of the loop that steps over n locations
   pub end-none : (n : ℕ) → 0 < n → locationOf (drop at s) ≡ notLocated → locationsEnd n s at ≡ nowhere
-  end-none zero h e = absurd (omega arith)
-  end-none (suc n) h e = rw e
+  end-none n h e = run-stop (λ p. behindLocation p (locationOf (drop p s))) At at n h (rw e)
 
   pub end-on : (n : ℕ) {l : Location} {taken : ℕ} → 0 < n → locationOf (drop at s) ≡ located l taken
       → locationsEnd n s at ≡ locationsEnd (n - 1) s (at + taken)
-  end-on zero h e = absurd (omega arith)
-  end-on (suc n) h e = let i : suc n - 1 ≡ n = omega arith in rw (e, i)
+  end-on n {l} {taken} h e =
+      run-more (λ p. behindLocation p (locationOf (drop p s))) At at n {next = at + taken} {f = λ end. end} h (rw e)
 
   -- the turns of the search for a packet id
   pub first-none : (n : ℕ) → 0 < n → locationOf (drop at s) ≡ notLocated → firstPacketId (locationsOf n s at) ≡ noU16
-  first-none zero h e = absurd (omega arith)
-  first-none (suc n) h e = rw e
+  first-none n h e = ap firstPacketId (run-stop (λ p. locationItem p (locationOf (drop p s))) (λ p. []) at n {r = []} h (rw e))
+
+  located-on : (n : ℕ) {l : Location} {taken : ℕ} → 0 < n → locationOf (drop at s) ≡ located l taken
+      → locationsOf n s at ≡ l ∷ locationsOf (n - 1) s (at + taken)
+  located-on n {l} {taken} h e =
+      run-more (λ p. locationItem p (locationOf (drop p s))) (λ p. []) at n {next = at + taken} {f = λ ls. l ∷ ls} h (rw e)
 
   pub first-some : (n : ℕ) {l : Location} {taken p : ℕ} → 0 < n → locationOf (drop at s) ≡ located l taken → packetId l ≡ someU16 p
       → firstPacketId (locationsOf n s at) ≡ someU16 p
-  first-some zero h e d = absurd (omega arith)
-  first-some (suc n) h e d = rw (e, d)
+  first-some n h e d = rw (located-on n h e, d)
 
   pub first-on : (n : ℕ) {l : Location} {taken : ℕ} → 0 < n → locationOf (drop at s) ≡ located l taken → packetId l ≡ noU16
       → firstPacketId (locationsOf n s at) ≡ firstPacketId (locationsOf (n - 1) s (at + taken))
-  first-on zero h e d = absurd (omega arith)
-  first-on (suc n) h e d = let i : suc n - 1 ≡ n = omega arith in rw (e, d, i)
+  first-on n h e d = rw (located-on n h e, d)
 
 -- a place within the bytes
 abbrev pub Within : List ℕ → MaybeUsize → Type 0
@@ -72,7 +75,7 @@ Within s (At p) = p ≤ length s
 -- locations from a place within the bytes end within them
 module _ (s : List ℕ) where
   behind-within : (go : ℕ → MaybeUsize) → ((p : ℕ) → p ≤ length s → Within s (go p)) → (at : ℕ) (d : Located) → at ≤ length s
-      → Takes (drop at s) d → Within s (behindLocation go at d)
+      → Takes (drop at s) d → Within s (turn go (behindLocation at d))
   behind-within go h at notLocated b t = tt
   behind-within go h at (located l taken) b t = h (at + taken) (omega (arith, length-drop at s))
 
@@ -81,26 +84,26 @@ module _ (s : List ℕ) where
   end-within (suc n) at h = behind-within (locationsEnd n s) (end-within n) at (locationOf (drop at s)) h (takes (drop at s))
 
 -- k breaks before these
-abbrev pub plus : ℕ → Loop → AssetLoop
+abbrev pub plus : ℕ → Loop Asset → AssetLoop
 plus k l = record { whole = l .whole; breaks = k + l .breaks }
 
-pub plus-zero : (l : Loop) → plus 0 l ≡ loopTold l
+pub plus-zero : (l : Loop Asset) → plus 0 l ≡ loopTold l
 plus-zero l = rw zero-add
 
 -- the turns of the loop over n assets
 module _ (s : List ℕ) (at k : ℕ) where
   pub loop-end : (n : ℕ) → 0 < n → assetAt s at ≡ Malformed → plus k (assetsFrom n s at) ≡ record { whole = false; breaks = k }
-  loop-end zero h e = absurd (omega arith)
-  loop-end (suc n) h e = rw (e, add-zero)
+  loop-end n h e = rw (run-stop (λ p. assetItem s (assetAt s p)) (λ p. ended true) at n {r = ended false} h (rw e), add-zero)
 
   pub loop-on : (n : ℕ) {a : Asset} {next b : ℕ} → 0 < n → assetAt s at ≡ asset a next → b ≡ broken (partOf s (a .descriptors))
       → plus (k + b) (assetsFrom (n - 1) s next) ≡ plus k (assetsFrom n s at)
-  loop-on zero h e d = absurd (omega arith)
-  loop-on (suc n) h e d = let i : suc n - 1 ≡ n = omega arith in rw (e, i, d, add-assoc)
+  loop-on n {a} {next} h e d =
+      let also : Loop Asset → Loop Asset = alsoDescribed s (a .descriptors) a in
+      rw (run-more (λ p. assetItem s (assetAt s p)) (λ p. ended true) at n {next = next} {f = also} h (rw e), d, add-assoc)
 
 -- n assets have n descriptor loops that break at most
 module _ (s : List ℕ) where
-  then-le : (n : ℕ) (go : ℕ → Loop) → ((p : ℕ) → go p .breaks ≤ n) → (d : AssetStep) → assetThen s go d .breaks ≤ suc n
+  then-le : (n : ℕ) (go : ℕ → Loop Asset) → ((p : ℕ) → go p .breaks ≤ n) → (d : AssetStep) → turn go (assetItem s d) .breaks ≤ suc n
   then-le n go h Malformed = omega arith
   then-le n go h (asset a next) = let b = broken-le (partOf s (a .descriptors)) refl in omega (arith, h next)
 

@@ -1,10 +1,10 @@
 -- A table breaks no more descriptor loops than it has bytes and 256, so that the counts of a message do not wrap. Assumes nothing.
-use Prim.Native.Nat.{ℕ, zero, suc, _+_, _-_, _≤_, _<_}
+use Prim.Native.Nat.{ℕ, zero, suc, _+_, _-_, _≤_}
 use mathlib.Core.Path.{_≡_, refl, ap}
 use mathlib.Core.Bool.{Bool, true, false, not}
 use mathlib.Core.List.{List, [], _∷_}
 use native.Mathlib.Omega.{arith}
-use lib.ListN.{length, getD, take, drop, length-take, length-drop}
+use lib.ListN.{length, getD, take, drop}
 use mir.Syntax.{w8}
 use mir.Val.{Fits}
 use Rattle.isdb_tlv.specs.Guards.{_<?_, _≤?_, _=?_, _≠?_}
@@ -12,23 +12,14 @@ use Rattle.isdb_tlv.specs.Bytes.{be}
 use Rattle.isdb_tlv.specs.Crc.{crcOf}
 use Rattle.isdb_tlv.proofs.Guards.{cond-elim}
 use Rattle.isdb_mmt.specs.Part.{partAt, partOf}
-use Rattle.isdb_mmt.specs.declared.part.Part.{Part}
 use Rattle.isdb_mmt.specs.Packet.{Bytes}
 use Rattle.isdb_mmt.specs.Maps.{one}
 use Rattle.isdb_mmt.specs.Desc.{broken}
 use Rattle.isdb_mmt.specs.Lent.{foundFrom}
-use Rattle.isdb_mmt.specs.Section.{length12, longSectionOf, entriesTold}
-use Rattle.isdb_mmt.specs.Kept.{Section, sectionOf, Body, bodyRead, Table, emptyTable, mptTable, pltTable, totTable, truncatedSection, aSection, otherTable, longTable, tableById, tableRead}
-use Rattle.isdb_mmt.specs.Eit.{eitBody, eitIn, eitOf}
-use Rattle.isdb_mmt.specs.Sdt.{sdtBody, sdtIn, sdtOf}
-use Rattle.isdb_mmt.specs.Bit.{bitBody, bitIn, bitOf}
+use Rattle.isdb_mmt.specs.Section.{length12}
+use Rattle.isdb_mmt.specs.Kept.{Section, sectionOf, bodyRead, Table, emptyTable, mptTable, pltTable, totTable, truncatedSection, aSection, otherTable, longTable, tableById, tableRead}
 use Rattle.isdb_mmt.specs.Tot.{totOf, totFields}
 use Rattle.isdb_mmt.specs.Mpt.{mptOf, mptIn, mptAssets, declaredLength, assetsTold, mptTable as mptRead}
-use Rattle.isdb_mmt.specs.declared.table.section.LongSection.{LongSection}
-use Rattle.isdb_mmt.specs.declared.table.section.LongSection.the-variants.{Ok as good, Err as bad}
-use Rattle.isdb_mmt.specs.declared.table.eit.EitParsed.{EitParsed}
-use Rattle.isdb_mmt.specs.declared.table.sdt.SdtParsed.{SdtParsed}
-use Rattle.isdb_mmt.specs.declared.table.bit.BitParsed.{BitParsed}
 use Rattle.isdb_mmt.specs.declared.table.tot.TotParsed.{TotParsed}
 use Rattle.isdb_mmt.specs.declared.table.mpt.MptParsed.{MptParsed}
 use Rattle.isdb_mmt.specs.declared.maybe.MaybeUsize.{MaybeUsize}
@@ -36,7 +27,8 @@ use Rattle.isdb_mmt.specs.declared.maybe.MaybeUsize.the-variants.{None a
 use Rattle.isdb_mmt.specs.declared.decoder.place.Found.{Found}
 use Rattle.isdb_mmt.specs.declared.decoder.place.Found.the-variants.{At as foundAt, Nothing as notFound}
 use Rattle.isdb_mmt.specs.declared.decoder.section.KeptSection.{KeptSection}
-use Rattle.isdb_mmt.proofs.Entries.{breaks-le, broken-le}
+use Rattle.isdb_mmt.proofs.Amounts.{body-breaks}
+use Rattle.isdb_mmt.proofs.Entries.{broken-le}
 use Rattle.isdb_mmt.proofs.Assets.{breaks-le as assets-le}
 use Rattle.isdb_mmt.specs.declared.decoder.table_outcome.Recent.{Recent}
 use Rattle.isdb_mmt.specs.declared.decoder.table_outcome.TableOutcome.{TableOutcome}
@@ -45,49 +37,9 @@ use Rattle.isdb_mmt.specs.PendingTables.{mostAdded, Small, sectionRead}
 use Rattle.isdb_mmt.specs.Layout.{mostMessageArea}
 use Rattle.isdb_mmt.proofs.TableOutcomes.{found-within}
 
-body-short : (b : Bytes) (p : Part) → length (partOf b p) ≤ length b
-body-short b p = omega (arith, length-take (p .length) (drop (p .start) b), length-drop (p .start) b)
-
-eit-body : (h : _) (s : Bytes) → eitBody h s .breaks ≤ length s + 1
-unfolding eitBody entriesTold
-eit-body h s = cond-elim (λ (r : EitParsed). r .breaks ≤ length s + 1) (length s <? 6) (λ e. omega arith) (λ e. omega (arith, breaks-le s 10 6 refl))
-
-sdt-body : (h : _) (s : Bytes) → sdtBody h s .breaks ≤ length s + 1
-unfolding sdtBody entriesTold
-sdt-body h s = cond-elim (λ (r : SdtParsed). r .breaks ≤ length s + 1) (length s <? 2) (λ e. omega arith) (λ e. omega (arith, breaks-le s 3 3 refl))
-
-bit-body : (h : _) (s : Bytes) → bitBody h s .breaks ≤ length s + 1
-unfolding bitBody entriesTold
-bit-body h s =
-    cond-elim (λ (r : BitParsed). r .breaks ≤ length s + 1) (length s <? 2) (λ e. omega arith) (λ e.
-    cond-elim (λ (r : BitParsed). r .breaks ≤ length s + 1) (length s <? length12 s 0 + 2) (λ e. omega arith) (λ e.
-    omega (arith, breaks-le s 1 (length12 s 0 + 2) refl, broken-le (take (length12 s 0) (drop 2 s)) refl)))
-
 module _ (b : Bytes) where
-  eit-in : (l : LongSection) → eitIn b l .breaks ≤ length b + 1
-  eit-in (bad e) = omega arith
-  eit-in (good h) = omega (arith, eit-body h (partOf b (h .body)), body-short b (h .body))
-
-  sdt-in : (l : LongSection) → sdtIn b l .breaks ≤ length b + 1
-  sdt-in (bad e) = omega arith
-  sdt-in (good h) = omega (arith, sdt-body h (partOf b (h .body)), body-short b (h .body))
-
-  bit-in : (l : LongSection) → bitIn b l .breaks ≤ length b + 1
-  bit-in (bad e) = omega arith
-  bit-in (good h) = omega (arith, bit-body h (partOf b (h .body)), body-short b (h .body))
-
-  abbrev FewIn : Body → Type 0
-  FewIn r = r .breaks ≤ length b + 1
-
   section-breaks : (id : ℕ) → bodyRead id b .breaks ≤ length b + 1
-  unfolding bodyRead bitOf sdtOf eitOf
-  section-breaks id =
-      cond-elim FewIn (id =? 0x9D) (λ e. bit-in (longSectionOf b)) (λ e0.
-      cond-elim FewIn (id =? 0x9F) (λ e. sdt-in (longSectionOf b)) (λ e1.
-      cond-elim FewIn (id =? 0xA0) (λ e. sdt-in (longSectionOf b)) (λ e2.
-      cond-elim FewIn (id =? 0x40) (λ e. omega arith) (λ e3.
-      cond-elim FewIn (id =? 0x41) (λ e. omega arith) (λ e4.
-      cond-elim FewIn (id =? 0xFE) (λ e. omega arith) (λ e5. eit-in (longSectionOf b)))))))
+  section-breaks id = omega (arith, body-breaks id b)
 
   tot-breaks : totOf b .breaks ≤ 1
   unfolding totOf totFields

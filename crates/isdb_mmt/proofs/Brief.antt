@@ -194,7 +194,7 @@ module _ (s : Bytes) where
   sections-cover =
       omega (
         arith,
-        grows-within lengths (length s) (scanAt s) [] refl
+        grows-within lengths (length s) (scanAt s) (λ p. []) (λ p. refl)
             (λ at. cond-elim (Grows lengths (length s) at) (ltb (length s - at) 3) (λ e. omega arith) (λ e. covers at (ltb-false (length s - at) 3 e) (sectionAt s at) (here at)))
             (suc (length s)) 0,
       )
@@ -204,7 +204,7 @@ module _ (s : Bytes) where
   sections-count =
       omega (
         arith,
-        grows-within amount (length s) (scanAt s) [] refl
+        grows-within amount (length s) (scanAt s) (λ p. []) (λ p. refl)
             (λ at. cond-elim (Grows amount (length s) at) (ltb (length s - at) 3) (λ e. omega arith) (λ e. counts at (ltb-false (length s - at) 3 e) (sectionAt s at) (here at)))
             (suc (length s)) 0,
       )

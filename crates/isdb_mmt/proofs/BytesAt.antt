@@ -42,16 +42,6 @@ module _ {s : List ℕ} {at : ℕ} (b : List ℕ) (h : FoundAt s at b) where
   pub located-within : at + length b ≤ length s
   located-within = rw (h .all, length-append, length-append, ← h .place) (omega arith)
 
-  -- what stands in them
-  pub located-in : {i : ℕ} (c : List ℕ) → FoundAt b i c → FoundAt s (at + i) c
-  located-in {i} c g =
-      record {
-        before = h .before ++ g .before;
-        behind = g .behind ++ h .behind;
-        place = rw (length-append, h .place, g .place);
-        all = h .all ∙ rw (g .all) (simp append-assoc);
-      }
-
 -- the parts of two lists
 module _ {s : List ℕ} {at : ℕ} (b c : List ℕ) (h : FoundAt s at (b ++ c)) where
   pub located-front : FoundAt s at b

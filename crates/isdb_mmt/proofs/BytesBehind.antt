@@ -13,7 +13,8 @@ use Rattle.isdb_tlv.proofs.Guards.{cond-elim, either}
 use Rattle.isdb_tlv.proofs.Fields.{be-before}
 use Rattle.isdb_mmt.specs.Part.{partAt, partOf}
 use Rattle.isdb_mmt.specs.Location.{sized, urlOf, ipv4At, ipv6At, locationOf}
-use Rattle.isdb_mmt.specs.Steps.{Stood, atEnd, malformed, element, countedOn, counted, Gives, Counts}
+use Rattle.isdb_tlv.specs.Walk.{turn}
+use Rattle.isdb_mmt.specs.Steps.{Stood, atEnd, malformed, element, required, counted, Gives, Counts}
 use Rattle.isdb_mmt.specs.WholeDescriptors.{wholeLocation, urlIn, locationTold, locationSeen, loopIn}
 use Rattle.isdb_mmt.specs.WholeParts.{Lies, UrlLies, LocatedLies, AssetLies}
 use Rattle.isdb_mmt.specs.Mpt.{behindLocation, locationsEnd, assetFields, assetBehind, assetAt, mptOf}
@@ -66,7 +67,7 @@ module _ {A : Type 0} (step : ℕ → Stood A) where
   counted-given zero at (x ∷ l) stop e g = absurd (omega (arith, e))
   counted-given (suc n) at [] stop e g = absurd (omega (arith, e))
   counted-given (suc n) at (x ∷ l) stop e g =
-      ap (λ (d : Stood A). countedOn (counted step n) d .found) (g .here)
+      ap (λ (d : Stood A). turn (counted step n) (required d) .found) (g .here)
       ∙ ap (λ k. x ∷ k) (counted-given n (g .next) l stop (omega (arith, e)) (g .rest))
 
   pub found-is : {n at : ℕ} {l : List A} → Counts step n at l → counted step n at .found ≡ l
@@ -202,7 +203,7 @@ module _ (s r : List ℕ) where
   -- ---- locations one behind the other
 
   behind-same : (n : ℕ) → ((at : ℕ) → at ≤ length s → PlaceSame (locationsEnd n s at) (locationsEnd n all at)) → (at : ℕ) (d : Located)
-      → locationOf (drop at s) ≡ d → LocatedSame d (locationOf (drop at all)) → PlaceSame (behindLocation (locationsEnd n s) at d) (locationsEnd (suc n) all at)
+      → locationOf (drop at s) ≡ d → LocatedSame d (locationOf (drop at all)) → PlaceSame (turn (locationsEnd n s) (behindLocation at d)) (locationsEnd (suc n) all at)
   behind-same n h at notLocated e w = tt
   behind-same n h at (located l k) e w = rw w (h (at + k) (location-within s at e))
 

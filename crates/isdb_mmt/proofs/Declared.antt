@@ -4,7 +4,7 @@ use mathlib.Core.Path.{_≡_, refl, ap, _∙_}
 use mathlib.Core.Bool.{not}
 use mathlib.Core.List.{[], _∷_}
 use native.Mathlib.Omega.{arith}
-use lib.ListN.{length, getD, take, drop}
+use lib.ListN.{length, take, drop}
 use lib.Seq.{take-all, take-take, getD-take, length-take-le}
 use lib.Dec.{ltb, leb, eqb}
 use borrow.Author.Tests.{ltb-false, leb-true, leb-false, le-ltb}
@@ -13,22 +13,19 @@ use Rattle.isdb_tlv.specs.Crc.{crcOf}
 use Rattle.isdb_tlv.proofs.Guards.{cond-elim, either}
 use Rattle.isdb_tlv.proofs.Numbers.{be-take}
 use Rattle.isdb_mmt.specs.Packet.{Bytes}
-use Rattle.isdb_mmt.specs.Part.{partOf}
-use Rattle.isdb_mmt.specs.Section.{length12, headerOf, longSectionOf}
-use Rattle.isdb_mmt.specs.Eit.{eitOf, eitIn, eitBody}
-use Rattle.isdb_mmt.specs.Sdt.{sdtOf, sdtIn, sdtBody}
-use Rattle.isdb_mmt.specs.Bit.{bitOf, bitIn, bitBody}
-use Rattle.isdb_mmt.specs.Nit.{nitOf, nitIn, nitBody}
-use Rattle.isdb_mmt.specs.Amt.{amtOf, amtIn, amtBody}
+use Rattle.isdb_mmt.specs.Section.{length12, headerOf, longSectionOf, inSection}
+use Rattle.isdb_mmt.specs.Eit.{eitOf, eitBody}
+use Rattle.isdb_mmt.specs.Sdt.{sdtOf, sdtBody}
+use Rattle.isdb_mmt.specs.Bit.{bitOf, bitBody}
+use Rattle.isdb_mmt.specs.Nit.{nitOf, nitBody}
+use Rattle.isdb_mmt.specs.Amt.{amtOf, amtBody}
 use Rattle.isdb_mmt.specs.Tot.{totOf, totFields}
 use Rattle.isdb_mmt.specs.Mpt.{mptOf, mptTable, declaredLength}
 use Rattle.isdb_mmt.specs.Plt.{pltOf, pltTable}
-use Rattle.isdb_mmt.specs.Kept.{declaredSection, declaredTable, bodyRead, body}
+use Rattle.isdb_mmt.specs.Kept.{declaredSection, declaredTable, bodyRead}
 use Rattle.isdb_mmt.specs.declared.table.section.SectionHeader.{SectionHeader}
 use Rattle.isdb_mmt.specs.declared.table.section.SectionError.{SectionError}
-use Rattle.isdb_mmt.specs.declared.table.section.SectionError.the-variants.{Truncated, Crc}
 use Rattle.isdb_mmt.specs.declared.table.section.LongSection.{LongSection}
-use Rattle.isdb_mmt.specs.declared.table.section.LongSection.the-variants.{Ok, Err}
 use Rattle.isdb_mmt.specs.declared.maybe.MaybeUsize.the-variants.{Some as At}
 
 part-take : (k m n : ℕ) (l : Bytes) → k + m ≤ n → take m (drop k (take n l)) ≡ take m (drop k l)
@@ -49,9 +46,6 @@ module _ (b : Bytes) where
 
   same12 : length12 (take n b) 1 ≡ length12 b 1
   same12 = ap (λ x. x % 4096) (be-take 2 n b 1 (omega arith))
-
-  pub same-id : getD (declaredSection b) 0 0 ≡ getD b 0 0
-  same-id = getD-take n b 0 0 (omega arith)
 
   same-header : 9 ≤ length12 b 1 → headerOf (take n b) (length12 b 1 - 9) ≡ headerOf b (length12 b 1 - 9)
   same-header h =
@@ -84,43 +78,43 @@ module _ (b : Bytes) where
       )))
 
   -- what reads a section by its header and body
-  module _ {R : Type 0} (f : Bytes → LongSection → R) (bad : (e : SectionError) → f (take n b) (Err e) ≡ f b (Err e))
-      (good : (h : SectionHeader) → partOf (take n b) (h .body) ≡ partOf b (h .body) → f (take n b) (Ok h) ≡ f b (Ok h)) where
+  module _ {R : Type 0} (refused : SectionError → R) (read : SectionHeader → Bytes → R) where
     abbrev Alike : LongSection → Type 0
-    Alike x = f (take n b) x ≡ f b x
+    Alike x = inSection refused read (take n b) x ≡ inSection refused read b x
 
     alike : Alike (longSectionOf b)
     unfolding longSectionOf
     alike =
-        cond-elim Alike (ltb (length b) 3) (λ e. bad Truncated) (λ e.
-        cond-elim Alike (ltb (length12 b 1) 9) (λ e. bad Truncated) (λ t.
-        cond-elim Alike (ltb (length b) n) (λ e. bad Truncated) (λ e.
-        cond-elim Alike (not (eqb (crcOf (take n b)) 0)) (λ e. bad Crc) (λ e.
+        cond-elim Alike (ltb (length b) 3) (λ e. refl) (λ e.
+        cond-elim Alike (ltb (length12 b 1) 9) (λ e. refl) (λ t.
+        cond-elim Alike (ltb (length b) n) (λ e. refl) (λ e.
+        cond-elim Alike (not (eqb (crcOf (take n b)) 0)) (λ e. refl) (λ e.
+        let h = headerOf b (length12 b 1 - 9) in
         let q = ltb-false (length12 b 1) 9 t in
-        good (headerOf b (length12 b 1 - 9)) (part-take 8 (length12 b 1 - 9) n b (omega arith))))))
+        ap (read h) (part-take 8 (length12 b 1 - 9) n b (omega arith))))))
 
-    read-same : f (take n b) (longSectionOf (take n b)) ≡ f b (longSectionOf b)
-    read-same = ap (f (take n b)) same-section ∙ alike
+    read-same : inSection refused read (take n b) (longSectionOf (take n b)) ≡ inSection refused read b (longSectionOf b)
+    read-same = ap (inSection refused read (take n b)) same-section ∙ alike
 
   pub same-eit : eitOf (declaredSection b) ≡ eitOf b
   unfolding eitOf
-  same-eit = read-same eitIn (λ e. refl) (λ h q. ap (eitBody h) q)
+  same-eit = read-same _ eitBody
 
   pub same-sdt : sdtOf (declaredSection b) ≡ sdtOf b
   unfolding sdtOf
-  same-sdt = read-same sdtIn (λ e. refl) (λ h q. ap (sdtBody h) q)
+  same-sdt = read-same _ sdtBody
 
   pub same-bit : bitOf (declaredSection b) ≡ bitOf b
   unfolding bitOf
-  same-bit = read-same bitIn (λ e. refl) (λ h q. ap (bitBody h) q)
+  same-bit = read-same _ bitBody
 
   pub same-nit : nitOf (declaredSection b) ≡ nitOf b
   unfolding nitOf
-  same-nit = read-same nitIn (λ e. refl) (λ h q. ap (nitBody h) q)
+  same-nit = read-same _ nitBody
 
   pub same-amt : amtOf (declaredSection b) ≡ amtOf b
   unfolding amtOf
-  same-amt = read-same amtIn (λ e. refl) (λ h q. ap (amtBody h) q)
+  same-amt = read-same _ amtBody
 
   pub same-tot : totOf (declaredSection b) ≡ totOf b
   unfolding totOf totFields

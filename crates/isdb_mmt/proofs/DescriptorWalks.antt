@@ -12,7 +12,8 @@ use Rattle.isdb_tlv.specs.Bytes.{be}
 use Rattle.isdb_tlv.specs.Walk.{turn}
 use Rattle.isdb_tlv.proofs.Guards.{cond-elim, either}
 use Rattle.isdb_mmt.specs.Part.{partOf}
-use Rattle.isdb_mmt.specs.Timestamp.{timestampAt, unitSize, mpuAt, mpusWhole, isSome, headEnd, extendedOf, unitStep}
+use Rattle.isdb_mmt.specs.Maps.{isSome}
+use Rattle.isdb_mmt.specs.Timestamp.{timestampAt, unitSize, mpuAt, mpusWhole, headEnd, extendedOf, unitStep}
 use Rattle.isdb_mmt.specs.Desc.{stepAt, Split, item, splitFrom, splitOf, counted as told, accessControl, scrambler, streamIdentifier, serviceText, shortEvent, hevc, extendedIn, extendedTimestamp, descriptorOf, serviceAt, genreAt}
 use Rattle.isdb_mmt.specs.Nit.{tlvStepAt}
 use Rattle.isdb_mmt.specs.Steps.{Stood, atEnd, Found, counted, onward, toEnd, Ends}
@@ -49,6 +50,7 @@ module _ (s : List ℕ) where
   mapped l = record { found = map (wholeRaw s) (l .found); whole = not (isSome (l .broke)) }
 
   turned : (d : Step) → mapped (turn (splitFrom s) (item d)) ≡ turn (λ p. mapped (splitFrom s p)) (onward (descriptorTold s d))
+  unfolding isSome
   turned End = refl
   turned (Broken p) = refl
   turned (Raw tag body next) = refl

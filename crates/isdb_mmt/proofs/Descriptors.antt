@@ -15,12 +15,13 @@ use mir.Syntax.{w8}
 use types.Run.{OneOf, miss}
 use borrow.Author.Tests.{ltb-false, leb-false, eq-eqb, ne-eqb}
 use Rattle.isdb_tlv.specs.Bytes.{be}
-use Rattle.isdb_tlv.specs.Walk.{turn, Ahead, walk-at}
+use Rattle.isdb_tlv.specs.Walk.{turn}
+use Rattle.isdb_tlv.proofs.Walk.{Ahead, walk-at}
 use Rattle.isdb_tlv.proofs.Numbers.{be-whole}
 use Rattle.isdb_tlv.proofs.Guards.{cond-elim, either}
 use Rattle.isdb_mmt.proofs.desc.Descriptor.{the-type}
 use Rattle.isdb_mmt.specs.Part.{partOf}
-use Rattle.isdb_mmt.specs.Timestamp.{isSome}
+use Rattle.isdb_mmt.specs.Maps.{isSome}
 use Rattle.isdb_mmt.specs.Desc.{lengthWidth, bodyAt, stepAt, Split, item, splitFrom, counted, descriptorOf, isOther, orNext, firstOf}
 use Rattle.isdb_mmt.specs.declared.part.Part.{Part}
 use Rattle.isdb_mmt.specs.declared.desc.Step.{Step}
@@ -101,9 +102,11 @@ plus-zero l = rw zero-add
 -- the turns of the count
 module _ (s : List ℕ) (at k : ℕ) {r : Counted} (e : plus k (splitFrom s at) ≡ r) where
   pub count-end : stepAt s at ≡ End → record { count = k; broken = false } ≡ r
+  unfolding isSome
   count-end d = rw (split-at s at, d, add-zero) at e
 
   pub count-broken : {p : ℕ} → stepAt s at ≡ Broken p → record { count = k; broken = true } ≡ r
+  unfolding isSome
   count-broken d = rw (split-at s at, d, add-zero) at e
 
   pub count-on : {tag next : ℕ} {body : Part} → stepAt s at ≡ Raw tag body next → plus (k + 1) (splitFrom s next) ≡ r

@@ -1,24 +1,36 @@
 -- The entries of a table's loop: each leads on to a place ahead and lies within the loop, so that steps from one to the next go
 -- over all of them. Assumes nothing.
 use Prim.Native.Nat.{ℕ, zero, suc, _+_, _-_, _≤_, _<_}
-use mathlib.Core.Path.{_≡_, refl, sym, ap, _∙_}
-use mathlib.Core.Bool.{true, false, not, true≢false}
-use mathlib.Core.List.{List, [], _∷_, map}
+use mathlib.Core.Path.{_≡_, refl}
+use mathlib.Core.Bool.{true, false}
+use mathlib.Core.List.{List}
 use native.Mathlib.Nat.{zero-add, add-zero, add-assoc}
 use native.Mathlib.Omega.{arith}
 use lib.Dec.{ltb, leb}
 use lib.ListN.{length}
 use borrow.Author.Tests.{ltb-false, leb-true, leb-false}
-use Rattle.isdb_tlv.specs.Walk.{turn, Ahead, walk-at}
-use Rattle.isdb_tlv.proofs.Guards.{cond-elim, either}
+use Rattle.isdb_tlv.specs.Walk.{turn}
+use Rattle.isdb_tlv.proofs.Walk.{Ahead, walk-at}
+use Rattle.isdb_tlv.proofs.Guards.{cond-elim}
 use Rattle.isdb_mmt.specs.Part.{partOf}
-use Rattle.isdb_mmt.specs.Timestamp.{isSome}
-use Rattle.isdb_mmt.specs.Desc.{splitOf, broken}
-use Rattle.isdb_mmt.specs.Section.{length12, entryAt, Loop, ended, entryItem, entriesFrom, entriesTold}
+use Rattle.isdb_mmt.specs.Maps.{isSome}
+use Rattle.isdb_mmt.specs.Desc.{splitOf, broken, Loop, ended}
+use Rattle.isdb_mmt.specs.Section.{length12, inSection, entryAt, entryAs, entryItem, entriesFrom, entriesTold}
+use Rattle.isdb_mmt.specs.declared.table.section.SectionHeader.{SectionHeader}
+use Rattle.isdb_mmt.specs.declared.table.section.SectionError.{SectionError}
+use Rattle.isdb_mmt.specs.declared.table.section.LongSection.{LongSection}
+use Rattle.isdb_mmt.specs.declared.table.section.LongSection.the-variants.{Ok as good, Err as bad}
 use Rattle.isdb_mmt.specs.declared.table.section.Entry.{Entry}
 use Rattle.isdb_mmt.specs.declared.table.section.EntryStep.{EntryStep}
 use Rattle.isdb_mmt.specs.declared.table.section.EntryStep.the-variants.{End, Malformed as malformed, Entry as entry}
 use Rattle.isdb_mmt.specs.declared.table.section.Entries.{Entries}
+
+-- what holds of every refusal, and of what is read of the body of every section, holds of what a table is read as
+pub section-elim : {R : Type 0} (P : R → Type 0) (refused : SectionError → R) (read : SectionHeader → List ℕ → R) (s : List ℕ)
+    → ((e : SectionError) → P (refused e)) → ((h : SectionHeader) → P (read h (partOf s (h .body))))
+    → (d : LongSection) → P (inSection refused read s d)
+section-elim P refused read s f g (bad e) = f e
+section-elim P refused read s f g (good h) = g h
 
 -- an entry at `at`, with `k` bytes of fields: its descriptors stand behind their length and end where the next entry stands
 pub record Lies (s : List ℕ) (k at : ℕ) (e : Entry) (next : ℕ) : Type 0 where
@@ -58,34 +70,19 @@ module _ (s : List ℕ) (k : ℕ) where
   entries-at at =
       walk-at (λ p. entryItem s (entryAt s k p)) (ended true) (length s) (λ p. ahead-of p (entryAt s k p) (entry-inside p)) at
 
--- what a table makes of its entries, by steps: at an entry, that one's and those from the next place on
-module _ {A : Type 0} (f : Entry → A) (s : List ℕ) (k : ℕ) where
-  abbrev pub onward : EntryStep → List A
-  onward End = []
-  onward malformed = []
-  onward (entry e next) = f e ∷ map f (entriesFrom s k next .found)
-
-  mapped : (d : EntryStep) → map f (turn (entriesFrom s k) (entryItem s d) .found) ≡ onward d
-  mapped End = refl
-  mapped malformed = refl
-  mapped (entry e next) = refl
-
-  pub mapped-at : (at : ℕ) → map f (entriesFrom s k at .found) ≡ onward (entryAt s k at)
-  mapped-at at = ap (λ (l : Loop). map f (l .found)) (entries-at s k at) ∙ mapped (entryAt s k at)
+-- what holds at the end, where an entry is not whole and of every entry that lies there, holds of what a table makes of a place
+pub entry-elim : {R : Type 0} (P : R → Type 0) (end broke : R) (found : Entry → ℕ → R) (s : List ℕ) (k at : ℕ)
+    → P end → P broke → ((e : Entry) (next : ℕ) → Lies s k at e next → P (found e next)) → P (entryAs end broke found (entryAt s k at))
+entry-elim P end broke found s k at x y f = go (entryAt s k at) (entry-inside s k at)
+  where
+    go : (d : EntryStep) → Inside s k at d → P (entryAs end broke found d)
+    go End w = x
+    go malformed w = y
+    go (entry e next) w = f e next w
 
 -- of one loop, one breaks at most
 pub broken-le : (s : List ℕ) {m : ℕ} → m ≡ broken s → m ≤ 1
 broken-le s e = rw e (cond-elim (λ n. n ≤ 1) (isSome (splitOf s .broke)) (λ d. omega arith) (λ d. omega arith))
-
--- what is told of a loop says whether it is whole
-module _ (s : List ℕ) (k at : ℕ) {r : Entries} (e : r ≡ entriesTold (entriesFrom s k at)) where
-  pub is-whole : not (r .whole) ≡ false → entriesFrom s k at .whole ≡ true
-  unfolding entriesTold
-  is-whole h = either (entriesFrom s k at .whole) (λ d. d) (λ d. absurd (true≢false (rw (e, d) at h)))
-
-  pub not-whole : not (r .whole) ≡ true → entriesFrom s k at .whole ≡ false
-  unfolding entriesTold
-  not-whole h = either (entriesFrom s k at .whole) (λ d. absurd (true≢false (sym (rw (e, d) at h)))) (λ d. d)
 
 -- an entry takes two bytes at least, so no more loops break than there are bytes
 module _ (s : List ℕ) (k : ℕ) where
@@ -109,10 +106,10 @@ module _ (s : List ℕ) (k : ℕ) where
   breaks-le at e = rw e (breaks-within (suc (length s - at)) at (omega arith))
 
 -- n entries before these, and b descriptor loops that broke
-abbrev pub plus : ℕ → ℕ → Loop → Entries
+abbrev pub plus : ℕ → ℕ → Loop Entry → Entries
 plus n b l = record { count = n + length (l .found); breaks = b + l .breaks; whole = l .whole }
 
-pub plus-zero : (l : Loop) → plus 0 0 l ≡ entriesTold l
+pub plus-zero : (l : Loop Entry) → plus 0 0 l ≡ entriesTold l
 unfolding entriesTold
 plus-zero l = rw (zero-add (length (l .found)), zero-add (l .breaks))
 
@@ -132,7 +129,7 @@ module _ (s : List ℕ) (k at n b : ℕ) {r : Entries} (e : plus n b (entriesFro
       rw (i, h, add-assoc b (broken (partOf s (x .descriptors))) (l .breaks)) (rw (entries-at s k at, d) at e)
 
 -- a loop as it was counted
-module _ (l : Loop) {r : Entries} (e : r ≡ entriesTold l) where
+module _ (l : Loop Entry) {r : Entries} (e : r ≡ entriesTold l) where
   pub whole-told : l .whole ≡ r .whole
   unfolding entriesTold
   whole-told = rw e

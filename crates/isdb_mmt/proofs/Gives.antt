@@ -13,7 +13,8 @@ use Rattle.isdb_tlv.specs.Fields.{written}
 use Rattle.isdb_mmt.specs.Part.{partOf}
 use Rattle.isdb_mmt.specs.Packet.{Bytes, MpuPacket, payloadUnit}
 use Rattle.isdb_mmt.specs.Maps.{isSome}
-use Rattle.isdb_mmt.specs.Mpu.{unitStep, also, unitsFrom, unitsOf}
+use Rattle.isdb_tlv.specs.Walk.{also}
+use Rattle.isdb_mmt.specs.Mpu.{unitStep, unitsFrom, unitsOf}
 use Rattle.isdb_mmt.specs.Objects.{Rec, Asset, mpuNumber, effectOf, unitEffect, afterUnit, objectOf, deliveredBy, tagged}
 use Rattle.isdb_mmt.specs.Needs.{dataOf}
 use Rattle.isdb_mmt.specs.Lent.{over}

@@ -17,7 +17,6 @@ pub mod Units
 pub mod AggregatedMessages
 pub mod StdB60Tables
 pub mod StdB60Short
-pub mod Rows
 pub mod Steps
 pub mod Walks
 pub mod SectionWalks

@@ -1,6 +1,5 @@
 -- A location that was read takes at least one byte, and no more than there are. Assumes nothing.
 use Prim.Native.Nat.{ℕ, _+_, _≤_}
-use mathlib.Core.Path.{_≡_}
 use mathlib.Core.List.{List}
 use native.Mathlib.Omega.{arith}
 use lib.Dec.{ltb, eqb}
@@ -43,6 +42,3 @@ module _ (s : List ℕ) where
       cond-elim (Takes s) (eqb t 3) (λ e3. sized-takes 7 _ (omega arith)) (λ e3.
       cond-elim (Takes s) (eqb t 4) (λ e4. sized-takes 37 _ (omega arith)) (λ e4.
       cond-elim (Takes s) (eqb t 5) (λ e5. url-takes) (λ e5. tt)))))))
-
-  pub located-takes : {l : Location} {n : ℕ} → locationOf s ≡ Some l n → Size s n
-  located-takes e = rw e at takes

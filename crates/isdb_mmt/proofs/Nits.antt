@@ -1,32 +1,16 @@
--- What stands in a TLV-NIT: each TLV-SI descriptor leads on to a place ahead, so that steps from one to the next go over all of
--- them; and a number in BCD of so many digits is below that power of ten. Assumes nothing.
+-- Numbers in BCD, as a TLV-NIT's descriptors have them: one of so many digits is below that power of ten. Assumes nothing.
 use Prim.Native.Nat.{ℕ, zero, suc, _+_, _-_, _*_, _^_, _≤_, _<_}
 use mathlib.Core.Path.{_≡_}
-use mathlib.Core.List.{List, []}
+use mathlib.Core.List.{List}
 use native.Mathlib.Nat.{add-zero, add-suc, pow-suc, pow-le-pow-right}
 use native.Mathlib.Numerals.{add-one}
 use native.Mathlib.Omega.{arith}
 use lib.Dec.{ltb}
-use lib.ListN.{length, getD}
 use borrow.Author.Tests.{ltb-false, lt-ltb, le-ltb}
-use Rattle.isdb_tlv.specs.Walk.{turn, Ahead, walk-at}
 use Rattle.isdb_tlv.proofs.Guards.{cond-elim}
-use Rattle.isdb_mmt.specs.Nit.{tlvStepAt, tlvItem, tlvFrom, digit, withDigit, bcdFrom}
+use Rattle.isdb_mmt.specs.Nit.{digit, withDigit, bcdFrom}
 use Rattle.isdb_mmt.specs.declared.maybe.MaybeU64.{MaybeU64}
 use Rattle.isdb_mmt.specs.declared.maybe.MaybeU64.the-variants.{None as noU64, Some as someU64}
-
-module _ (s : List ℕ) where
-  tlv-ahead : (at : ℕ) → Ahead (length s) at (tlvItem (tlvStepAt s at))
-  unfolding tlvStepAt
-  tlv-ahead at =
-      cond-elim (λ d. Ahead (length s) at (tlvItem d)) (ltb (length s - at) 2) (λ e. tt) (λ e.
-      cond-elim (λ d. Ahead (length s) at (tlvItem d)) (ltb (length s - (at + 2)) (getD s (at + 1) 0)) (λ e1. tt) (λ e1.
-      let l = ltb-false (length s - at) 2 e in omega arith))
-
-  -- the descriptors from a place on: what stands there, and the descriptors from where it leads
-  pub tlvs-at : (at : ℕ) → tlvFrom s at ≡ turn (tlvFrom s) (tlvItem (tlvStepAt s at))
-  unfolding tlvFrom
-  tlvs-at at = walk-at (λ p. tlvItem (tlvStepAt s p)) [] (length s) tlv-ahead at
 
 -- a number of n digits
 abbrev Below : ℕ → MaybeU64 → Type 0

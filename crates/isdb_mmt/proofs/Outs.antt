@@ -12,7 +12,7 @@ use lib.ListN.{length, take, drop, length-append, length-take, length-drop}
 use lib.Dec.{leb, ltb}
 use Rattle.isdb_tlv.specs.Guards.{_=?_}
 use Rattle.isdb_tlv.specs.Bytes.{be}
-use Rattle.isdb_tlv.specs.Walk.{Next, stop, more, turn, run}
+use Rattle.isdb_tlv.specs.Walk.{Next, stop, more, turn, run, also}
 use Rattle.isdb_tlv.specs.Fields.{Fit}
 use Rattle.isdb_tlv.specs.Tlv.{packetType}
 use Rattle.isdb_tlv.specs.Ip.{ipv4Of, ipv6Of, compressedOf}
@@ -30,7 +30,7 @@ use Rattle.isdb_tlv.specs.declared.mmtp.Header.{Header}
 use Rattle.isdb_tlv.specs.declared.mmtp.Parsed.{Parsed}
 use Rattle.isdb_tlv.specs.declared.mmtp.Parsed.the-variants.{None as notMmtp, Some as someMmtp}
 use Rattle.isdb_tlv.proofs.Guards.{cond-elim}
-use Rattle.isdb_mmt.specs.Mpu.{payloadHeader, declaredOf, unitsOf, unitsFrom, unitStep, unitAt, unitIn, item, also}
+use Rattle.isdb_mmt.specs.Mpu.{payloadHeader, declaredOf, unitsOf, unitsFrom, unitStep, unitAt, unitIn, item}
 use Rattle.isdb_mmt.specs.Packet.{Bytes, PayloadUnit, MpuPacket, Packet, ipError, ntp, nonMmtp, media, message, control, other, headerIn, payloadUnit, payloadUnits, unitsFor, unitsRead, mediaOf, byType, mmtpIn, toPort, inFlow, datagramIn, byKind, classify, clear, readable}
 use Rattle.isdb_mmt.specs.Maps.{isSome}
 use Rattle.isdb_mmt.specs.Objects.{Mfu, Asset, Rec, UnitEffect, gap, mostObject, grown, continued, effectOf, objectOf, unitEffect, afterUnit, afterUnits, deliveredBy, afterHeaders, mpuNumber, tagged, passes, mediaGives}
@@ -345,8 +345,8 @@ module _ {R : Type 0} (P : R → Type 0) where
   keeps-on go h (stop r) k = k
   keeps-on go h (more next f) k = k (go next) (h next)
 
-  keeps-run : (step : ℕ → Next R) (out : R) → P out → ((at : ℕ) → Keeps (step at)) → (k at : ℕ) → P (run step out k at)
-  keeps-run step out z h zero at = z
+  keeps-run : (step : ℕ → Next R) (out : ℕ → R) → ((at : ℕ) → P (out at)) → ((at : ℕ) → Keeps (step at)) → (k at : ℕ) → P (run step out k at)
+  keeps-run step out z h zero at = z at
   keeps-run step out z h (suc k) at = keeps-on (run step out k) (keeps-run step out z h k) (step at) (h at)
 
 record UnitOk (u : DataUnit) : Type 0 where
@@ -411,7 +411,7 @@ module _ (s : Bytes) (o : Octets s) (timed aggregated : Bool) where
 
   all-units : AllUnits (unitsOf s timed aggregated)
   unfolding unitsOf unitsFrom
-  all-units = keeps-run AllUnits (λ p. item (unitStep s timed aggregated p)) none tt (λ p. item-ok (unitStep s timed aggregated p) (step-ok p)) (suc (length s)) 8
+  all-units = keeps-run AllUnits (λ p. item (unitStep s timed aggregated p)) (λ p. none) (λ p. tt) (λ p. item-ok (unitStep s timed aggregated p) (step-ok p)) (suc (length s)) 8
 
   unit-covers : (at : ℕ) (d : UnitStep) → Inside s at d → Grows dataBytes (length s) at (item d)
   unit-covers at End w = omega arith
@@ -425,7 +425,7 @@ module _ (s : Bytes) (o : Octets s) (timed aggregated : Bool) where
   all-bytes : dataBytes (unitsOf s timed aggregated) ≤ length s
   unfolding unitsOf unitsFrom
   all-bytes =
-      let h = grows-within dataBytes (length s) (λ p. item (unitStep s timed aggregated p)) none refl (λ p. unit-covers p (unitStep s timed aggregated p) (unit-inside s timed aggregated p)) (suc (length s)) 8 in
+      let h = grows-within dataBytes (length s) (λ p. item (unitStep s timed aggregated p)) (λ p. none) (λ p. refl) (λ p. unit-covers p (unitStep s timed aggregated p) (unit-inside s timed aggregated p)) (suc (length s)) 8 in
       omega (arith, h)
 
 pieces-ok : (h : PayloadHeader) (q : Bytes) → Octets q → (us : List DataUnit) → AllUnits (some us) → AllPieces (map (payloadUnit h q) us)

@@ -1,10 +1,9 @@
 -- The packages and the IP deliveries of a PLT, one behind another: a loop which counts them down goes over all of them.
 -- Assumes nothing.
-use Prim.Native.Nat.{ℕ, zero, suc, _+_, _-_, _≤_, _<_}
+use Prim.Native.Nat.{ℕ, _+_, _-_, _≤_, _<_}
 use mathlib.Core.Path.{_≡_, refl}
 use mathlib.Core.Bool.{true, false, not}
 use mathlib.Core.List.{List}
-use mathlib.Core.Option.{Option, none, some}
 use native.Mathlib.Omega.{arith}
 use lib.Dec.{ltb, eqb}
 use lib.ListN.{length, getD, drop}
@@ -12,8 +11,10 @@ use lib.Seq.{getD-drop}
 use mir.Val.{Fits}
 use mir.Syntax.{w8}
 use Rattle.isdb_tlv.proofs.Guards.{cond-elim}
-use Rattle.isdb_mmt.specs.Timestamp.{isSome}
-use Rattle.isdb_mmt.specs.Plt.{packageAt, packagesEnd, deliverySize, deliveryAt, alsoDelivery, deliveriesFrom, deliveriesWhole}
+use Rattle.isdb_tlv.proofs.Walk.{run-stop, run-more}
+use Rattle.isdb_mmt.specs.Maps.{isSome}
+use Rattle.isdb_mmt.specs.Plt.{packageAt, behindPackage, packagesEnd, deliverySize, deliveryAt, deliveryItem, deliveriesWhole}
+use Rattle.isdb_mmt.proofs.Steps.{all-stop, all-more}
 use Rattle.isdb_mmt.specs.declared.maybe.MaybeUsize.{MaybeUsize}
 use Rattle.isdb_mmt.specs.declared.maybe.MaybeUsize.the-variants.{None as nowhere, Some as At}
 use Rattle.isdb_mmt.specs.declared.table.plt.Package.{Package}
@@ -38,33 +39,25 @@ small s h =
 pub size-le : (s : List ℕ) (p : ℕ) {n : ℕ} → ((i : ℕ) → Fits w8 (getD s i 0)) → deliverySize (drop p s) ≡ At n → n ≤ 256
 size-le s p h e = rw e at (small (drop p s) (rw (getD-drop p s 1 0) (h (p + 1) .fits)))
 
-also-some : (x : IpDelivery) (o : Option (List IpDelivery)) → isSome (alsoDelivery x o) ≡ isSome o
-also-some x none = refl
-also-some x (some l) = refl
-
 module _ (s : List ℕ) (at : ℕ) where
   -- the turns of the loop that steps over n packages
   pub end-none : (n : ℕ) → 0 < n → packageAt s at ≡ noPackage → packagesEnd n s at ≡ nowhere
-  end-none zero h e = absurd (omega arith)
-  end-none (suc n) h e = rw e
+  end-none n h e = run-stop (λ p. behindPackage (packageAt s p)) At at n h (rw e)
 
   pub end-on : (n : ℕ) {p : Package} {next : ℕ} → 0 < n → packageAt s at ≡ onePackage p next
       → packagesEnd n s at ≡ packagesEnd (n - 1) s next
-  end-on zero h e = absurd (omega arith)
-  end-on (suc n) h e = let i : suc n - 1 ≡ n = omega arith in rw (e, i)
+  end-on n {p} {next} h e = run-more (λ q. behindPackage (packageAt s q)) At at n {next = next} {f = λ end. end} h (rw e)
 
   -- the turns of the loop that asks whether n deliveries are whole
   pub whole-zero : deliveriesWhole 0 s at ≡ true
-  unfolding deliveriesWhole
+  unfolding deliveriesWhole isSome
   whole-zero = refl
 
   pub whole-none : (n : ℕ) → 0 < n → deliveryAt s at ≡ noDelivery → deliveriesWhole n s at ≡ false
   unfolding deliveriesWhole
-  whole-none zero h e = absurd (omega arith)
-  whole-none (suc n) h e = rw e
+  whole-none n h e = all-stop (λ p. deliveryItem (deliveryAt s p)) at n h (rw e)
 
   pub whole-on : (n : ℕ) {x : IpDelivery} {next : ℕ} → 0 < n → deliveryAt s at ≡ delivery x next
       → deliveriesWhole n s at ≡ deliveriesWhole (n - 1) s next
   unfolding deliveriesWhole
-  whole-on zero h e = absurd (omega arith)
-  whole-on (suc n) {x} {next} h e = let i : suc n - 1 ≡ n = omega arith in rw (e, i) (also-some x (deliveriesFrom n s next))
+  whole-on n {x} {next} h e = all-more (λ p. deliveryItem (deliveryAt s p)) at n x {next = next} h (rw e)

@@ -4,7 +4,6 @@ use Prim.Native.Nat.{ℕ, _+_, _-_, _/_}
 use mathlib.Core.Path.{_≡_, refl, sym, ap, _∙_}
 use mathlib.Core.Bool.{true, false, not}
 use mathlib.Core.List.{List, map}
-use mathlib.Core.Option.{Option, none, some}
 use native.Mathlib.Nat.{add-comm}
 use native.Mathlib.Omega.{arith}
 use lib.Dec.{ltb}
@@ -13,23 +12,21 @@ use Rattle.isdb_tlv.specs.Bytes.{be}
 use Rattle.isdb_tlv.specs.Walk.{turn}
 use Rattle.isdb_tlv.proofs.Guards.{cond-elim, either}
 use Rattle.isdb_mmt.specs.Part.{partOf}
-use Rattle.isdb_mmt.specs.Timestamp.{isSome}
-use Rattle.isdb_mmt.specs.Section.{length12, longSectionOf, entryAt, Loop, entryItem, entriesFrom}
-use Rattle.isdb_mmt.specs.Amt.{serviceAt, alsoService, serviceThen, servicesFrom, servicesWhole, amtBody, amtIn, amtOf}
-use Rattle.isdb_mmt.specs.Eit.{eventOf, eventIn, eventStep, eitBody, eitIn, eitOf}
-use Rattle.isdb_mmt.specs.Sdt.{serviceOf, serviceIn, serviceStep, sdtBody, sdtIn, sdtOf}
-use Rattle.isdb_mmt.specs.Bit.{broadcasterOf, broadcasterIn, broadcasterStep, bitBody, bitIn, bitOf}
-use Rattle.isdb_mmt.specs.Nit.{streamsPart, streamOf, streamIn, streamStep, nitBody, nitIn, nitOf}
+use Rattle.isdb_mmt.specs.Maps.{isSome}
+use Rattle.isdb_mmt.specs.Desc.{Loop}
+use Rattle.isdb_mmt.specs.Section.{length12, longSectionOf, entryAt, entryAs, entryItem, entriesFrom}
+use Rattle.isdb_mmt.specs.Amt.{serviceAt, serviceItem, servicesFrom, servicesWhole, amtBody, amtOf}
+use Rattle.isdb_mmt.specs.Eit.{told as eitRefused, eventOf, eventStep, eitBody, eitOf}
+use Rattle.isdb_mmt.specs.Sdt.{told as sdtRefused, serviceOf, serviceStep, sdtBody, sdtOf}
+use Rattle.isdb_mmt.specs.Bit.{told as bitRefused, broadcasterOf, broadcasterStep, bitBody, bitOf}
+use Rattle.isdb_mmt.specs.Nit.{streamsPart, streamOf, streamStep, nitBody, nitOf}
 use Rattle.isdb_mmt.specs.Steps.{Stood, atEnd, malformed, element, Found, counted, onward, toEnd, AllOf}
 use Rattle.isdb_mmt.specs.WholeSections.{described, flowTold, flowSeen, eventTold, eventSeen, serviceTold, serviceSeen, broadcasterTold, broadcasterSeen, WholeStream, wholeStream, streamTold, streamSeen}
 use Rattle.isdb_mmt.specs.Walks.{FlowsWalk, EventsWalk, ServicesWalk, BroadcastersWalk, StreamsWalk, AmtTheorem, EitTheorem, SdtTheorem, BitTheorem, NitTheorem}
 use Rattle.isdb_mmt.specs.declared.table.section.SectionHeader.{SectionHeader}
-use Rattle.isdb_mmt.specs.declared.table.section.LongSection.{LongSection}
-use Rattle.isdb_mmt.specs.declared.table.section.LongSection.the-variants.{Ok as good, Err as bad}
 use Rattle.isdb_mmt.specs.declared.table.section.Entry.{Entry}
 use Rattle.isdb_mmt.specs.declared.table.section.EntryStep.{EntryStep}
 use Rattle.isdb_mmt.specs.declared.table.section.EntryStep.the-variants.{End as noEntry, Malformed as badEntry, Entry as entry}
-use Rattle.isdb_mmt.specs.declared.table.amt.AmtService.{AmtService}
 use Rattle.isdb_mmt.specs.declared.table.amt.AmtStep.{AmtStep}
 use Rattle.isdb_mmt.specs.declared.table.amt.AmtStep.the-variants.{Malformed as noFlow, Service as flow}
 use Rattle.isdb_mmt.specs.declared.table.amt.AmtResult.{AmtResult}
@@ -46,20 +43,17 @@ use Rattle.isdb_mmt.specs.declared.table.bit.BitResult.the-variants.{Ok 
 use Rattle.isdb_mmt.specs.declared.table.nit.NitResult.{NitResult}
 use Rattle.isdb_mmt.specs.declared.table.nit.NitResult.the-variants.{Ok as nitOk, Err as nitErr}
 use Rattle.isdb_mmt.proofs.Names.{true-not-false}
-use Rattle.isdb_mmt.proofs.Entries.{Inside, entry-inside, entries-at}
-use Rattle.isdb_mmt.proofs.Steps.{Leads, counts, whole-by, On, same-found, ends-whole}
+use Rattle.isdb_mmt.proofs.Entries.{section-elim, Inside, entry-inside, entries-at}
+use Rattle.isdb_mmt.proofs.Steps.{also-some, Leads, counts, whole-by, On, same-found, ends-whole}
 
 -- ---- the services of an AMT
 
 module _ (s : List ℕ) where
-  also-some : (x : AmtService) (o : Option (List AmtService)) → isSome (alsoService x o) ≡ true → isSome o ≡ true
-  also-some x none w = w
-  also-some x (some l) w = refl
-
-  flow-leads : (n : ℕ) (d : AmtStep) → isSome (serviceThen (servicesFrom n s) d) ≡ true
+  flow-leads : (n : ℕ) (d : AmtStep) → isSome (turn (servicesFrom n s) (serviceItem d)) ≡ true
       → Leads (λ p. isSome (servicesFrom n s p) ≡ true) (flowTold d)
+  unfolding isSome
   flow-leads n noFlow w = true-not-false false w refl
-  flow-leads n (flow x next) w = also-some x (servicesFrom n s next) w
+  flow-leads n (flow x next) w = sym (also-some x (servicesFrom n s next)) ∙ w
 
   flows-whole : (n at : ℕ) → servicesWhole n s at ≡ true → counted (flowSeen s) n at .whole ≡ true
   unfolding servicesWhole
@@ -79,21 +73,23 @@ amt-body s h =
     cond-elim (AmtGood s) (not w) (λ e1. tt) (λ e1.
     counts (flowSeen b) n 2 (flows-whole b n 2 (either w (λ d. d) (λ d. true-not-false true refl (rw d at e1))))))
 
-amt-section : (s : List ℕ) (d : LongSection) → AmtGood s (amtIn s d)
-amt-section s (bad e) = tt
-amt-section s (good h) = amt-body s h
-
 pub amt : AmtTheorem
 unfolding amtOf
-amt s h t e = rw e at (amt-section s (longSectionOf s))
+amt s h t e = rw e at (section-elim (AmtGood s) amtErr amtBody s (λ x. tt) (amt-body s) (longSectionOf s))
 
 -- ---- entries to the end of a loop
 
 module _ {A : Type 0} (f : Entry → A) where
   abbrev pub entryTold : EntryStep → Stood A
-  entryTold noEntry = atEnd
-  entryTold badEntry = malformed
-  entryTold (entry e next) = element (f e) next
+  entryTold = entryAs atEnd malformed (λ e. element (f e))
+
+  -- what a table makes of an entry, told as a step
+  told-entry : {R : Type 0} (told : R → Stood A) (end broke : R) (found : Entry → ℕ → R) → told end ≡ atEnd → told broke ≡ malformed
+      → ((e : Entry) (next : ℕ) → told (found e next) ≡ element (f e) next)
+      → (d : EntryStep) → told (entryAs end broke found d) ≡ entryTold d
+  told-entry told end broke found x y z noEntry = x
+  told-entry told end broke found x y z badEntry = y
+  told-entry told end broke found x y z (entry e next) = z e next
 
   -- any step that tells what an entry is
   module _ (s : List ℕ) (k : ℕ) (step : ℕ → Stood A) (tells : (at : ℕ) → step at ≡ entryTold (entryAt s k at)) where
@@ -105,7 +101,7 @@ module _ {A : Type 0} (f : Entry → A) where
     on-step : (at : ℕ) → On (length s) at (step at)
     on-step at = rw (tells at) (on-entry at (entryAt s k at) (entry-inside s k at))
 
-    abbrev mapped : Loop → Found A
+    abbrev mapped : Loop Entry → Found A
     mapped l = record { found = map f (l .found); whole = l .whole }
 
     turned : (d : EntryStep) → mapped (turn (entriesFrom s k) (entryItem s d)) ≡ turn (λ p. mapped (entriesFrom s k p)) (onward (entryTold d))
@@ -136,44 +132,24 @@ module _ {A : Type 0} (f : Entry → A) where
 -- ---- each table's entries
 
 module _ (s : List ℕ) where
-  event-told : (d : EntryStep) → eventTold s (eventIn s d) ≡ entryTold (λ e. described s (e .descriptors) (eventOf s e)) d
-  event-told noEntry = refl
-  event-told badEntry = refl
-  event-told (entry e next) = refl
-
   pub event-tells : (at : ℕ) → eventSeen s at ≡ entryTold (λ e. described s (e .descriptors) (eventOf s e)) (entryAt s 10 at)
   unfolding eventStep
-  event-tells at = event-told (entryAt s 10 at)
-
-  service-told : (d : EntryStep) → serviceTold s (serviceIn s d) ≡ entryTold (λ e. described s (e .descriptors) (serviceOf s e)) d
-  service-told noEntry = refl
-  service-told badEntry = refl
-  service-told (entry e next) = refl
+  event-tells at = told-entry (λ e. described s (e .descriptors) (eventOf s e)) (eventTold s) _ _ _ refl refl (λ e next. refl) (entryAt s 10 at)
 
   pub service-tells : (at : ℕ) → serviceSeen s at ≡ entryTold (λ e. described s (e .descriptors) (serviceOf s e)) (entryAt s 3 at)
   unfolding serviceStep
-  service-tells at = service-told (entryAt s 3 at)
-
-  broadcaster-told : (d : EntryStep) → broadcasterTold s (broadcasterIn s d) ≡ entryTold (λ e. described s (e .descriptors) (broadcasterOf s e)) d
-  broadcaster-told noEntry = refl
-  broadcaster-told badEntry = refl
-  broadcaster-told (entry e next) = refl
+  service-tells at = told-entry (λ e. described s (e .descriptors) (serviceOf s e)) (serviceTold s) _ _ _ refl refl (λ e next. refl) (entryAt s 3 at)
 
   pub broadcaster-tells : (at : ℕ) → broadcasterSeen s at ≡ entryTold (λ e. described s (e .descriptors) (broadcasterOf s e)) (entryAt s 1 at)
   unfolding broadcasterStep
-  broadcaster-tells at = broadcaster-told (entryAt s 1 at)
+  broadcaster-tells at = told-entry (λ e. described s (e .descriptors) (broadcasterOf s e)) (broadcasterTold s) _ _ _ refl refl (λ e next. refl) (entryAt s 1 at)
 
   abbrev pub streamWith : Entry → WholeStream
   streamWith e = wholeStream s (streamOf s e)
 
-  stream-told : (d : EntryStep) → streamTold s (streamIn s d) ≡ entryTold streamWith d
-  stream-told noEntry = refl
-  stream-told badEntry = refl
-  stream-told (entry e next) = refl
-
   pub stream-tells : (at : ℕ) → streamSeen s at ≡ entryTold streamWith (entryAt s 4 at)
   unfolding streamStep
-  stream-tells at = stream-told (entryAt s 4 at)
+  stream-tells at = told-entry streamWith (streamTold s) _ _ _ refl refl (λ e next. refl) (entryAt s 4 at)
 
 -- ---- EIT
 
@@ -189,13 +165,9 @@ eit-body s h =
     cond-elim (EitGood s) (entriesFrom b 10 6 .whole)
     (λ w. all-entries (λ e. described b (e .descriptors) (eventOf b e)) b 10 (eventSeen b) (event-tells b) 6 w) (λ w. tt))
 
-eit-section : (s : List ℕ) (d : LongSection) → EitGood s (eitIn s d .result)
-eit-section s (bad e) = tt
-eit-section s (good h) = eit-body s h
-
 pub eit : EitTheorem
 unfolding eitOf
-eit s h t e = rw e at (eit-section s (longSectionOf s))
+eit s h t e = rw e at (section-elim (λ (r : EitParsed). EitGood s (r .result)) (λ x. eitRefused (eitErr x) 0) eitBody s (λ x. tt) (eit-body s) (longSectionOf s))
 
 -- ---- SDT
 
@@ -211,13 +183,9 @@ sdt-body s h =
     cond-elim (SdtGood s) (entriesFrom b 3 3 .whole)
     (λ w. all-entries (λ e. described b (e .descriptors) (serviceOf b e)) b 3 (serviceSeen b) (service-tells b) 3 w) (λ w. tt))
 
-sdt-section : (s : List ℕ) (d : LongSection) → SdtGood s (sdtIn s d .result)
-sdt-section s (bad e) = tt
-sdt-section s (good h) = sdt-body s h
-
 pub sdt : SdtTheorem
 unfolding sdtOf
-sdt s h t e = rw e at (sdt-section s (longSectionOf s))
+sdt s h t e = rw e at (section-elim (λ (r : SdtParsed). SdtGood s (r .result)) (λ x. sdtRefused (sdtErr x) 0) sdtBody s (λ x. tt) (sdt-body s) (longSectionOf s))
 
 -- ---- BIT
 
@@ -238,13 +206,9 @@ bit-body s h =
     (all-entries (λ e. described b (e .descriptors) (broadcasterOf b e)) b 1 (broadcasterSeen b) (broadcaster-tells b) n w))
     (λ w. tt)))
 
-bit-section : (s : List ℕ) (d : LongSection) → BitGood s (bitIn s d .result)
-bit-section s (bad e) = tt
-bit-section s (good h) = bit-body s h
-
 pub bit : BitTheorem
 unfolding bitOf
-bit s h t e = rw e at (bit-section s (longSectionOf s))
+bit s h t e = rw e at (section-elim (λ (r : BitParsed). BitGood s (r .result)) (λ x. bitRefused (bitErr x) 0) bitBody s (λ x. tt) (bit-body s) (longSectionOf s))
 
 -- ---- NIT
 
@@ -263,10 +227,6 @@ nit-body s h =
     cond-elim (NitGood s) (entriesFrom l 4 0 .whole)
     (λ w. all-entries (streamWith l) l 4 (streamSeen l) (stream-tells l) 0 w) (λ w. tt))))
 
-nit-section : (s : List ℕ) (d : LongSection) → NitGood s (nitIn s d)
-nit-section s (bad e) = tt
-nit-section s (good h) = nit-body s h
-
 pub nit : NitTheorem
 unfolding nitOf
-nit s h t e = rw e at (nit-section s (longSectionOf s))
+nit s h t e = rw e at (section-elim (NitGood s) nitErr nitBody s (λ x. tt) (nit-body s) (longSectionOf s))

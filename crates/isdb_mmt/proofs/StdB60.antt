@@ -13,6 +13,7 @@ use Rattle.isdb_tlv.specs.Crc.{crcOf}
 use Rattle.isdb_tlv.specs.Fields.{bytesOf, Field, field, bits, packed, written, Fit}
 use Rattle.isdb_tlv.proofs.CrcLinear.{crc-closed}
 use Rattle.isdb_tlv.proofs.Fields.{be-one, length-bytesOf, size, fieldAt, offsetOf, length-written}
+use Rattle.isdb_mmt.specs.Maps.{isSome}
 use Rattle.isdb_mmt.specs.Part.{partAt}
 use Rattle.isdb_mmt.specs.Desc.{lengthWidth, stepAt, Split, splitFrom, splitOf, broken}
 use Rattle.isdb_mmt.specs.Location.{sized, urlOf, locationOf}
@@ -101,6 +102,7 @@ loops ds c =
 
 -- so it does not count as broken
 pub loop-whole : (ds : List Descriptor) → LoopConforming ds → broken (loopSent ds) ≡ 0
+unfolding isSome
 loop-whole ds c = rw (loops ds c .whole)
 
 -- a location's fields

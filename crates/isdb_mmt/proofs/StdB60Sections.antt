@@ -11,8 +11,8 @@ use Rattle.isdb_tlv.specs.Bytes.{be}
 use Rattle.isdb_tlv.specs.Fields.{written}
 use Rattle.isdb_tlv.proofs.Fields.{be-one, size, fieldAt, offsetOf, length-written}
 use Rattle.isdb_mmt.specs.Part.{partAt, partOf}
-use Rattle.isdb_mmt.specs.Desc.{broken}
-use Rattle.isdb_mmt.specs.Section.{entryAt, Loop, entriesFrom}
+use Rattle.isdb_mmt.specs.Desc.{broken, Loop}
+use Rattle.isdb_mmt.specs.Section.{entryAt, entriesFrom}
 use Rattle.isdb_mmt.specs.Eit.{eitOf, eitBody, eventOf, eventsOf}
 use Rattle.isdb_mmt.specs.Sdt.{sdtOf, sdtBody, serviceOf, servicesOf}
 use Rattle.isdb_mmt.specs.Bit.{bitOf, bitBody, broadcasterOf, broadcastersOf}
@@ -81,7 +81,7 @@ breaksOf [] = 0
 breaksOf (e ∷ es) = broken (e .loop) + breaksOf es
 
 -- what the walk over entries finds
-pub record EntriesAt (s : List ℕ) (es : List SentEntry) (l : Loop) : Type 0 where
+pub record EntriesAt (s : List ℕ) (es : List SentEntry) (l : Loop Entry) : Type 0 where
   pub found : Each (Holds s) es (l .found)
   pub breaks : l .breaks ≡ breaksOf es
   pub whole : l .whole ≡ true
@@ -117,7 +117,7 @@ pub record Kind {A B W : Type 0} (k : ℕ) (conforms : A → Type 0) (sends : A 
   pub told : (s : List ℕ) (x : A) → conforms x → (y : Entry) → Holds s (sends x) y → seen s (of s y) ≡ value x
 
 -- what the walk finds of things of a kind
-pub record ThingsAt {A B W : Type 0} (sends : A → SentEntry) (value : A → W) (of : Entry → B) (seen : B → W) (xs : List A) (l : Loop)
+pub record ThingsAt {A B W : Type 0} (sends : A → SentEntry) (value : A → W) (of : Entry → B) (seen : B → W) (xs : List A) (l : Loop Entry)
     : Type 0 where
   pub values : map seen (map of (l .found)) ≡ map value xs
   pub count : length (l .found) ≡ length xs

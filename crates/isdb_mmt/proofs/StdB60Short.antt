@@ -13,6 +13,7 @@ use Rattle.isdb_tlv.specs.Bytes.{be}
 use Rattle.isdb_tlv.specs.Crc.{crcOf}
 use Rattle.isdb_tlv.specs.Fields.{bytesOf, Field, field, bits, packed, written, Fit}
 use Rattle.isdb_tlv.proofs.Fields.{be-one, size, fieldAt, offsetOf, length-written}
+use Rattle.isdb_mmt.specs.Maps.{isSome}
 use Rattle.isdb_mmt.specs.Part.{partAt, partOf}
 use Rattle.isdb_mmt.specs.Section.{length12}
 use Rattle.isdb_mmt.specs.Amt.{addressSize, flowOf, serviceAt, servicesFrom, servicesWhole, amtBody, amtOf}
@@ -89,7 +90,7 @@ abbrev amtHead : SentAmt → List Field
 amtHead t = field 2 (packed (bits 10 (length (t .services)) ∷ bits 6 (t .reserved) ∷ [])) ∷ []
 
 pub amt : AmtTheorem
-unfolding amtOf amtBody servicesWhole
+unfolding amtOf amtBody servicesWhole isSome
 amt t c =
     let s = amtBodySent t in
     let n = length (t .services) in

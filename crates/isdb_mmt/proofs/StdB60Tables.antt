@@ -13,9 +13,11 @@ use Rattle.isdb_tlv.specs.Guards.{_=?_}
 use Rattle.isdb_tlv.specs.Bytes.{be}
 use Rattle.isdb_tlv.specs.Fields.{Field, field, bits, packed, written, Fit}
 use Rattle.isdb_tlv.proofs.Fields.{be-one, length-written}
+use Rattle.isdb_mmt.specs.Maps.{isSome}
 use Rattle.isdb_mmt.specs.Part.{partAt, partOf}
 use Rattle.isdb_mmt.specs.Location.{locationOf}
-use Rattle.isdb_mmt.specs.Mpt.{declaredLength, locationsEnd, locationsOf, assetFields, assetAt, Loop, assetsFrom, mptAssets, mptTable, mptOf}
+use Rattle.isdb_mmt.specs.Desc.{Loop}
+use Rattle.isdb_mmt.specs.Mpt.{declaredLength, locationsEnd, locationsOf, assetFields, assetAt, assetsFrom, mptAssets, mptTable, mptOf}
 use Rattle.isdb_mmt.specs.Plt.{packageAt, packagesEnd, packagesOf, deliverySize, deliveryAt, deliveriesFrom, deliveriesWhole, pltDeliveries, pltTable, pltOf}
 use Rattle.isdb_mmt.specs.StdB60.{loopSent, SentLocation, locationSent, LocationConforming, locationSeen}
 use Rattle.isdb_mmt.specs.StdB60Sections.{All}
@@ -205,7 +207,7 @@ module _ {s : List ℕ} {at : ℕ} (a : SentAsset) (c : AssetConforming a) (sent
       rw (id, ls, asset-loop)
 
 -- assets one behind another
-pub record AssetsAt (s : List ℕ) (l : List SentAsset) (r : Loop) : Type 0 where
+pub record AssetsAt (s : List ℕ) (l : List SentAsset) (r : Loop Asset) : Type 0 where
   pub found : map (assetSeen s) (r .found) ≡ map assetValue l
   pub breaks : r .breaks ≡ 0
   pub whole : r .whole ≡ true
@@ -445,7 +447,7 @@ module _ (t : SentPlt) (c : PltConforming t) where
   plt-deliveries = located-rest (packagesSent (t .packages)) (pltDeliveriesPart t) plt-packages refl
 
 pub plt : PltTheorem
-unfolding pltOf pltTable pltDeliveries deliveriesWhole
+unfolding pltOf pltTable pltDeliveries deliveriesWhole isSome
 plt t c =
     let s = pltSent t in
     let end = 5 + length (packagesSent (t .packages)) in

@@ -2,12 +2,32 @@
 use Prim.Native.Nat.{ℕ, zero, suc, _-_, _<_}
 use mathlib.Core.Path.{_≡_, refl, sym, ap, _∙_}
 use mathlib.Core.Bool.{Bool, true, false}
-use mathlib.Core.List.{List, [], _∷_}
+use mathlib.Core.List.{List, []}
+use mathlib.Core.Option.{Option, none, some}
 use native.Mathlib.Omega.{arith}
-use lib.ListN.{length}
-use Rattle.isdb_tlv.specs.Walk.{turn, Ahead, walk-at}
-use Rattle.isdb_mmt.specs.Steps.{Stood, atEnd, malformed, element, Found, stopped, also, countedOn, counted, onward, toEnd, Gives, Counts, Ends, lastOf, placeOf, elementOf, nth}
+use Rattle.isdb_tlv.specs.Walk.{Next, stop as halt, more, turn, run, also as alsoItem}
+use Rattle.isdb_tlv.proofs.Walk.{Ahead, walk-at, run-stop, run-more}
+use Rattle.isdb_mmt.specs.Maps.{isSome}
+use Rattle.isdb_mmt.specs.Steps.{Stood, atEnd, malformed, element, Found, stopped, also, required, counted, onward, toEnd, Counts, Ends, lastOf}
 use Rattle.isdb_mmt.proofs.Names.{true-not-false}
+
+-- a list of items that is refused whole where one of them is
+pub also-some : {A : Type 0} (x : A) (o : Option (List A)) → isSome (alsoItem x o) ≡ isSome o
+unfolding isSome
+also-some x none = refl
+also-some x (some l) = refl
+
+-- the turns of the loop that asks whether so many items are all there
+module _ {A : Type 0} (step : ℕ → Next (Option (List A))) (at n : ℕ) where
+  abbrev items : ℕ → ℕ → Option (List A)
+  items = run step (λ p. some [])
+
+  pub all-stop : 0 < n → step at ≡ halt none → isSome (items n at) ≡ false
+  unfolding isSome
+  all-stop h e = ap isSome (run-stop step (λ p. some []) at n h e)
+
+  pub all-more : (x : A) {next : ℕ} → 0 < n → step at ≡ more next (alsoItem x) → isSome (items n at) ≡ isSome (items (n - 1) next)
+  all-more x {next} h e = ap isSome (run-more step (λ p. some []) at n h e) ∙ also-some x (items (n - 1) next)
 
 -- what holds behind an element that stands there
 abbrev pub Leads : {A : Type 0} → (ℕ → Type 0) → Stood A → Type 0
@@ -18,7 +38,7 @@ Leads Rest (element x next) = Rest next
 -- so many elements: where the walk is whole, every step gives one, and there are as many
 module _ {A : Type 0} (step : ℕ → Stood A) where
   counts-on : (n : ℕ) → ((at : ℕ) → counted step n at .whole ≡ true → Counts step n at (counted step n at .found)) → (at : ℕ) (d : Stood A) → step at ≡ d
-      → countedOn (counted step n) d .whole ≡ true → Counts step (suc n) at (countedOn (counted step n) d .found)
+      → turn (counted step n) (required d) .whole ≡ true → Counts step (suc n) at (turn (counted step n) (required d) .found)
   counts-on n h at atEnd e w = true-not-false false w refl
   counts-on n h at malformed e w = true-not-false false w refl
   counts-on n h at (element x next) e w =
@@ -31,7 +51,7 @@ module _ {A : Type 0} (step : ℕ → Stood A) where
 
   -- a walk is whole where whatever says so of `n` elements says so behind a first
   leads-whole : {Rest : ℕ → Type 0} (n : ℕ) → ((at : ℕ) → Rest at → counted step n at .whole ≡ true) → (d : Stood A) → Leads Rest d
-      → countedOn (counted step n) d .whole ≡ true
+      → turn (counted step n) (required d) .whole ≡ true
   leads-whole n h atEnd w = absurd w
   leads-whole n h malformed w = absurd w
   leads-whole n h (element x next) w = h next w
@@ -118,13 +138,3 @@ module _ {A : Type 0} (step : ℕ → Stood A) (n : ℕ) (on : (at : ℕ) → On
 
   pub ends-whole : (at : ℕ) → toEnd step n at .whole ≡ true → Ends step at (toEnd step n at .found) atEnd
   ends-whole at e = rw e at (ends at)
-
--- the element of the list at an index is what the step at that place gives
-module _ {A : Type 0} (step : ℕ → Stood A) where
-  pub nth-given : (l : List A) (at stop : ℕ) → Gives step at l stop → (i : ℕ) → i < length l → elementOf (step (placeOf step i at)) ≡ nth l i
-  nth-given [] at stop g i h = absurd (omega arith)
-  nth-given (x ∷ l) at stop g zero h = ap elementOf (g .here)
-  nth-given (x ∷ l) at stop g (suc i) h = rw (g .here) (nth-given l (g .next) stop (g .rest) i (omega arith))
-
-  pub counts-nth : {n at : ℕ} {l : List A} → Counts step n at l → (i : ℕ) → i < n → elementOf (step (placeOf step i at)) ≡ nth l i
-  counts-nth {at = at} {l = l} c i h = nth-given l at (c .stop) (c .gives) i (omega (arith, c .count))

@@ -1,20 +1,20 @@
 -- The units of an MPU payload: each leads on to a place ahead and its data lie within the declared bytes, so that steps from one
 -- to the next go over all of them; and a kind and its code name each other. Assumes nothing.
-use Prim.Native.Nat.{ℕ, suc, _+_, _-_, _%_, _≤_}
+use Prim.Native.Nat.{ℕ, _+_, _-_, _%_, _≤_}
 use mathlib.Core.Path.{_≡_, refl, sym, _∙_}
 use mathlib.Core.Bool.{Bool, not}
 use mathlib.Core.List.{List}
-use mathlib.Core.Option.{Option, none, some}
-use native.Mathlib.Nat.{zero-add}
+use mathlib.Core.Option.{none}
 use native.Mathlib.Omega.{arith}
 use lib.Dec.{ltb, leb, eqb}
 use lib.ListN.{length}
 use borrow.Author.Tests.{ltb-false, leb-true, eqb-true, eqb-false}
 use Rattle.isdb_tlv.specs.Bytes.{be}
-use Rattle.isdb_tlv.specs.Walk.{turn, Ahead, walk-at}
+use Rattle.isdb_tlv.specs.Walk.{turn}
+use Rattle.isdb_tlv.proofs.Walk.{Ahead, walk-at, plus, one-more as one-more-item}
 use Rattle.isdb_tlv.proofs.Guards.{cond-elim}
 use Rattle.isdb_mmt.proofs.Places.{Lies}
-use Rattle.isdb_mmt.specs.Mpu.{fragmentCode, fragmentType, indicatorCode, indicator, unitIn, unitAt, unitStep, also, item, unitsFrom, counted}
+use Rattle.isdb_mmt.specs.Mpu.{fragmentCode, fragmentType, indicatorCode, indicator, unitIn, unitAt, unitStep, item, unitsFrom}
 use Rattle.isdb_mmt.specs.declared.mpu.FragmentType.{FragmentType}
 use Rattle.isdb_mmt.specs.declared.mpu.FragmentationIndicator.{FragmentationIndicator}
 use Rattle.isdb_mmt.specs.declared.mpu.FragmentationIndicator.the-variants.{Complete, Head, Middle, Last}
@@ -102,22 +102,9 @@ module _ (s : List ℕ) (timed aggregated : Bool) where
   units-at at =
       walk-at (λ p. item (unitStep s timed aggregated p)) none (length s) (λ p. ahead-of p (unitStep s timed aggregated p) (unit-inside p)) at
 
--- k units before these
-abbrev pub plus : ℕ → Option (List DataUnit) → UnitCount
-plus k none = notWhole
-plus k (some l) = Count (k + length l)
-
-pub plus-zero : (o : Option (List DataUnit)) → plus 0 o ≡ counted o
-unfolding counted
-plus-zero none = refl
-plus-zero (some l) = rw zero-add
-
-plus-also : (k : ℕ) (u : DataUnit) (o : Option (List DataUnit)) → plus (k + 1) o ≡ plus k (also u o)
-plus-also k u none = refl
-plus-also k u (some l) = let e : k + 1 + length l ≡ k + suc (length l) = omega arith in rw e
-
+-- the turn of the loop that counts them
 pub one-more : (s : List ℕ) (timed aggregated : Bool) (at k : ℕ) {u : DataUnit} {next : ℕ} {r : UnitCount}
-    → unitStep s timed aggregated at ≡ found u next → plus k (unitsFrom s timed aggregated at) ≡ r
-    → plus (k + 1) (unitsFrom s timed aggregated next) ≡ r
+    → unitStep s timed aggregated at ≡ found u next → plus notWhole Count k (unitsFrom s timed aggregated at) ≡ r
+    → plus notWhole Count (k + 1) (unitsFrom s timed aggregated next) ≡ r
 one-more s timed aggregated at k {u} {next} d e =
-    plus-also k u (unitsFrom s timed aggregated next) ∙ (rw (units-at s timed aggregated at, d) at e)
+    one-more-item notWhole Count k u (unitsFrom s timed aggregated next) (units-at s timed aggregated at ∙ rw d) e

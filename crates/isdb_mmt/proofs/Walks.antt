@@ -1,18 +1,18 @@
 -- The walks over an MPT's assets and their locations, a PLT's packages and deliveries: where the table parses, each step gives
 -- the next element of the whole value. Assumes nothing.
 use Prim.Native.Nat.{ℕ, _+_, _-_}
-use mathlib.Core.Path.{_≡_, refl}
+use mathlib.Core.Path.{_≡_, refl, sym, _∙_}
 use mathlib.Core.Bool.{true, false, not}
 use mathlib.Core.List.{List}
-use mathlib.Core.Option.{Option, none, some}
 use lib.Dec.{ltb, eqb}
 use lib.ListN.{length, getD, drop}
 use Rattle.isdb_tlv.specs.Bytes.{be}
+use Rattle.isdb_tlv.specs.Walk.{turn}
 use Rattle.isdb_tlv.proofs.Guards.{cond-elim, either}
-use Rattle.isdb_mmt.specs.Timestamp.{isSome}
+use Rattle.isdb_mmt.specs.Maps.{isSome}
 use Rattle.isdb_mmt.specs.Location.{locationOf}
-use Rattle.isdb_mmt.specs.Mpt.{declaredLength, behindLocation, locationsEnd, assetFields, assetBehind, assetAt, assetThen, assetsFrom, mptIn, mptAssets, mptTable, mptOf}
-use Rattle.isdb_mmt.specs.Plt.{packageAt, behindPackage, packagesEnd, deliveryAt, deliveryThen, alsoDelivery, deliveriesFrom, deliveriesWhole, pltWith, pltDeliveries, pltBehind, pltTable, pltIn, pltOf}
+use Rattle.isdb_mmt.specs.Mpt.{declaredLength, behindLocation, locationsEnd, assetFields, assetBehind, assetAt, assetItem, assetsFrom, mptIn, mptAssets, mptTable, mptOf}
+use Rattle.isdb_mmt.specs.Plt.{packageAt, behindPackage, packagesEnd, deliveryAt, deliveryItem, deliveriesFrom, deliveriesWhole, pltWith, pltDeliveries, pltBehind, pltTable, pltIn, pltOf}
 use Rattle.isdb_mmt.specs.Kept.{declaredTable}
 use Rattle.isdb_mmt.specs.Steps.{counted}
 use Rattle.isdb_mmt.specs.WholeDescriptors.{locationTold, locationSeen}
@@ -29,13 +29,12 @@ use Rattle.isdb_mmt.specs.declared.table.mpt.MaybeMpt.the-variants.{None
 use Rattle.isdb_mmt.specs.declared.table.mpt.MptParsed.{MptParsed}
 use Rattle.isdb_mmt.specs.declared.table.plt.PackageStep.{PackageStep}
 use Rattle.isdb_mmt.specs.declared.table.plt.PackageStep.the-variants.{Malformed as noPackage, Package as onePackage}
-use Rattle.isdb_mmt.specs.declared.table.plt.IpDelivery.{IpDelivery}
 use Rattle.isdb_mmt.specs.declared.table.plt.DeliveryStep.{DeliveryStep}
 use Rattle.isdb_mmt.specs.declared.table.plt.DeliveryStep.the-variants.{Malformed as noDelivery, Delivery as delivery}
 use Rattle.isdb_mmt.specs.declared.table.plt.MaybePlt.{MaybePlt}
 use Rattle.isdb_mmt.specs.declared.table.plt.MaybePlt.the-variants.{None as noPlt, Some as somePlt}
 use Rattle.isdb_mmt.proofs.Names.{true-not-false}
-use Rattle.isdb_mmt.proofs.Steps.{Leads, counts, whole-by}
+use Rattle.isdb_mmt.proofs.Steps.{also-some, Leads, counts, whole-by}
 
 -- a place that is there
 abbrev There : MaybeUsize → Type 0
@@ -45,7 +44,7 @@ There (At p) = Unit {0}
 module _ (s : List ℕ) where
   -- ---- each counted walk is whole where its loop says so
 
-  location-leads : (n at : ℕ) (d : Located) → There (behindLocation (locationsEnd n s) at d) → Leads (λ p. There (locationsEnd n s p)) (locationTold s at d)
+  location-leads : (n at : ℕ) (d : Located) → There (turn (locationsEnd n s) (behindLocation at d)) → Leads (λ p. There (locationsEnd n s p)) (locationTold s at d)
   location-leads n at notLocated w = w
   location-leads n at (located l taken) w = w
 
@@ -53,28 +52,25 @@ module _ (s : List ℕ) where
   locations-whole =
       whole-by (locationSeen s) (λ n at. There (locationsEnd n s at)) (λ n at. location-leads n at (locationOf (drop at s)))
 
-  asset-leads : (n : ℕ) (d : AssetStep) → assetThen s (assetsFrom n s) d .whole ≡ true → Leads (λ p. assetsFrom n s p .whole ≡ true) (assetTold s d)
+  asset-leads : (n : ℕ) (d : AssetStep) → turn (assetsFrom n s) (assetItem s d) .whole ≡ true → Leads (λ p. assetsFrom n s p .whole ≡ true) (assetTold s d)
   asset-leads n noAsset w = true-not-false false w refl
   asset-leads n (asset a next) w = w
 
   assets-whole : (n at : ℕ) → assetsFrom n s at .whole ≡ true → counted (assetSeen s) n at .whole ≡ true
   assets-whole = whole-by (assetSeen s) (λ n at. assetsFrom n s at .whole ≡ true) (λ n at. asset-leads n (assetAt s at))
 
-  package-leads : (n : ℕ) (d : PackageStep) → There (behindPackage (packagesEnd n s) d) → Leads (λ p. There (packagesEnd n s p)) (packageTold s d)
+  package-leads : (n : ℕ) (d : PackageStep) → There (turn (packagesEnd n s) (behindPackage d)) → Leads (λ p. There (packagesEnd n s p)) (packageTold s d)
   package-leads n noPackage w = w
   package-leads n (onePackage p next) w = w
 
   packages-whole : (n at : ℕ) → There (packagesEnd n s at) → counted (packageSeen s) n at .whole ≡ true
   packages-whole = whole-by (packageSeen s) (λ n at. There (packagesEnd n s at)) (λ n at. package-leads n (packageAt s at))
 
-  also-some : (x : IpDelivery) (o : Option (List IpDelivery)) → isSome (alsoDelivery x o) ≡ true → isSome o ≡ true
-  also-some x none w = w
-  also-some x (some l) w = refl
-
-  delivery-leads : (n : ℕ) (d : DeliveryStep) → isSome (deliveryThen (deliveriesFrom n s) d) ≡ true
+  delivery-leads : (n : ℕ) (d : DeliveryStep) → isSome (turn (deliveriesFrom n s) (deliveryItem d)) ≡ true
       → Leads (λ p. isSome (deliveriesFrom n s p) ≡ true) (deliveryTold d)
+  unfolding isSome
   delivery-leads n noDelivery w = true-not-false false w refl
-  delivery-leads n (delivery x next) w = also-some x (deliveriesFrom n s next) w
+  delivery-leads n (delivery x next) w = sym (also-some x (deliveriesFrom n s next)) ∙ w
 
   deliveries-whole : (n at : ℕ) → deliveriesWhole n s at ≡ true → counted (deliverySeen s) n at .whole ≡ true
   unfolding deliveriesWhole
@@ -144,7 +140,7 @@ module _ (s : List ℕ) where
       }
 
   deliveries-good : There (packagesEnd (getD s 4 0) s 5) → (at : ℕ) → PltGood (pltDeliveries s at)
-  unfolding pltDeliveries deliveriesWhole
+  unfolding pltDeliveries deliveriesWhole isSome
   deliveries-good w at =
       let h = deliveriesWhole (getD s at 0) s (at + 1) in
       cond-elim PltGood (eqb (length s - at) 0) (λ e. with-good w 0 at refl) (λ e.

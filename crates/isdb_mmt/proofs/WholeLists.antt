@@ -1,8 +1,9 @@
 -- Whole values and the lists of the parsers: the same elements. Assumes nothing.
 use Prim.Native.Nat.{ℕ, zero, suc, _+_, _%_}
-use mathlib.Core.Path.{_≡_, refl, ap, _∙_}
+use mathlib.Core.Path.{_≡_, refl, sym, ap, _∙_}
 use mathlib.Core.Bool.{not}
 use mathlib.Core.List.{List, [], _∷_, map}
+use mathlib.Core.Option.{Option, none, some}
 use native.Mathlib.Omega.{arith}
 use lib.Dec.{eqb}
 use lib.ListN.{length, take, drop}
@@ -10,12 +11,13 @@ use lib.Seq.{take-take}
 use Rattle.isdb_tlv.specs.Bytes.{be}
 use Rattle.isdb_tlv.proofs.Guards.{either}
 use Rattle.isdb_tlv.proofs.Numbers.{be-take}
-use Rattle.isdb_mmt.specs.Timestamp.{isSome}
+use Rattle.isdb_tlv.specs.Walk.{Next, stop, more, turn, run, also}
+use Rattle.isdb_mmt.specs.Maps.{isSome}
 use Rattle.isdb_mmt.specs.Location.{locationOf}
 use Rattle.isdb_mmt.specs.Section.{length12, entriesFrom}
-use Rattle.isdb_mmt.specs.Mpt.{withLocation, locationsOf, assetAt, assetThen, assetsFrom, mptOf}
-use Rattle.isdb_mmt.specs.Plt.{packageAt, withPackage, packagesOf, deliveryAt, deliveryThen, alsoDelivery, deliveriesFrom, pltOf}
-use Rattle.isdb_mmt.specs.Amt.{serviceAt, serviceThen, alsoService, servicesFrom, amtOf}
+use Rattle.isdb_mmt.specs.Mpt.{locationItem, locationsOf, assetAt, assetItem, assetsFrom, mptOf}
+use Rattle.isdb_mmt.specs.Plt.{packageAt, packageItem, packagesOf, deliveryAt, deliveryItem, deliveriesFrom, pltOf}
+use Rattle.isdb_mmt.specs.Amt.{serviceAt, serviceItem, servicesFrom, amtOf}
 use Rattle.isdb_mmt.specs.Eit.{eventOf, eventsOf, eitOf}
 use Rattle.isdb_mmt.specs.Sdt.{serviceOf, servicesOf, sdtOf}
 use Rattle.isdb_mmt.specs.Bit.{broadcasterOf, broadcastersOf, bitOf}
@@ -24,7 +26,7 @@ use Rattle.isdb_mmt.specs.Tot.{totOf}
 use Rattle.isdb_mmt.specs.Desc.{splitOf}
 use Rattle.isdb_mmt.specs.StdB60.{loopSent, descriptorIn}
 use Rattle.isdb_mmt.specs.Kept.{declaredTable, declaredSection, bodyRead, mptParses, pltParses, totParses, eitBodyOk, sdtBodyOk, bitBodyOk, nitBodyOk, amtBodyOk}
-use Rattle.isdb_mmt.specs.Steps.{Found, countedOn, counted, toEnd}
+use Rattle.isdb_mmt.specs.Steps.{Stood, atEnd, malformed, element, Found, required, counted, toEnd}
 use Rattle.isdb_mmt.specs.WholeDescriptors.{WholeLocation, locationTold, locationSeen}
 use Rattle.isdb_mmt.specs.Whole.{wholeAsset, assetTold, assetSeen, mptTold, wholePackage, packageTold, packageSeen, deliveryTold, deliverySeen, pltTold}
 use Rattle.isdb_mmt.specs.WholeSections.{described, flowTold, flowSeen, amtTold, eventSeen, eitTold, serviceSeen, sdtTold, broadcasterSeen, bitTold, wholeStream, streamSeen, nitTold, totTold}
@@ -37,12 +39,10 @@ use Rattle.isdb_mmt.specs.declared.table.mpt.MaybeMpt.{MaybeMpt}
 use Rattle.isdb_mmt.specs.declared.table.mpt.MaybeMpt.the-variants.{None as noMpt, Some as someMpt}
 use Rattle.isdb_mmt.specs.declared.table.plt.PackageStep.{PackageStep}
 use Rattle.isdb_mmt.specs.declared.table.plt.PackageStep.the-variants.{Malformed as noPackage, Package as onePackage}
-use Rattle.isdb_mmt.specs.declared.table.plt.IpDelivery.{IpDelivery}
 use Rattle.isdb_mmt.specs.declared.table.plt.DeliveryStep.{DeliveryStep}
 use Rattle.isdb_mmt.specs.declared.table.plt.DeliveryStep.the-variants.{Malformed as noDelivery, Delivery as delivery}
 use Rattle.isdb_mmt.specs.declared.table.plt.MaybePlt.{MaybePlt}
 use Rattle.isdb_mmt.specs.declared.table.plt.MaybePlt.the-variants.{None as noPlt, Some as somePlt}
-use Rattle.isdb_mmt.specs.declared.table.amt.AmtService.{AmtService}
 use Rattle.isdb_mmt.specs.declared.table.amt.AmtStep.{AmtStep}
 use Rattle.isdb_mmt.specs.declared.table.amt.AmtStep.the-variants.{Malformed as noFlow, Service as flow}
 use Rattle.isdb_mmt.specs.declared.table.amt.AmtResult.{AmtResult}
@@ -67,34 +67,42 @@ use Rattle.isdb_mmt.proofs.StdB60.{loops as loops-read}
 -- ---- a table that parses has a whole value
 
 mpt-outcome : (s : List ℕ) (d : MaybeMpt) → isSome (mptTold s d) ≡ mptParses d
+unfolding isSome
 mpt-outcome s noMpt = refl
 mpt-outcome s (someMpt t) = refl
 
 plt-outcome : (s : List ℕ) (d : MaybePlt) → isSome (pltTold s d) ≡ pltParses d
+unfolding isSome
 plt-outcome s noPlt = refl
 plt-outcome s (somePlt t) = refl
 
 amt-told : (s : List ℕ) (d : AmtResult) → isSome (amtTold s d) ≡ amtBodyOk d
+unfolding isSome
 amt-told s (amtErr e) = refl
 amt-told s (amtOk h t) = refl
 
 eit-told : (s : List ℕ) (d : EitResult) → isSome (eitTold s d) ≡ eitBodyOk d
+unfolding isSome
 eit-told s (eitErr e) = refl
 eit-told s (eitOk h t) = refl
 
 sdt-told : (s : List ℕ) (d : SdtResult) → isSome (sdtTold s d) ≡ sdtBodyOk d
+unfolding isSome
 sdt-told s (sdtErr e) = refl
 sdt-told s (sdtOk h t) = refl
 
 bit-told : (s : List ℕ) (d : BitResult) → isSome (bitTold s d) ≡ bitBodyOk d
+unfolding isSome
 bit-told s (bitErr e) = refl
 bit-told s (bitOk h t) = refl
 
 nit-told : (s : List ℕ) (d : NitResult) → isSome (nitTold s d) ≡ nitBodyOk d
+unfolding isSome
 nit-told s (nitErr e) = refl
 nit-told s (nitOk h t) = refl
 
 tot-outcome : (s : List ℕ) (d : TotResult) → isSome (totTold s d) ≡ totParses d
+unfolding isSome
 tot-outcome s (totErr e) = refl
 tot-outcome s (totOk t) = refl
 
@@ -140,9 +148,33 @@ cuts = record { table = table-cut; section = section-cut }
 
 -- ---- so many elements
 
+-- a list that is refused whole where one element does not stand there, beside the elements before it
+module _ {A : Type 0} where
+  abbrev refusing : Stood A → Next (Option (List A))
+  refusing atEnd = stop none
+  refusing malformed = stop none
+  refusing (element x next) = more next (also x)
+
+  module _ (step : ℕ → Stood A) (item : ℕ → Next (Option (List A))) (told : (at : ℕ) → item at ≡ refusing (step at)) where
+    abbrev items : ℕ → ℕ → Option (List A)
+    items = run item (λ p. some [])
+
+    also-whole : (x : A) (l : Found A) → ifWhole (record { found = x ∷ l .found; whole = l .whole }) ≡ also x (ifWhole l)
+    also-whole x l = either (l .whole) (λ e. rw e) (λ e. rw e)
+
+    found-on : (n : ℕ) → ((at : ℕ) → ifWhole (counted step n at) ≡ items n at) → (d : Stood A)
+        → ifWhole (turn (counted step n) (required d)) ≡ turn (items n) (refusing d)
+    found-on n h atEnd = refl
+    found-on n h malformed = refl
+    found-on n h (element x next) = also-whole x (counted step n next) ∙ ap (also x) (h next)
+
+    all-found : (n at : ℕ) → ifWhole (counted step n at) ≡ items n at
+    all-found zero at = refl
+    all-found (suc n) at = found-on n (all-found n) (step at) ∙ ap (turn (items n)) (sym (told at))
+
 module _ (s : List ℕ) where
   asset-on : (n : ℕ) → ((at : ℕ) → counted (assetSeen s) n at .found ≡ map (wholeAsset s) (assetsFrom n s at .found)) → (d : AssetStep)
-      → countedOn (counted (assetSeen s) n) (assetTold s d) .found ≡ map (wholeAsset s) (assetThen s (assetsFrom n s) d .found)
+      → turn (counted (assetSeen s) n) (required (assetTold s d)) .found ≡ map (wholeAsset s) (turn (assetsFrom n s) (assetItem s d) .found)
   asset-on n h noAsset = refl
   asset-on n h (asset a next) = ap (λ l. wholeAsset s a ∷ l) (h next)
 
@@ -151,7 +183,7 @@ module _ (s : List ℕ) where
   assets-found (suc n) at = asset-on n (assets-found n) (assetAt s at)
 
   location-on : (n : ℕ) → ((at : ℕ) → map (λ (l : WholeLocation). l .location) (counted (locationSeen s) n at .found) ≡ locationsOf n s at) → (at : ℕ) (d : Located)
-      → map (λ (l : WholeLocation). l .location) (countedOn (counted (locationSeen s) n) (locationTold s at d) .found) ≡ withLocation (locationsOf n s) at d
+      → map (λ (l : WholeLocation). l .location) (turn (counted (locationSeen s) n) (required (locationTold s at d)) .found) ≡ turn (locationsOf n s) (locationItem at d)
   location-on n h at notLocated = refl
   location-on n h at (located l taken) = ap (λ k. l ∷ k) (h (at + taken))
 
@@ -160,7 +192,7 @@ module _ (s : List ℕ) where
   locations-found (suc n) at = location-on n (locations-found n) at (locationOf (drop at s))
 
   package-on : (n : ℕ) → ((at : ℕ) → counted (packageSeen s) n at .found ≡ map (wholePackage s) (packagesOf n s at)) → (d : PackageStep)
-      → countedOn (counted (packageSeen s) n) (packageTold s d) .found ≡ map (wholePackage s) (withPackage (packagesOf n s) d)
+      → turn (counted (packageSeen s) n) (required (packageTold s d)) .found ≡ map (wholePackage s) (turn (packagesOf n s) (packageItem d))
   package-on n h noPackage = refl
   package-on n h (onePackage p next) = ap (λ l. wholePackage s p ∷ l) (h next)
 
@@ -168,29 +200,19 @@ module _ (s : List ℕ) where
   packages-found zero at = refl
   packages-found (suc n) at = package-on n (packages-found n) (packageAt s at)
 
-  delivery-also : (x : IpDelivery) (l : Found IpDelivery) → ifWhole (record { found = x ∷ l .found; whole = l .whole }) ≡ alsoDelivery x (ifWhole l)
-  delivery-also x l = either (l .whole) (λ e. rw e) (λ e. rw e)
-
-  delivery-on : (n : ℕ) → ((at : ℕ) → ifWhole (counted (deliverySeen s) n at) ≡ deliveriesFrom n s at) → (d : DeliveryStep)
-      → ifWhole (countedOn (counted (deliverySeen s) n) (deliveryTold d)) ≡ deliveryThen (deliveriesFrom n s) d
-  delivery-on n h noDelivery = refl
-  delivery-on n h (delivery x next) = delivery-also x (counted (deliverySeen s) n next) ∙ ap (alsoDelivery x) (h next)
+  delivery-told : (d : DeliveryStep) → deliveryItem d ≡ refusing (deliveryTold d)
+  delivery-told noDelivery = refl
+  delivery-told (delivery x next) = refl
 
   deliveries-found : (n at : ℕ) → ifWhole (counted (deliverySeen s) n at) ≡ deliveriesFrom n s at
-  deliveries-found zero at = refl
-  deliveries-found (suc n) at = delivery-on n (deliveries-found n) (deliveryAt s at)
+  deliveries-found = all-found (deliverySeen s) (λ p. deliveryItem (deliveryAt s p)) (λ p. delivery-told (deliveryAt s p))
 
-  flow-also : (x : AmtService) (l : Found AmtService) → ifWhole (record { found = x ∷ l .found; whole = l .whole }) ≡ alsoService x (ifWhole l)
-  flow-also x l = either (l .whole) (λ e. rw e) (λ e. rw e)
-
-  flow-on : (n : ℕ) → ((at : ℕ) → ifWhole (counted (flowSeen s) n at) ≡ servicesFrom n s at) → (d : AmtStep)
-      → ifWhole (countedOn (counted (flowSeen s) n) (flowTold d)) ≡ serviceThen (servicesFrom n s) d
-  flow-on n h noFlow = refl
-  flow-on n h (flow x next) = flow-also x (counted (flowSeen s) n next) ∙ ap (alsoService x) (h next)
+  flow-told : (d : AmtStep) → serviceItem d ≡ refusing (flowTold d)
+  flow-told noFlow = refl
+  flow-told (flow x next) = refl
 
   flows-found : (n at : ℕ) → ifWhole (counted (flowSeen s) n at) ≡ servicesFrom n s at
-  flows-found zero at = refl
-  flows-found (suc n) at = flow-on n (flows-found n) (serviceAt s at)
+  flows-found = all-found (flowSeen s) (λ p. serviceItem (serviceAt s p)) (λ p. flow-told (serviceAt s p))
 
 -- ---- to the end
 
@@ -240,6 +262,7 @@ lists =
 -- ---- a conforming sender's descriptors
 
 pub sent : SentTheorem
+unfolding isSome
 sent ds h =
     let s = loopSent ds in
     let r = loops-read ds h in

@@ -13,13 +13,13 @@ use Rattle.isdb_mmt.specs.Part.{partAt, partOf}
 use Rattle.isdb_mmt.specs.Location.{sized, urlOf, locationOf, ipv4At, ipv6At}
 use Rattle.isdb_mmt.specs.Timestamp.{mpuAt, extendedOf}
 use Rattle.isdb_mmt.specs.Desc.{stepAt, locationIn, accessControl, scrambler, streamIdentifier, serviceText, shortEvent, hevc, extendedIn, extendedTimestamp, descriptorOf}
-use Rattle.isdb_mmt.specs.Section.{length12, longSectionOf, entryAt, entriesFrom}
+use Rattle.isdb_mmt.specs.Section.{length12, longSectionOf, entriesFrom}
 use Rattle.isdb_mmt.specs.Mpt.{locationsEnd, assetFields, assetBehind, assetAt, assetsFrom, mptIn, mptAssets, mptTable, mptOf}
 use Rattle.isdb_mmt.specs.Plt.{packageIn, packageAt}
-use Rattle.isdb_mmt.specs.Eit.{eventIn, eventStep}
-use Rattle.isdb_mmt.specs.Sdt.{serviceIn, serviceStep}
-use Rattle.isdb_mmt.specs.Bit.{broadcasterIn, broadcasterStep, bitBody, bitIn, bitOf}
-use Rattle.isdb_mmt.specs.Nit.{streamsPart, streamIn, streamStep, tlvStepAt, nitBody, nitIn, nitOf}
+use Rattle.isdb_mmt.specs.Eit.{eventStep}
+use Rattle.isdb_mmt.specs.Sdt.{serviceStep}
+use Rattle.isdb_mmt.specs.Bit.{broadcasterStep, bitBody, bitOf}
+use Rattle.isdb_mmt.specs.Nit.{streamsPart, streamStep, tlvStepAt, nitBody, nitOf}
 use Rattle.isdb_mmt.specs.Tot.{totFieldsIn, totFields, totOf}
 use Rattle.isdb_mmt.specs.Kept.{declaredTable, declaredSection}
 use Rattle.isdb_mmt.specs.WholeParts.{UrlLies, LocatedLies, LocationLies, RawLies, TextsLie, UnitsLie, TlvLies, MptLies, AssetLies, PackageLies, BodyLies, EventLies, ServiceLies, BroadcasterLies, StreamLies, BitLies, NitLies, TotLies, PartsTheorem}
@@ -34,16 +34,12 @@ use Rattle.isdb_mmt.specs.declared.timestamp.MpuStep.the-variants.{End a
 use Rattle.isdb_mmt.specs.declared.desc.Step.{Step}
 use Rattle.isdb_mmt.specs.declared.desc.Step.the-variants.{End, Broken, Raw}
 use Rattle.isdb_mmt.specs.declared.table.section.SectionHeader.{SectionHeader}
-use Rattle.isdb_mmt.specs.declared.table.section.LongSection.{LongSection}
-use Rattle.isdb_mmt.specs.declared.table.section.LongSection.the-variants.{Ok as good, Err as bad}
-use Rattle.isdb_mmt.specs.declared.table.section.EntryStep.{EntryStep}
-use Rattle.isdb_mmt.specs.declared.table.section.EntryStep.the-variants.{End as noEntry, Malformed as badEntry, Entry as entry}
 use Rattle.isdb_mmt.specs.declared.maybe.MaybeUsize.{MaybeUsize}
 use Rattle.isdb_mmt.specs.declared.maybe.MaybeUsize.the-variants.{None as nowhere, Some as At}
 use Rattle.isdb_mmt.specs.declared.table.mpt.MptParsed.{MptParsed}
 use Rattle.isdb_mmt.specs.declared.table.bit.BitParsed.{BitParsed}
 use Rattle.isdb_mmt.specs.declared.table.tot.TotParsed.{TotParsed}
-use Rattle.isdb_mmt.proofs.Entries.{Inside as EntryInside, entry-inside}
+use Rattle.isdb_mmt.proofs.Entries.{section-elim, entry-elim}
 use Rattle.isdb_mmt.proofs.Descriptors.{Inside, step-inside}
 use Rattle.isdb_mmt.proofs.Timestamps.{Inside as MpuInside, mpu-inside}
 use Rattle.isdb_mmt.proofs.Walks.{cut-elim}
@@ -231,41 +227,21 @@ module _ (s : List ℕ) where
       let b = ltb-false (length s) (n + 3) e2 in
       omega arith))))
 
-  event-in : (at : ℕ) (d : EntryStep) → EntryInside s 10 at d → EventLies s (eventIn s d)
-  event-in at noEntry w = tt
-  event-in at badEntry w = tt
-  event-in at (entry e next) w = omega (arith, w .ends, w .within)
-
   events-lie : (at : ℕ) → EventLies s (eventStep s at)
   unfolding eventStep
-  events-lie at = event-in at (entryAt s 10 at) (entry-inside s 10 at)
-
-  service-in : (at : ℕ) (d : EntryStep) → EntryInside s 3 at d → ServiceLies s (serviceIn s d)
-  service-in at noEntry w = tt
-  service-in at badEntry w = tt
-  service-in at (entry e next) w = omega (arith, w .ends, w .within)
+  events-lie at = entry-elim (EventLies s) _ _ _ s 10 at tt tt (λ e next w. omega (arith, w .ends, w .within))
 
   services-lie : (at : ℕ) → ServiceLies s (serviceStep s at)
   unfolding serviceStep
-  services-lie at = service-in at (entryAt s 3 at) (entry-inside s 3 at)
-
-  broadcaster-in : (at : ℕ) (d : EntryStep) → EntryInside s 1 at d → BroadcasterLies s (broadcasterIn s d)
-  broadcaster-in at noEntry w = tt
-  broadcaster-in at badEntry w = tt
-  broadcaster-in at (entry e next) w = omega (arith, w .ends, w .within)
+  services-lie at = entry-elim (ServiceLies s) _ _ _ s 3 at tt tt (λ e next w. omega (arith, w .ends, w .within))
 
   broadcasters-lie : (at : ℕ) → BroadcasterLies s (broadcasterStep s at)
   unfolding broadcasterStep
-  broadcasters-lie at = broadcaster-in at (entryAt s 1 at) (entry-inside s 1 at)
-
-  stream-in : (at : ℕ) (d : EntryStep) → EntryInside s 4 at d → StreamLies s (streamIn s d)
-  stream-in at noEntry w = tt
-  stream-in at badEntry w = tt
-  stream-in at (entry e next) w = omega (arith, w .ends, w .within)
+  broadcasters-lie at = entry-elim (BroadcasterLies s) _ _ _ s 1 at tt tt (λ e next w. omega (arith, w .ends, w .within))
 
   streams-lie : (at : ℕ) → StreamLies s (streamStep s at)
   unfolding streamStep
-  streams-lie at = stream-in at (entryAt s 4 at) (entry-inside s 4 at)
+  streams-lie at = entry-elim (StreamLies s) _ _ _ s 4 at tt tt (λ e next w. omega (arith, w .ends, w .within))
 
   bit-body : (h : SectionHeader) → BitLies s (bitBody h (partOf s (h .body)) .result)
   unfolding bitBody
@@ -275,10 +251,6 @@ module _ (s : List ℕ) where
       cond-elim (λ (r : BitParsed). BitLies s (r .result)) (ltb (length b) 2) (λ e. tt) (λ e.
       cond-elim (λ (r : BitParsed). BitLies s (r .result)) (ltb (length b) n) (λ e1. tt) (λ e1.
       cond-elim (BitLies s) (entriesFrom b 1 n .whole) (λ w. let a = ltb-false (length b) n e1 in omega arith) (λ w. tt)))
-
-  bit-section : (d : LongSection) → BitLies s (bitIn s d .result)
-  bit-section (bad e) = tt
-  bit-section (good h) = bit-body h
 
   nit-body : (h : SectionHeader) → NitLies s (nitBody h (partOf s (h .body)))
   unfolding nitBody
@@ -293,10 +265,6 @@ module _ (s : List ℕ) where
       let c = ltb-false (length b - n) m e2 in
       cond-elim (NitLies s) (entriesFrom (partOf b (streamsPart b)) 4 0 .whole) (λ w. (omega arith, omega arith)) (λ w. tt))))
 
-  nit-section : (d : LongSection) → NitLies s (nitIn s d)
-  nit-section (bad e) = tt
-  nit-section (good h) = nit-body h
-
   tot-fields : TotLies s (totFieldsIn s .result)
   tot-fields =
       let n = length12 s 8 + 10 in
@@ -305,11 +273,11 @@ module _ (s : List ℕ) where
 
 bit-lies : (s : List ℕ) → BitLies s (bitOf s .result)
 unfolding bitOf
-bit-lies s = bit-section s (longSectionOf s)
+bit-lies s = section-elim (λ (r : BitParsed). BitLies s (r .result)) _ bitBody s (λ e. tt) (bit-body s) (longSectionOf s)
 
 nit-lies : (s : List ℕ) → NitLies s (nitOf s)
 unfolding nitOf
-nit-lies s = nit-section s (longSectionOf s)
+nit-lies s = section-elim (NitLies s) _ nitBody s (λ e. tt) (nit-body s) (longSectionOf s)
 
 tot-lies : (s : List ℕ) → TotLies (declaredSection s) (totOf s .result)
 unfolding totOf totFields

@@ -1,21 +1,18 @@
 -- AMT: ARIB STD-B60, Table 5-2.
-use Prim.Native.Nat.{ℕ, zero, suc, _+_, _-_, _*_, _/_, _%_}
-use mathlib.Core.List.{List, [], _∷_}
-use mathlib.Core.Bool.{Bool}
+use Prim.Native.Nat.{ℕ, _+_, _-_, _*_, _/_, _%_}
+use mathlib.Core.List.{List, []}
+use mathlib.Core.Bool.{Bool, not}
 use lib.ListN.{length, getD, drop}
 use Rattle.isdb_tlv.specs.Guards.{if_then_else_, _<?_, _=?_}
 use Rattle.isdb_tlv.specs.Bytes.{be}
 use mathlib.Core.Option.{Option, none, some}
-use mathlib.Core.Bool.{not}
-use Rattle.isdb_mmt.specs.Timestamp.{isSome}
-use Rattle.isdb_mmt.specs.Part.{partOf}
-use Rattle.isdb_mmt.specs.Section.{longSectionOf}
+use Rattle.isdb_tlv.specs.Walk.{Next, stop, more, run, also}
+use Rattle.isdb_mmt.specs.Maps.{isSome}
+use Rattle.isdb_mmt.specs.Section.{longSectionOf, inSection}
 use Rattle.isdb_tlv.specs.declared.ip.Address.{Address}
 use Rattle.isdb_tlv.specs.declared.ip.Address.the-variants.{V4, V6}
 use Rattle.isdb_mmt.specs.declared.table.section.SectionHeader.{SectionHeader}
 use Rattle.isdb_mmt.specs.declared.table.section.SectionError.the-variants.{Malformed}
-use Rattle.isdb_mmt.specs.declared.table.section.LongSection.{LongSection}
-use Rattle.isdb_mmt.specs.declared.table.section.LongSection.the-variants.{Ok as good, Err as bad}
 use Rattle.isdb_mmt.specs.declared.table.amt.AmtResult.{AmtResult}
 use Rattle.isdb_mmt.specs.declared.table.amt.AmtResult.the-variants.{Ok, Err}
 use Rattle.isdb_mmt.specs.declared.table.amt.AmtService.{AmtService}
@@ -55,18 +52,13 @@ serviceAt s at =
     else if loopLength s at <? addressSize (wideFlow s at) * 2 + 2 then broken
     else service (flowOf (drop (at + 4) s) (be 2 s at) (addressSize (wideFlow s at)) (wideFlow s at)) (at + 4 + loopLength s at)
 
-abbrev pub alsoService : AmtService → Option (List AmtService) → Option (List AmtService)
-alsoService x none = none
-alsoService x (some l) = some (x ∷ l)
-
-abbrev pub serviceThen : (ℕ → Option (List AmtService)) → AmtStep → Option (List AmtService)
-serviceThen go broken = none
-serviceThen go (service x next) = alsoService x (go next)
-
 -- `n` services from a place on, or none where one is not whole
+abbrev pub serviceItem : AmtStep → Next (Option (List AmtService))
+serviceItem broken = stop none
+serviceItem (service x next) = more next (also x)
+
 abbrev pub servicesFrom : ℕ → List ℕ → ℕ → Option (List AmtService)
-servicesFrom zero s at = some []
-servicesFrom (suc n) s at = serviceThen (servicesFrom n s) (serviceAt s at)
+servicesFrom n s at = run (λ p. serviceItem (serviceAt s p)) (λ p. some []) n at
 
 unfoldable pub servicesWhole : ℕ → List ℕ → ℕ → Bool
 servicesWhole n s at = isSome (servicesFrom n s at)
@@ -78,9 +70,5 @@ amtBody h s =
     else if not (servicesWhole (be 2 s 0 / 64) s 2) then Err Malformed
     else Ok h (record { services = be 2 s 0 / 64 })
 
-abbrev pub amtIn : List ℕ → LongSection → AmtResult
-amtIn s (bad e) = Err e
-amtIn s (good h) = amtBody h (partOf s (h .body))
-
 unfoldable pub amtOf : List ℕ → AmtResult
-amtOf s = amtIn s (longSectionOf s)
+amtOf s = inSection Err amtBody s (longSectionOf s)

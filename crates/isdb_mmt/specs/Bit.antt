@@ -3,16 +3,12 @@ use Prim.Native.Nat.{ℕ, _+_, _/_, _%_}
 use mathlib.Core.List.{List, map}
 use lib.ListN.{length, getD, take, drop}
 use Rattle.isdb_tlv.specs.Guards.{if_then_else_, _<?_, _=?_}
-use Rattle.isdb_mmt.specs.Part.{partAt, partOf}
-use Rattle.isdb_mmt.specs.Desc.{broken}
-use Rattle.isdb_mmt.specs.Section.{length12, longSectionOf, entryAt, Loop, entriesFrom}
+use Rattle.isdb_mmt.specs.Part.{partAt}
+use Rattle.isdb_mmt.specs.Desc.{broken, Loop}
+use Rattle.isdb_mmt.specs.Section.{length12, longSectionOf, inSection, entryAt, entryAs, entriesFrom}
 use Rattle.isdb_mmt.specs.declared.table.section.SectionHeader.{SectionHeader}
 use Rattle.isdb_mmt.specs.declared.table.section.SectionError.the-variants.{Malformed}
-use Rattle.isdb_mmt.specs.declared.table.section.LongSection.{LongSection}
-use Rattle.isdb_mmt.specs.declared.table.section.LongSection.the-variants.{Ok as good, Err as bad}
 use Rattle.isdb_mmt.specs.declared.table.section.Entry.{Entry}
-use Rattle.isdb_mmt.specs.declared.table.section.EntryStep.{EntryStep}
-use Rattle.isdb_mmt.specs.declared.table.section.EntryStep.the-variants.{End as ended, Malformed as malformed, Entry as entry}
 use Rattle.isdb_mmt.specs.declared.table.bit.Bit.{Bit}
 use Rattle.isdb_mmt.specs.declared.table.bit.BitResult.{BitResult}
 use Rattle.isdb_mmt.specs.declared.table.bit.BitResult.the-variants.{Ok, Err}
@@ -26,7 +22,7 @@ told r n = record { result = r; breaks = n }
 
 -- reserved 3 bits, broadcast view propriety 1, length of the first descriptor loop 12, that loop, then broadcasters, which
 -- are to end with the body
-abbrev pub bitFields : List ℕ → Loop → Bit
+abbrev pub bitFields : List ℕ → Loop Entry → Bit
 bitFields s l =
     record {
       «broadcast_view_propriety» = getD s 0 0 / 16 % 2 =? 1;
@@ -34,7 +30,7 @@ bitFields s l =
       broadcasters = length (l .found);
     }
 
-abbrev pub bitLoop : SectionHeader → List ℕ → Loop → BitParsed
+abbrev pub bitLoop : SectionHeader → List ℕ → Loop Entry → BitParsed
 bitLoop h s l =
     told (if l .whole then Ok h (bitFields s l) else Err Malformed) (broken (take (length12 s 0) (drop 2 s)) + l .breaks)
 
@@ -44,25 +40,16 @@ bitBody h s =
     else if length s <? length12 s 0 + 2 then told (Err Malformed) 0
     else bitLoop h s (entriesFrom s 1 (length12 s 0 + 2))
 
-abbrev pub bitIn : List ℕ → LongSection → BitParsed
-bitIn s (bad e) = told (Err e) 0
-bitIn s (good h) = bitBody h (partOf s (h .body))
-
 unfoldable pub bitOf : List ℕ → BitParsed
-bitOf s = bitIn s (longSectionOf s)
+bitOf s = inSection (λ e. told (Err e) 0) bitBody s (longSectionOf s)
 
 -- a broadcaster: id 8 bits, reserved 4, descriptors' length 12
 abbrev pub broadcasterOf : List ℕ → Entry → Broadcaster
 broadcasterOf s e = record { «broadcaster_id» = getD s (e .at) 0; descriptors = e .descriptors }
 
-abbrev pub broadcasterIn : List ℕ → EntryStep → BroadcasterStep
-broadcasterIn s ended = End
-broadcasterIn s malformed = notWhole
-broadcasterIn s (entry e next) = broadcaster (broadcasterOf s e) next
-
 -- what stands at a place of the body
 unfoldable pub broadcasterStep : List ℕ → ℕ → BroadcasterStep
-broadcasterStep s at = broadcasterIn s (entryAt s 1 at)
+broadcasterStep s at = entryAs End notWhole (λ e. broadcaster (broadcasterOf s e)) (entryAt s 1 at)
 
 -- the broadcasters of a body
 unfoldable pub broadcastersOf : List ℕ → List Broadcaster

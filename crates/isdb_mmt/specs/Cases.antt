@@ -12,7 +12,7 @@ use Rattle.isdb_tlv.specs.Bytes.{be}
 use Rattle.isdb_tlv.specs.Crc.{feed, feedByte, crcOf}
 use Rattle.isdb_tlv.specs.Tlv.{packetType}
 use Rattle.isdb_tlv.specs.Ip.{compressedOf}
-use Rattle.isdb_tlv.specs.Mmtp.{fecType, payloadType, bitsOf, entry, extensionAt, afterFixed, mmtpOf}
+use Rattle.isdb_tlv.specs.Mmtp.{fecType, payloadType, bitsOf, entry, entries, extensionAt, afterFixed, mmtpOf}
 use Rattle.isdb_tlv.specs.Si.{isTlvSi, sectionAt, sectionsFrom, sectionsOf}
 use Rattle.isdb_tlv.specs.declared.ip.IpError.the-variants.{HeaderType}
 use Rattle.isdb_tlv.specs.declared.ip.IpResult.{IpResult}
@@ -117,7 +117,7 @@ joinedIn s c =
     joined (s .counters .«orphan_fragments») (s .counters .«message_malformed») (c .reassembly .number) (joiningIn (c .reassembly .partial)) (c .mpt)
 
 unfoldable pub told : Ask → Told
-unfolding bytesOf be feed feedByte crcOf packetType compressedOf fecType payloadType bitsOf entry extensionAt afterFixed mmtpOf isTlvSi sectionAt sectionsFrom sectionsOf lengthWidth stepAt splitFrom splitOf streamIdentifier descriptorOf descriptorsOf fragmentType indicator payloadHeader unitIn unitAt unitStep unitsFrom unitsOf follows lostFrom longSectionOf entryAt entriesFrom entriesTold nitBody nitOf sdtBody sdtOf declaredLength mptAssets mptTable mptOf divisionOf paTables sectionTable contentOf tableAt tablesFrom mediaOf classify find put orElse isSome fresh gap lostBy grown continued effectOf afterUnit objectOf unitEffect afterUnits deliveredBy clear readable newMpu jumped mpuAfter rangeAfter malformedPayload afterHeaders assetAfter tagged passes mediaGives idle partBefore joinedOn partAfter wholeOf reassemblyAfter messageCompleted orphan oversize tablesOf tablesOfAll messagesOf cutOf cutOfAll bodyRead sectionOf otherVersion keepIf keep keepAll zeros tableCounted sectionIncrements tableById tableRead tableIncrements mptAfter mptAfterAll stored storedAll countedAll opened idleControl assetOf controlOf packetCounted messageCounted reassemblyCounted tablesGiven timeAfter pushed gives book nothing enteredAll entered receptionLog logEntries unitsReceived follower dropCounted inOrder missing continuedBy deliveredOf needs unitsNeed reassemblyNeeds tableArea tablesNeed pushAll giveAll heldBytes
+unfolding bytesOf be feed feedByte crcOf packetType compressedOf fecType payloadType bitsOf entry entries extensionAt afterFixed mmtpOf isTlvSi sectionAt sectionsFrom sectionsOf lengthWidth stepAt splitFrom splitOf streamIdentifier descriptorOf descriptorsOf fragmentType indicator payloadHeader unitIn unitAt unitStep unitsFrom unitsOf follows lostFrom longSectionOf entryAt entriesFrom entriesTold nitBody nitOf sdtBody sdtOf declaredLength mptAssets mptTable mptOf divisionOf paTables sectionTable contentOf tableAt tablesFrom mediaOf classify find put orElse isSome fresh gap lostBy grown continued effectOf afterUnit objectOf unitEffect afterUnits deliveredBy clear readable newMpu jumped mpuAfter rangeAfter malformedPayload afterHeaders assetAfter tagged passes mediaGives idle partBefore joinedOn partAfter wholeOf reassemblyAfter messageCompleted orphan oversize tablesOf tablesOfAll messagesOf cutOf cutOfAll bodyRead sectionOf otherVersion keepIf keep keepAll zeros tableCounted sectionIncrements tableById tableRead tableIncrements mptAfter mptAfterAll stored storedAll countedAll opened idleControl assetOf controlOf packetCounted messageCounted reassemblyCounted tablesGiven timeAfter pushed gives book nothing enteredAll entered receptionLog logEntries unitsReceived follower dropCounted inOrder missing continuedBy deliveredOf needs unitsNeed reassemblyNeeds tableArea tablesNeed pushAll giveAll heldBytes
 told (widthOf t) = width (lengthWidth t)
 told (decodedOf s) = decoded (descriptorsOf s)
 told (bodiesOf s) = bodies (map (λ r. partOf s (r .body)) (splitOf s .found))

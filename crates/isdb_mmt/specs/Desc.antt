@@ -8,8 +8,10 @@ use Rattle.isdb_tlv.specs.Guards.{if_then_else_, _<?_, _≤?_, _=?_}
 use Rattle.isdb_tlv.specs.Bytes.{be}
 use Rattle.isdb_tlv.specs.Walk.{Next, stop, more, walk}
 use Rattle.isdb_mmt.specs.Part.{partAt, partOf}
+use Rattle.isdb_mmt.specs.Tags.{mpuTimestampTag, dependencyTag, accessControlTag, scramblerTag, hevcTag, serviceListTag, streamIdentifierTag, contentTag, broadcasterNameTag, serviceTag, extendedTimestampTag, shortEventTag}
 use Rattle.isdb_mmt.specs.Location.{locationOf}
-use Rattle.isdb_mmt.specs.Timestamp.{extendedOf, isSome}
+use Rattle.isdb_mmt.specs.Maps.{isSome}
+use Rattle.isdb_mmt.specs.Timestamp.{extendedOf}
 use Rattle.isdb_mmt.specs.declared.part.Part.{Part}
 use Rattle.isdb_mmt.specs.declared.location.Located.{Located}
 use Rattle.isdb_mmt.specs.declared.location.Located.the-variants.{None as notLocated, Some as located}
@@ -29,10 +31,10 @@ use Rattle.isdb_mmt.specs.declared.desc.ServiceStep.the-variants.{End as
 use Rattle.isdb_mmt.specs.declared.desc.GenreStep.{GenreStep}
 use Rattle.isdb_mmt.specs.declared.desc.GenreStep.the-variants.{End as noGenre, Genre as genre}
 
--- the width of the length field: two bytes for 0x0002, 0x4000 to 0x6FFF and from 0xF000, four for 0x7000 to 0x7FFF, else one
+-- the width of the length field: two bytes for the dependency descriptor, 0x4000 to 0x6FFF and from 0xF000, four for 0x7000 to 0x7FFF, else one
 unfoldable pub lengthWidth : ℕ → ℕ
 lengthWidth tag =
-    if tag =? 0x0002 then 2
+    if tag =? dependencyTag then 2
     else if tag <? 0x4000 then 1
     else if tag <? 0x7000 then 2
     else if tag <? 0x8000 then 4
@@ -83,6 +85,21 @@ counted l = record { count = length (l .found); broken = isSome (l .broke) }
 abbrev pub broken : List ℕ → ℕ
 broken s = if isSome (splitOf s .broke) then 1 else 0
 
+-- elements of a table that have a descriptor loop each: those before one that is not whole, how many of their loops break, and
+-- whether all are whole
+pub record Loop (A : Type 0) : Type 0 where
+  pub found : List A
+  pub breaks : ℕ
+  pub whole : Bool
+
+abbrev pub ended : {A : Type 0} → Bool → Loop A
+ended w = record { found = []; breaks = 0; whole = w }
+
+-- one more before them, whose descriptors are a part of `s`
+abbrev pub alsoDescribed : {A : Type 0} → List ℕ → Part → A → Loop A → Loop A
+alsoDescribed s descriptors x l =
+    record { found = x ∷ l .found; breaks = broken (partOf s descriptors) + l .breaks; whole = l .whole }
+
 -- a descriptor kept as it stands: its whole body
 abbrev pub other : ℕ → List ℕ → Descriptor
 other tag s = Other tag (partAt 0 (length s))
@@ -94,46 +111,46 @@ locationIn (located l n) = someLocation l
 
 unfoldable pub accessControl : List ℕ → Descriptor
 accessControl s =
-    if length s <? 2 then other 0x8004 s
+    if length s <? 2 then other accessControlTag s
     else AccessControl (be 2 s 0) (locationIn (locationOf (drop 2 s)))
 
 -- 7.4.3.8, scrambler: layer type 2 bits, reserved 6, scramble system id 8
 unfoldable pub scrambler : List ℕ → Descriptor
 scrambler s =
-    if length s <? 2 then other 0x8005 s
+    if length s <? 2 then other scramblerTag s
     else Scrambler (getD s 0 0 / 64) (getD s 1 0)
 
 -- 7.4.3.20, stream identifier: component tag 16 bits
 unfoldable pub streamIdentifier : List ℕ → Descriptor
 streamIdentifier s =
-    if length s <? 2 then other 0x8011 s
+    if length s <? 2 then other streamIdentifierTag s
     else StreamIdentifier (be 2 s 0)
 
 -- 7.4.3.28, service: service type 8 bits, provider's and service's name, each behind a length of 8 bits
 unfoldable pub serviceText : List ℕ → Descriptor
 serviceText s =
-    if length s <? 2 then other 0x8019 s
-    else if length s <? getD s 1 0 + 3 then other 0x8019 s
-    else if length s <? getD s 1 0 + 3 + getD s (getD s 1 0 + 2) 0 then other 0x8019 s
+    if length s <? 2 then other serviceTag s
+    else if length s <? getD s 1 0 + 3 then other serviceTag s
+    else if length s <? getD s 1 0 + 3 + getD s (getD s 1 0 + 2) 0 then other serviceTag s
     else Service (getD s 0 0) (partAt 2 (getD s 1 0)) (partAt (getD s 1 0 + 3) (getD s (getD s 1 0 + 2) 0))
 
 -- 7.4.3.17, short event: language 24 bits, name behind a length of 8 bits, text behind one of 16
 unfoldable pub shortEvent : List ℕ → Descriptor
 shortEvent s =
-    if length s <? 4 then other 0xF001 s
-    else if length s <? getD s 3 0 + 6 then other 0xF001 s
-    else if length s <? getD s 3 0 + 6 + be 2 s (getD s 3 0 + 4) then other 0xF001 s
+    if length s <? 4 then other shortEventTag s
+    else if length s <? getD s 3 0 + 6 then other shortEventTag s
+    else if length s <? getD s 3 0 + 6 + be 2 s (getD s 3 0 + 4) then other shortEventTag s
     else ShortEvent (record { first = getD s 0 0; second = getD s 1 0; third = getD s 2 0 })
     (partAt 4 (getD s 3 0)) (partAt (getD s 3 0 + 6) (be 2 s (getD s 3 0 + 4)))
 
 -- 7.4.3.13, HEVC: profile space 2 bits, tier 1, profile 5, ten more bytes, level 8
 unfoldable pub hevc : List ℕ → Descriptor
 hevc s =
-    if length s <? 12 then other 0x800A s
+    if length s <? 12 then other hevcTag s
     else Hevc (getD s 0 0 % 32) (getD s 0 0 / 32 % 2 =? 1) (getD s 11 0)
 
 abbrev pub extendedIn : List ℕ → MaybeExtended → Descriptor
-extendedIn s notExtended = other 0x8026 s
+extendedIn s notExtended = other extendedTimestampTag s
 extendedIn s (extended e) = ExtendedTimestamp e
 
 unfoldable pub extendedTimestamp : List ℕ → Descriptor
@@ -142,17 +159,17 @@ extendedTimestamp s = extendedIn s (extendedOf s)
 -- a descriptor, by its tag (Table 4-10); a body too short for its structure is kept as it stands
 unfoldable pub descriptorOf : ℕ → List ℕ → Descriptor
 descriptorOf tag s =
-    if tag =? 0x0001 then MpuTimestamp
-    else if tag =? 0x8026 then extendedTimestamp s
-    else if tag =? 0x8004 then accessControl s
-    else if tag =? 0x8005 then scrambler s
-    else if tag =? 0x8011 then streamIdentifier s
-    else if tag =? 0x8019 then serviceText s
-    else if tag =? 0x800D then ServiceList
-    else if tag =? 0xF001 then shortEvent s
-    else if tag =? 0x8012 then Content
-    else if tag =? 0x800A then hevc s
-    else if tag =? 0x8018 then BroadcasterName (partAt 0 (length s))
+    if tag =? mpuTimestampTag then MpuTimestamp
+    else if tag =? extendedTimestampTag then extendedTimestamp s
+    else if tag =? accessControlTag then accessControl s
+    else if tag =? scramblerTag then scrambler s
+    else if tag =? streamIdentifierTag then streamIdentifier s
+    else if tag =? serviceTag then serviceText s
+    else if tag =? serviceListTag then ServiceList
+    else if tag =? shortEventTag then shortEvent s
+    else if tag =? contentTag then Content
+    else if tag =? hevcTag then hevc s
+    else if tag =? broadcasterNameTag then BroadcasterName (partAt 0 (length s))
     else other tag s
 
 -- the descriptors of a loop, decoded

@@ -4,15 +4,11 @@ use mathlib.Core.List.{List, map}
 use lib.ListN.{length, getD}
 use Rattle.isdb_tlv.specs.Guards.{if_then_else_, _<?_, _=?_}
 use Rattle.isdb_tlv.specs.Bytes.{be}
-use Rattle.isdb_mmt.specs.Part.{partOf}
-use Rattle.isdb_mmt.specs.Section.{longSectionOf, entryAt, Loop, entriesFrom}
+use Rattle.isdb_mmt.specs.Desc.{Loop}
+use Rattle.isdb_mmt.specs.Section.{longSectionOf, inSection, entryAt, entryAs, entriesFrom}
 use Rattle.isdb_mmt.specs.declared.table.section.SectionHeader.{SectionHeader}
 use Rattle.isdb_mmt.specs.declared.table.section.SectionError.the-variants.{Malformed}
-use Rattle.isdb_mmt.specs.declared.table.section.LongSection.{LongSection}
-use Rattle.isdb_mmt.specs.declared.table.section.LongSection.the-variants.{Ok as good, Err as bad}
 use Rattle.isdb_mmt.specs.declared.table.section.Entry.{Entry}
-use Rattle.isdb_mmt.specs.declared.table.section.EntryStep.{EntryStep}
-use Rattle.isdb_mmt.specs.declared.table.section.EntryStep.the-variants.{End as ended, Malformed as malformed, Entry as entry}
 use Rattle.isdb_mmt.specs.declared.table.eit.Eit.{Eit}
 use Rattle.isdb_mmt.specs.declared.table.eit.EitResult.{EitResult}
 use Rattle.isdb_mmt.specs.declared.table.eit.EitResult.the-variants.{Ok, Err}
@@ -25,7 +21,7 @@ abbrev pub told : EitResult → ℕ → EitParsed
 told r n = record { result = r; breaks = n }
 
 -- TLV stream id 16 bits, original network id 16, segment last section number 8, last table id 8, then events
-abbrev pub eitFields : List ℕ → Loop → Eit
+abbrev pub eitFields : List ℕ → Loop Entry → Eit
 eitFields s l =
     record {
       «tlv_stream_id» = be 2 s 0;
@@ -36,18 +32,14 @@ eitFields s l =
     }
 
 -- the events are to end with the body
-abbrev pub eitLoop : SectionHeader → List ℕ → Loop → EitParsed
+abbrev pub eitLoop : SectionHeader → List ℕ → Loop Entry → EitParsed
 eitLoop h s l = told (if l .whole then Ok h (eitFields s l) else Err Malformed) (l .breaks)
 
 unfoldable pub eitBody : SectionHeader → List ℕ → EitParsed
 eitBody h s = if length s <? 6 then told (Err Malformed) 0 else eitLoop h s (entriesFrom s 10 6)
 
-abbrev pub eitIn : List ℕ → LongSection → EitParsed
-eitIn s (bad e) = told (Err e) 0
-eitIn s (good h) = eitBody h (partOf s (h .body))
-
 unfoldable pub eitOf : List ℕ → EitParsed
-eitOf s = eitIn s (longSectionOf s)
+eitOf s = inSection (λ e. told (Err e) 0) eitBody s (longSectionOf s)
 
 -- an event: event id 16 bits, start time 40, duration 24, running status 3, free CA mode 1, descriptors' length 12
 abbrev pub eventOf : List ℕ → Entry → Event
@@ -61,14 +53,9 @@ eventOf s e =
       descriptors = e .descriptors;
     }
 
-abbrev pub eventIn : List ℕ → EntryStep → EventStep
-eventIn s ended = End
-eventIn s malformed = broken
-eventIn s (entry e next) = event (eventOf s e) next
-
 -- what stands at a place of the body
 unfoldable pub eventStep : List ℕ → ℕ → EventStep
-eventStep s at = eventIn s (entryAt s 10 at)
+eventStep s at = entryAs End broken (λ e. event (eventOf s e)) (entryAt s 10 at)
 
 -- the events of a body
 unfoldable pub eventsOf : List ℕ → List Event

@@ -7,6 +7,8 @@ use mathlib.Core.List.{List, [], _∷_}
 use lib.ListN.{length, getD, take, set}
 use Rattle.isdb_tlv.specs.Guards.{if_then_else_, _<?_, _≤?_, _=?_}
 use Rattle.isdb_tlv.specs.Bytes.{be}
+use Rattle.isdb_tlv.specs.Si.{nitActualId, nitOtherId, amtId}
+use Rattle.isdb_mmt.specs.TableIds.{mptFirstId, mptId, pltId, eitFirstId, eitLastId, bitId, sdtActualId, sdtOtherId, totId}
 use Rattle.isdb_mmt.specs.Section.{length12, longSectionOf}
 use Rattle.isdb_mmt.specs.Mpt.{mptOf}
 use Rattle.isdb_mmt.specs.Plt.{pltOf}
@@ -82,15 +84,15 @@ abbrev pub amtBodyOk : AmtResult → Bool
 amtBodyOk (amtOk h t) = true
 amtBodyOk (amtErr e) = false
 
--- the table that a section's id names: 9Dh BIT, 9Fh and A0h SDT, 40h and 41h NIT, FEh AMT, the others EIT
+-- the table that a section's id names; the others are EITs
 unfoldable pub bodyRead : ℕ → Bytes → Body
 bodyRead id b =
-    if id =? 0x9D then body (bitBodyOk (bitOf b .result)) (bitOf b .breaks)
-    else if id =? 0x9F then body (sdtBodyOk (sdtOf b .result)) (sdtOf b .breaks)
-    else if id =? 0xA0 then body (sdtBodyOk (sdtOf b .result)) (sdtOf b .breaks)
-    else if id =? 0x40 then body (nitBodyOk (nitOf b)) 0
-    else if id =? 0x41 then body (nitBodyOk (nitOf b)) 0
-    else if id =? 0xFE then body (amtBodyOk (amtOf b)) 0
+    if id =? bitId then body (bitBodyOk (bitOf b .result)) (bitOf b .breaks)
+    else if id =? sdtActualId then body (sdtBodyOk (sdtOf b .result)) (sdtOf b .breaks)
+    else if id =? sdtOtherId then body (sdtBodyOk (sdtOf b .result)) (sdtOf b .breaks)
+    else if id =? nitActualId then body (nitBodyOk (nitOf b)) 0
+    else if id =? nitOtherId then body (nitBodyOk (nitOf b)) 0
+    else if id =? amtId then body (amtBodyOk (amtOf b)) 0
     else body (eitBodyOk (eitOf b .result)) (eitOf b .breaks)
 
 abbrev pub headIsOk : LongSection → Bool
@@ -260,15 +262,15 @@ longTable b = if length b <? 7 then truncatedSection else aSection (sectionOf b)
 
 unfoldable pub tableById : ℕ → Bytes → Table
 tableById id b =
-    if id <? 0x11 then otherTable id
-    else if id ≤? 0x20 then mptTable (mptParses (mptOf b .mpt)) (mptOf b .breaks) (declaredTable b)
-    else if id =? 0x80 then pltTable (pltParses (pltOf b)) (declaredTable b)
-    else if id =? 0xA1 then totTable (totParses (totOf b .result)) (totCrcBad (totOf b .result)) (totOf b .breaks) (declaredSection b)
-    else if id <? 0x8B then otherTable id
-    else if id ≤? 0x9B then longTable b
-    else if id =? 0x9D then longTable b
-    else if id =? 0x9F then longTable b
-    else if id =? 0xA0 then longTable b
+    if id <? mptFirstId then otherTable id
+    else if id ≤? mptId then mptTable (mptParses (mptOf b .mpt)) (mptOf b .breaks) (declaredTable b)
+    else if id =? pltId then pltTable (pltParses (pltOf b)) (declaredTable b)
+    else if id =? totId then totTable (totParses (totOf b .result)) (totCrcBad (totOf b .result)) (totOf b .breaks) (declaredSection b)
+    else if id <? eitFirstId then otherTable id
+    else if id ≤? eitLastId then longTable b
+    else if id =? bitId then longTable b
+    else if id =? sdtActualId then longTable b
+    else if id =? sdtOtherId then longTable b
     else otherTable id
 
 unfoldable pub tableRead : Bytes → Table

@@ -1,5 +1,7 @@
 -- The definitions that the contracts cite.
 pub mod Part
+pub mod Tags
+pub mod TableIds
 pub mod Location
 pub mod Ntp
 pub mod Timestamp
@@ -18,7 +20,6 @@ pub mod StdB60Sections
 pub mod StdB60Tables
 pub mod Mpu
 pub mod Message
-pub mod Rows
 pub mod Steps
 pub mod WholeDescriptors
 pub mod Whole

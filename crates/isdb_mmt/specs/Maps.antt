@@ -1,4 +1,4 @@
--- Maps as lists in order of first arrival, and what a test counts for.
+-- Maps as lists in order of first arrival; options, and what a test counts for.
 use Prim.Native.Nat.{ℕ}
 use mathlib.Core.Bool.{Bool, true, false, cond}
 use mathlib.Core.Option.{Option, none, some}

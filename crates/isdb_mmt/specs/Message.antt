@@ -6,6 +6,7 @@ use lib.ListN.{length, getD}
 use Rattle.isdb_tlv.specs.Guards.{if_then_else_, _<?_, _≤?_, _=?_}
 use Rattle.isdb_tlv.specs.Bytes.{be}
 use Rattle.isdb_tlv.specs.Walk.{Next, stop, more, walk}
+use Rattle.isdb_tlv.specs.Messages.{paMessageId, m2SectionMessageId, m2ShortSectionMessageId}
 use Rattle.isdb_mmt.specs.Part.{partAt}
 use Rattle.isdb_mmt.specs.declared.part.Part.{Part}
 use Rattle.isdb_mmt.specs.declared.message.Division.{Division}
@@ -65,9 +66,9 @@ sectionTable m =
 unfoldable pub contentOf : List ℕ → Content
 contentOf m =
     if length m <? 2 then badMessage
-    else if be 2 m 0 =? 0x0000 then paTables m
-    else if be 2 m 0 <? 0x8000 then Nothing
-    else if be 2 m 0 ≤? 0x8002 then sectionTable m
+    else if be 2 m 0 =? paMessageId then paTables m
+    else if be 2 m 0 <? m2SectionMessageId then Nothing
+    else if be 2 m 0 ≤? m2ShortSectionMessageId then sectionTable m
     else Nothing
 
 -- a table of a PA message's body: id 8 bits, version 8, length 16, and so many bytes

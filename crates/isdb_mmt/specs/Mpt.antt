@@ -1,13 +1,15 @@
 -- MPT: ARIB STD-B60, Table 7-6.
-use Prim.Native.Nat.{ℕ, zero, suc, _+_, _-_, _%_}
+use Prim.Native.Nat.{ℕ, _+_, _-_, _%_}
 use mathlib.Core.List.{List, [], _∷_}
-use mathlib.Core.Bool.{Bool, true, false}
+use mathlib.Core.Bool.{true, false}
 use lib.ListN.{length, getD, take, drop}
 use Rattle.isdb_tlv.specs.Guards.{if_then_else_, _<?_, _=?_}
 use Rattle.isdb_tlv.specs.Bytes.{be}
+use Rattle.isdb_tlv.specs.Walk.{Next, stop, more, run}
+use Rattle.isdb_mmt.specs.Tags.{streamIdentifierTag}
 use Rattle.isdb_mmt.specs.Part.{partAt, partOf}
 use Rattle.isdb_mmt.specs.Location.{locationOf, packetId}
-use Rattle.isdb_mmt.specs.Desc.{broken, firstOf}
+use Rattle.isdb_mmt.specs.Desc.{broken, Loop, ended, alsoDescribed, firstOf}
 use Rattle.isdb_mmt.specs.declared.part.Part.{Part}
 use Rattle.isdb_mmt.specs.declared.maybe.MaybeU16.{MaybeU16}
 use Rattle.isdb_mmt.specs.declared.maybe.MaybeU16.the-variants.{None as noU16, Some as someU16}
@@ -37,22 +39,20 @@ declaredLength s =
     else At (be 2 s 2 + 4)
 
 -- behind `n` locations, the first of which stands at `at`
-abbrev pub behindLocation : (ℕ → MaybeUsize) → ℕ → Located → MaybeUsize
-behindLocation go at notLocated = nowhere
-behindLocation go at (located l taken) = go (at + taken)
+abbrev pub behindLocation : ℕ → Located → Next MaybeUsize
+behindLocation at notLocated = stop nowhere
+behindLocation at (located l taken) = more (at + taken) (λ end. end)
 
 abbrev pub locationsEnd : ℕ → List ℕ → ℕ → MaybeUsize
-locationsEnd zero s at = At at
-locationsEnd (suc n) s at = behindLocation (locationsEnd n s) at (locationOf (drop at s))
+locationsEnd n s at = run (λ p. behindLocation p (locationOf (drop p s))) At n at
 
 -- those locations
-abbrev pub withLocation : (ℕ → List Location) → ℕ → Located → List Location
-withLocation go at notLocated = []
-withLocation go at (located l taken) = l ∷ go (at + taken)
+abbrev pub locationItem : ℕ → Located → Next (List Location)
+locationItem at notLocated = stop []
+locationItem at (located l taken) = more (at + taken) (λ ls. l ∷ ls)
 
 abbrev pub locationsOf : ℕ → List ℕ → ℕ → List Location
-locationsOf zero s at = []
-locationsOf (suc n) s at = withLocation (locationsOf n s) at (locationOf (drop at s))
+locationsOf n s at = run (λ p. locationItem p (locationOf (drop p s))) (λ p. []) n at
 
 -- an asset at `p`: identifier type 8 bits, asset id scheme 32, asset id behind a length of 8; at `q`: asset type 32, reserved
 -- 7, clock relation flag 1, number of locations 8; at `end`, behind those: descriptors behind a length of 16
@@ -87,28 +87,15 @@ assetAt s p =
     if length s - p <? 6 then Malformed
     else assetType s p
 
--- `n` assets from a place on: those before one that is not whole; how many of their descriptor loops break; whether all are
--- whole
-pub record Loop : Type 0 where
-  pub found : List Asset
-  pub breaks : ℕ
-  pub whole : Bool
+-- `n` assets from a place on
+abbrev pub assetItem : List ℕ → AssetStep → Next (Loop Asset)
+assetItem s Malformed = stop (ended false)
+assetItem s (asset a next) = more next (alsoDescribed s (a .descriptors) a)
 
-abbrev pub ended : Bool → Loop
-ended w = record { found = []; breaks = 0; whole = w }
+abbrev pub assetsFrom : ℕ → List ℕ → ℕ → Loop Asset
+assetsFrom n s at = run (λ p. assetItem s (assetAt s p)) (λ p. ended true) n at
 
-abbrev pub alsoAsset : List ℕ → Asset → Loop → Loop
-alsoAsset s a l = record { found = a ∷ l .found; breaks = broken (partOf s (a .descriptors)) + l .breaks; whole = l .whole }
-
-abbrev pub assetThen : List ℕ → (ℕ → Loop) → AssetStep → Loop
-assetThen s go Malformed = ended false
-assetThen s go (asset a next) = alsoAsset s a (go next)
-
-abbrev pub assetsFrom : ℕ → List ℕ → ℕ → Loop
-assetsFrom zero s at = ended true
-assetsFrom (suc n) s at = assetThen s (assetsFrom n s) (assetAt s at)
-
-abbrev pub loopTold : Loop → AssetLoop
+abbrev pub loopTold : Loop Asset → AssetLoop
 loopTold l = record { whole = l .whole; breaks = l .breaks }
 
 unfoldable pub assetsTold : ℕ → List ℕ → ℕ → AssetLoop
@@ -132,7 +119,7 @@ mptFields s start n =
     }
 
 -- a descriptor loop counts as broken also where the table then fails
-abbrev pub mptLoop : List ℕ → ℕ → ℕ → Loop → MptParsed
+abbrev pub mptLoop : List ℕ → ℕ → ℕ → Loop Asset → MptParsed
 mptLoop s start n l =
     told (if l .whole then Some (mptFields s start n) else None) (broken (take n (drop start s)) + l .breaks)
 
@@ -163,13 +150,13 @@ serviceId s id =
     else someU16 (be 2 (partOf s id) (id .length - 2))
 
 -- the packet id of the first location that has one
-abbrev pub orElse : MaybeU16 → MaybeU16 → MaybeU16
-orElse noU16 x = x
-orElse (someU16 p) x = someU16 p
+abbrev pub firstKnown : MaybeU16 → MaybeU16 → MaybeU16
+firstKnown noU16 x = x
+firstKnown (someU16 p) x = someU16 p
 
 abbrev pub firstPacketId : List Location → MaybeU16
 firstPacketId [] = noU16
-firstPacketId (l ∷ ls) = orElse (packetId l) (firstPacketId ls)
+firstPacketId (l ∷ ls) = firstKnown (packetId l) (firstPacketId ls)
 
 -- the component tag of the first stream identifier descriptor
 abbrev pub tagOf : Descriptor → MaybeU16
@@ -191,4 +178,4 @@ tagIn notFound = noU16
 tagIn (found d body) = tagOf d
 
 unfoldable pub componentTag : List ℕ → MaybeU16
-componentTag s = tagIn (firstOf 0x8011 s 0)
+componentTag s = tagIn (firstOf streamIdentifierTag s 0)

@@ -1,12 +1,12 @@
 -- MPU payloads: ARIB STD-B60, 6.3.2, Tables 6-1 to 6-3; and the steps of sequence numbers.
 use Prim.Native.Nat.{ℕ, _+_, _-_, _/_, _%_, _^_, min}
-use mathlib.Core.List.{List, [], _∷_}
+use mathlib.Core.List.{List, []}
 use mathlib.Core.Bool.{Bool, true, false, not}
 use mathlib.Core.Option.{Option, none, some}
 use lib.ListN.{length, getD, take, drop}
 use Rattle.isdb_tlv.specs.Guards.{if_then_else_, _<?_, _≤?_, _=?_}
 use Rattle.isdb_tlv.specs.Bytes.{be}
-use Rattle.isdb_tlv.specs.Walk.{Next, stop, more, walk}
+use Rattle.isdb_tlv.specs.Walk.{Next, stop, more, walk, also, countOf}
 use Rattle.isdb_mmt.specs.Part.{partAt}
 use Rattle.isdb_mmt.specs.declared.maybe.MaybeU32.the-variants.{None as noU32, Some as someU32}
 use Rattle.isdb_mmt.specs.declared.mpu.FragmentType.{FragmentType}
@@ -126,10 +126,6 @@ unitStep s timed aggregated at =
     else if length s ≤? at then End
     else unitAt s timed aggregated at
 
-abbrev pub also : DataUnit → Option (List DataUnit) → Option (List DataUnit)
-also u none = none
-also u (some l) = some (u ∷ l)
-
 abbrev pub item : UnitStep → Next (Option (List DataUnit))
 item End = stop (some [])
 item Malformed = stop none
@@ -143,8 +139,7 @@ unfoldable pub unitsOf : List ℕ → Bool → Bool → Option (List DataUnit)
 unitsOf s timed aggregated = unitsFrom s timed aggregated 8
 
 unfoldable pub counted : Option (List DataUnit) → UnitCount
-counted none = notWhole
-counted (some l) = Count (length l)
+counted o = countOf notWhole Count o
 
 -- the number behind another: behind 4,294,967,295 comes 0
 unfoldable pub follows : ℕ → ℕ → Bool

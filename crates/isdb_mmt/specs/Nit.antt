@@ -1,19 +1,16 @@
 -- TLV-NIT and TLV-SI descriptors: ARIB STD-B60, Tables 5-1, 5-4, 5-6, and 5.3.
 use Prim.Native.Nat.{ℕ, zero, suc, _+_, _-_, _*_, _/_, _%_}
-use mathlib.Core.List.{List, [], _∷_, map}
+use mathlib.Core.List.{List, map}
 use lib.ListN.{length, getD}
 use Rattle.isdb_tlv.specs.Guards.{if_then_else_, _<?_, _=?_, _≠?_}
 use Rattle.isdb_tlv.specs.Bytes.{be}
-use Rattle.isdb_tlv.specs.Walk.{Next, stop, more, walk}
+use Rattle.isdb_mmt.specs.Tags.{networkNameTlvTag, serviceListTlvTag, satelliteDeliveryTlvTag}
 use Rattle.isdb_mmt.specs.Part.{partAt, partOf}
-use Rattle.isdb_mmt.specs.Section.{length12, longSectionOf, entryAt, Loop, entriesFrom}
+use Rattle.isdb_mmt.specs.Desc.{Loop}
+use Rattle.isdb_mmt.specs.Section.{length12, longSectionOf, inSection, entryAt, entryAs, entriesFrom}
 use Rattle.isdb_mmt.specs.declared.table.section.SectionHeader.{SectionHeader}
 use Rattle.isdb_mmt.specs.declared.table.section.SectionError.the-variants.{Malformed}
-use Rattle.isdb_mmt.specs.declared.table.section.LongSection.{LongSection}
-use Rattle.isdb_mmt.specs.declared.table.section.LongSection.the-variants.{Ok as good, Err as bad}
 use Rattle.isdb_mmt.specs.declared.table.section.Entry.{Entry}
-use Rattle.isdb_mmt.specs.declared.table.section.EntryStep.{EntryStep}
-use Rattle.isdb_mmt.specs.declared.table.section.EntryStep.the-variants.{End as ended, Malformed as malformed, Entry as entry}
 use Rattle.isdb_mmt.specs.declared.maybe.MaybeU64.{MaybeU64}
 use Rattle.isdb_mmt.specs.declared.maybe.MaybeU64.the-variants.{None as noU64, Some as someU64}
 use Rattle.isdb_mmt.specs.declared.part.Part.{Part}
@@ -31,7 +28,7 @@ use Rattle.isdb_mmt.specs.declared.table.nit.MaybePart.the-variants.{Non
 abbrev pub streamsPart : List ℕ → Part
 streamsPart s = partAt (length12 s 0 + 4) (length12 s (length12 s 0 + 2))
 
-abbrev pub nitLoop : SectionHeader → List ℕ → Loop → NitResult
+abbrev pub nitLoop : SectionHeader → List ℕ → Loop Entry → NitResult
 nitLoop h s l =
     if l .whole
     then Ok h (record { descriptors = partAt 2 (length12 s 0); «loop_part» = streamsPart s; streams = length (l .found) })
@@ -46,26 +43,17 @@ nitBody h s =
     else if length s - (length12 s 0 + 4) <? length12 s (length12 s 0 + 2) then Err Malformed
     else nitLoop h s (entriesFrom (partOf s (streamsPart s)) 4 0)
 
-abbrev pub nitIn : List ℕ → LongSection → NitResult
-nitIn s (bad e) = Err e
-nitIn s (good h) = nitBody h (partOf s (h .body))
-
 unfoldable pub nitOf : List ℕ → NitResult
-nitOf s = nitIn s (longSectionOf s)
+nitOf s = inSection Err nitBody s (longSectionOf s)
 
 -- a stream: TLV stream id 16 bits, original network id 16, reserved 4, descriptors' length 12
 abbrev pub streamOf : List ℕ → Entry → NitStream
 streamOf s e =
     record { «tlv_stream_id» = be 2 s (e .at); «original_network_id» = be 2 s (e .at + 2); descriptors = e .descriptors }
 
-abbrev pub streamIn : List ℕ → EntryStep → StreamStep
-streamIn s ended = End
-streamIn s malformed = broken
-streamIn s (entry e next) = stream (streamOf s e) next
-
 -- what stands at a place of the loop of streams
 unfoldable pub streamStep : List ℕ → ℕ → StreamStep
-streamStep s at = streamIn s (entryAt s 4 at)
+streamStep s at = entryAs End broken (λ e. stream (streamOf s e)) (entryAt s 4 at)
 
 -- the streams of the loop of streams
 unfoldable pub streamsOf : List ℕ → List NitStream
@@ -77,18 +65,6 @@ tlvStepAt s at =
     if length s - at <? 2 then noMore
     else if length s - (at + 2) <? getD s (at + 1) 0 then noMore
     else descriptor (getD s at 0) (partAt (at + 2) (getD s (at + 1) 0)) (at + 2 + getD s (at + 1) 0)
-
-pub record TlvDescriptor : Type 0 where
-  pub tag : ℕ
-  pub body : Part
-
-abbrev pub tlvItem : TlvStep → Next (List TlvDescriptor)
-tlvItem noMore = stop []
-tlvItem (descriptor tag body next) = more next (λ l. record { tag = tag; body = body } ∷ l)
-
--- the descriptors of a loop
-unfoldable pub tlvFrom : List ℕ → ℕ → List TlvDescriptor
-tlvFrom s at = walk (λ p. tlvItem (tlvStepAt s p)) [] (length s) at
 
 -- the digit `i` of a number in BCD, two digits a byte
 abbrev pub digit : List ℕ → ℕ → ℕ
@@ -110,7 +86,7 @@ tenfold (someU64 v) = someU64 (v * 10)
 -- Table 5-6: the frequency of a satellite delivery system descriptor, eight digits in units of 10 kHz
 unfoldable pub frequencyOf : ℕ → List ℕ → MaybeU64
 frequencyOf tag s =
-    if tag ≠? 0x43 then noU64
+    if tag ≠? satelliteDeliveryTlvTag then noU64
     else if length s <? 4 then noU64
     else tenfold (bcdFrom 8 s)
 
@@ -120,8 +96,8 @@ wholeBody wanted tag s = if tag ≠? wanted then noPart else somePart (partAt 0 
 
 -- the text of a network name descriptor
 abbrev pub networkName : ℕ → List ℕ → MaybePart
-networkName tag s = wholeBody 0x40 tag s
+networkName tag s = wholeBody networkNameTlvTag tag s
 
 -- Table 5-4: the entries of a service list descriptor, as one of MMT-SI has them
 abbrev pub serviceList : ℕ → List ℕ → MaybePart
-serviceList tag s = wholeBody 0x41 tag s
+serviceList tag s = wholeBody serviceListTlvTag tag s

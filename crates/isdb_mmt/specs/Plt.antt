@@ -1,14 +1,15 @@
 -- PLT: ARIB STD-B60, Table 7-11.
-use Prim.Native.Nat.{ℕ, zero, suc, _+_, _-_}
+use Prim.Native.Nat.{ℕ, _+_, _-_}
 use mathlib.Core.List.{List, [], _∷_}
 use mathlib.Core.Bool.{Bool, not}
 use mathlib.Core.Option.{Option, none, some}
 use lib.ListN.{length, getD, take, drop}
 use Rattle.isdb_tlv.specs.Guards.{if_then_else_, _<?_, _≤?_, _=?_, _≠?_}
 use Rattle.isdb_tlv.specs.Bytes.{be}
+use Rattle.isdb_tlv.specs.Walk.{Next, stop, more, run, also}
 use Rattle.isdb_mmt.specs.Part.{partAt}
 use Rattle.isdb_mmt.specs.Location.{locationOf}
-use Rattle.isdb_mmt.specs.Timestamp.{isSome}
+use Rattle.isdb_mmt.specs.Maps.{isSome}
 use Rattle.isdb_mmt.specs.Mpt.{declaredLength}
 use Rattle.isdb_mmt.specs.declared.location.Located.{Located}
 use Rattle.isdb_mmt.specs.declared.location.Located.the-variants.{None as notLocated, Some as located}
@@ -36,22 +37,20 @@ packageAt s at =
     else packageIn at (getD s at 0) (locationOf (drop (at + 1 + getD s at 0) s))
 
 -- behind `n` packages, the first of which stands at `at`
-abbrev pub behindPackage : (ℕ → MaybeUsize) → PackageStep → MaybeUsize
-behindPackage go noPackage = nowhere
-behindPackage go (onePackage p next) = go next
+abbrev pub behindPackage : PackageStep → Next MaybeUsize
+behindPackage noPackage = stop nowhere
+behindPackage (onePackage p next) = more next (λ end. end)
 
 abbrev pub packagesEnd : ℕ → List ℕ → ℕ → MaybeUsize
-packagesEnd zero s at = At at
-packagesEnd (suc n) s at = behindPackage (packagesEnd n s) (packageAt s at)
+packagesEnd n s at = run (λ p. behindPackage (packageAt s p)) At n at
 
 -- those packages
-abbrev pub withPackage : (ℕ → List Package) → PackageStep → List Package
-withPackage go noPackage = []
-withPackage go (onePackage p next) = p ∷ go next
+abbrev pub packageItem : PackageStep → Next (List Package)
+packageItem noPackage = stop []
+packageItem (onePackage p next) = more next (λ l. p ∷ l)
 
 abbrev pub packagesOf : ℕ → List ℕ → ℕ → List Package
-packagesOf zero s at = []
-packagesOf (suc n) s at = withPackage (packagesOf n s) (packageAt s at)
+packagesOf n s at = run (λ p. packageItem (packageAt s p)) (λ p. []) n at
 
 -- the location of an IP delivery, behind its type at the head of `s`: 10 bytes for IPv4, 34 for IPv6, a URL behind its length
 unfoldable pub deliverySize : List ℕ → MaybeUsize
@@ -75,18 +74,13 @@ deliveryAt s at =
     if length s - at <? 5 then noDelivery
     else deliveryBehind s at (deliverySize (drop (at + 4) s))
 
-abbrev pub alsoDelivery : IpDelivery → Option (List IpDelivery) → Option (List IpDelivery)
-alsoDelivery x none = none
-alsoDelivery x (some l) = some (x ∷ l)
-
-abbrev pub deliveryThen : (ℕ → Option (List IpDelivery)) → DeliveryStep → Option (List IpDelivery)
-deliveryThen go noDelivery = none
-deliveryThen go (delivery x next) = alsoDelivery x (go next)
-
 -- `n` deliveries from a place on, or none where one is not whole
+abbrev pub deliveryItem : DeliveryStep → Next (Option (List IpDelivery))
+deliveryItem noDelivery = stop none
+deliveryItem (delivery x next) = more next (also x)
+
 abbrev pub deliveriesFrom : ℕ → List ℕ → ℕ → Option (List IpDelivery)
-deliveriesFrom zero s at = some []
-deliveriesFrom (suc n) s at = deliveryThen (deliveriesFrom n s) (deliveryAt s at)
+deliveriesFrom n s at = run (λ p. deliveryItem (deliveryAt s p)) (λ p. some []) n at
 
 unfoldable pub deliveriesWhole : ℕ → List ℕ → ℕ → Bool
 deliveriesWhole n s at = isSome (deliveriesFrom n s at)

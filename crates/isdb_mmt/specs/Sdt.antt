@@ -4,15 +4,11 @@ use mathlib.Core.List.{List, map}
 use lib.ListN.{length, getD}
 use Rattle.isdb_tlv.specs.Guards.{if_then_else_, _<?_, _=?_}
 use Rattle.isdb_tlv.specs.Bytes.{be}
-use Rattle.isdb_mmt.specs.Part.{partOf}
-use Rattle.isdb_mmt.specs.Section.{longSectionOf, entryAt, Loop, entriesFrom}
+use Rattle.isdb_mmt.specs.Desc.{Loop}
+use Rattle.isdb_mmt.specs.Section.{longSectionOf, inSection, entryAt, entryAs, entriesFrom}
 use Rattle.isdb_mmt.specs.declared.table.section.SectionHeader.{SectionHeader}
 use Rattle.isdb_mmt.specs.declared.table.section.SectionError.the-variants.{Malformed}
-use Rattle.isdb_mmt.specs.declared.table.section.LongSection.{LongSection}
-use Rattle.isdb_mmt.specs.declared.table.section.LongSection.the-variants.{Ok as good, Err as bad}
 use Rattle.isdb_mmt.specs.declared.table.section.Entry.{Entry}
-use Rattle.isdb_mmt.specs.declared.table.section.EntryStep.{EntryStep}
-use Rattle.isdb_mmt.specs.declared.table.section.EntryStep.the-variants.{End as ended, Malformed as malformed, Entry as entry}
 use Rattle.isdb_mmt.specs.declared.table.sdt.SdtResult.{SdtResult}
 use Rattle.isdb_mmt.specs.declared.table.sdt.SdtResult.the-variants.{Ok, Err}
 use Rattle.isdb_mmt.specs.declared.table.sdt.SdtParsed.{SdtParsed}
@@ -25,19 +21,15 @@ told r n = record { result = r; breaks = n }
 
 -- original network id 16 bits, reserved 8, then services, which are to end with the body; the reserved byte may be missing
 -- where there are none
-abbrev pub sdtLoop : SectionHeader → List ℕ → Loop → SdtParsed
+abbrev pub sdtLoop : SectionHeader → List ℕ → Loop Entry → SdtParsed
 sdtLoop h s l =
     told (if l .whole then Ok h (record { «original_network_id» = be 2 s 0; services = length (l .found) }) else Err Malformed) (l .breaks)
 
 unfoldable pub sdtBody : SectionHeader → List ℕ → SdtParsed
 sdtBody h s = if length s <? 2 then told (Err Malformed) 0 else sdtLoop h s (entriesFrom s 3 3)
 
-abbrev pub sdtIn : List ℕ → LongSection → SdtParsed
-sdtIn s (bad e) = told (Err e) 0
-sdtIn s (good h) = sdtBody h (partOf s (h .body))
-
 unfoldable pub sdtOf : List ℕ → SdtParsed
-sdtOf s = sdtIn s (longSectionOf s)
+sdtOf s = inSection (λ e. told (Err e) 0) sdtBody s (longSectionOf s)
 
 -- a service: service id 16 bits, reserved 3, EIT user defined flags 3, EIT schedule flag 1, EIT present following flag 1,
 -- running status 3, free CA mode 1, descriptors' length 12
@@ -53,14 +45,9 @@ serviceOf s e =
       descriptors = e .descriptors;
     }
 
-abbrev pub serviceIn : List ℕ → EntryStep → SdtStep
-serviceIn s ended = End
-serviceIn s malformed = broken
-serviceIn s (entry e next) = service (serviceOf s e) next
-
 -- what stands at a place of the body
 unfoldable pub serviceStep : List ℕ → ℕ → SdtStep
-serviceStep s at = serviceIn s (entryAt s 3 at)
+serviceStep s at = entryAs End broken (λ e. service (serviceOf s e)) (entryAt s 3 at)
 
 -- the services of a body
 unfoldable pub servicesOf : List ℕ → List SdtService

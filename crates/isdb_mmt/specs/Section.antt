@@ -1,15 +1,16 @@
 -- The long-form section (ARIB STD-B60, 7.2.3.2; ISO/IEC 13818-1, 2.4.4.11) and the loops of entries in it.
 use Prim.Native.Nat.{ℕ, _+_, _-_, _/_, _%_}
-use mathlib.Core.List.{List, [], _∷_}
-use mathlib.Core.Bool.{Bool, true, false}
+use mathlib.Core.List.{List}
+use mathlib.Core.Bool.{true, false}
 use lib.ListN.{length, getD, take}
 use Rattle.isdb_tlv.specs.Guards.{if_then_else_, _<?_, _≤?_, _=?_, _≠?_}
 use Rattle.isdb_tlv.specs.Bytes.{be}
 use Rattle.isdb_tlv.specs.Crc.{crcOf}
 use Rattle.isdb_tlv.specs.Walk.{Next, stop, more, walk}
 use Rattle.isdb_mmt.specs.Part.{partAt, partOf}
-use Rattle.isdb_mmt.specs.Desc.{broken}
+use Rattle.isdb_mmt.specs.Desc.{Loop, ended, alsoDescribed}
 use Rattle.isdb_mmt.specs.declared.table.section.SectionHeader.{SectionHeader}
+use Rattle.isdb_mmt.specs.declared.table.section.SectionError.{SectionError}
 use Rattle.isdb_mmt.specs.declared.table.section.SectionError.the-variants.{Truncated, Crc}
 use Rattle.isdb_mmt.specs.declared.table.section.LongSection.{LongSection}
 use Rattle.isdb_mmt.specs.declared.table.section.LongSection.the-variants.{Ok, Err}
@@ -46,6 +47,11 @@ longSectionOf s =
     else if crcOf (take (length12 s 1 + 3) s) ≠? 0 then Err Crc
     else Ok (headerOf s (length12 s 1 - 9))
 
+-- what a table's body is read as, or that there is no section
+abbrev pub inSection : {R : Type 0} → (SectionError → R) → (SectionHeader → List ℕ → R) → List ℕ → LongSection → R
+inSection refused read s (Err e) = refused e
+inSection refused read s (Ok h) = read h (partOf s (h .body))
+
 -- an entry at `at`: `k` bytes of fields, a length of 12 bits, and so many bytes of descriptors
 unfoldable pub entryAt : List ℕ → ℕ → ℕ → EntryStep
 entryAt s k at =
@@ -54,25 +60,20 @@ entryAt s k at =
     else if length s - (at + k + 2) <? length12 s (at + k) then malformed
     else entry (record { at = at; descriptors = partAt (at + k + 2) (length12 s (at + k)) }) (at + k + 2 + length12 s (at + k))
 
--- the entries from a place on; how many of their descriptor loops break; whether they end with the bytes
-pub record Loop : Type 0 where
-  pub found : List Entry
-  pub breaks : ℕ
-  pub whole : Bool
+-- what a table makes of it
+abbrev pub entryAs : {R : Type 0} → R → R → (Entry → ℕ → R) → EntryStep → R
+entryAs end broken found End = end
+entryAs end broken found malformed = broken
+entryAs end broken found (entry e next) = found e next
 
-abbrev pub ended : Bool → Loop
-ended w = record { found = []; breaks = 0; whole = w }
-
-abbrev pub alsoEntry : List ℕ → Entry → Loop → Loop
-alsoEntry s e l = record { found = e ∷ l .found; breaks = broken (partOf s (e .descriptors)) + l .breaks; whole = l .whole }
-
-abbrev pub entryItem : List ℕ → EntryStep → Next Loop
+-- the entries from a place on, which are to end with the bytes
+abbrev pub entryItem : List ℕ → EntryStep → Next (Loop Entry)
 entryItem s End = stop (ended true)
 entryItem s malformed = stop (ended false)
-entryItem s (entry e next) = more next (alsoEntry s e)
+entryItem s (entry e next) = more next (alsoDescribed s (e .descriptors) e)
 
-unfoldable pub entriesFrom : List ℕ → ℕ → ℕ → Loop
+unfoldable pub entriesFrom : List ℕ → ℕ → ℕ → Loop Entry
 entriesFrom s k at = walk (λ p. entryItem s (entryAt s k p)) (ended true) (length s) at
 
-unfoldable pub entriesTold : Loop → Entries
+unfoldable pub entriesTold : Loop Entry → Entries
 entriesTold l = record { count = length (l .found); breaks = l .breaks; whole = l .whole }

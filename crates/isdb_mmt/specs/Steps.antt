@@ -1,12 +1,11 @@
 -- Walks by steps. A step tells what stands at a place of some bytes: the end, something that is not whole, or an element and the
 -- place of the next. One walk goes over so many elements, one goes on to the end.
-use Prim.Native.Nat.{ℕ, zero, suc}
+use Prim.Native.Nat.{ℕ}
 use mathlib.Core.Path.{_≡_}
 use mathlib.Core.Bool.{Bool, true, false}
 use mathlib.Core.List.{List, [], _∷_}
-use mathlib.Core.Option.{Option, none, some}
 use lib.ListN.{length}
-use Rattle.isdb_tlv.specs.Walk.{Next, stop as halt, more, walk}
+use Rattle.isdb_tlv.specs.Walk.{Next, stop as halt, more, run, walk}
 
 pub data Stood (A : Type 0) : Type 0 where
   atEnd : Stood A
@@ -25,14 +24,13 @@ abbrev pub also : {A : Type 0} → A → Found A → Found A
 also x l = record { found = x ∷ l .found; whole = l .whole }
 
 -- `n` elements from a place on
-abbrev pub countedOn : {A : Type 0} → (ℕ → Found A) → Stood A → Found A
-countedOn go atEnd = stopped false
-countedOn go malformed = stopped false
-countedOn go (element x next) = also x (go next)
+abbrev pub required : {A : Type 0} → Stood A → Next (Found A)
+required atEnd = halt (stopped false)
+required malformed = halt (stopped false)
+required (element x next) = more next (also x)
 
 abbrev pub counted : {A : Type 0} → (ℕ → Stood A) → ℕ → ℕ → Found A
-counted step zero at = stopped true
-counted step (suc n) at = countedOn (counted step n) (step at)
+counted step n at = run (λ p. required (step p)) (λ p. stopped true) n at
 
 -- the elements from a place on to the end of `n` bytes
 abbrev pub onward : {A : Type 0} → Stood A → Next (Found A)
@@ -69,26 +67,6 @@ pub record Ends {A : Type 0} (step : ℕ → Stood A) (at : ℕ) (l : List A) (l
 pub record AllOf {A : Type 0} (step : ℕ → Stood A) (n at : ℕ) (l : List A) : Type 0 where
   pub count : length l ≡ n
   pub ends : Ends step at l atEnd
-
--- the place that so many steps lead to, what stands there, and what a list has there
-abbrev pub nextOf : {A : Type 0} → ℕ → Stood A → ℕ
-nextOf at atEnd = at
-nextOf at malformed = at
-nextOf at (element x next) = next
-
-abbrev pub placeOf : {A : Type 0} → (ℕ → Stood A) → ℕ → ℕ → ℕ
-placeOf step zero at = at
-placeOf step (suc i) at = placeOf step i (nextOf at (step at))
-
-abbrev pub elementOf : {A : Type 0} → Stood A → Option A
-elementOf atEnd = none
-elementOf malformed = none
-elementOf (element x next) = some x
-
-abbrev pub nth : {A : Type 0} → List A → ℕ → Option A
-nth [] i = none
-nth (x ∷ l) zero = some x
-nth (x ∷ l) (suc i) = nth l i
 
 -- what a walk to the end comes to: the end, or something that is not whole
 abbrev pub lastOf : {A : Type 0} → Bool → Stood A

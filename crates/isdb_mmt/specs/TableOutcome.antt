@@ -5,6 +5,8 @@ use mathlib.Core.Bool.{Bool, true, false, not, _&&_}
 use mathlib.Core.List.{List, map}
 use lib.ListN.{length, getD}
 use Rattle.isdb_tlv.specs.Guards.{if_then_else_, _=?_, _<?_}
+use Rattle.isdb_tlv.specs.Si.{nitActualId, nitOtherId, amtId}
+use Rattle.isdb_mmt.specs.TableIds.{bitId, sdtActualId, sdtOtherId}
 use Rattle.isdb_mmt.specs.Packet.{Bytes}
 use Rattle.isdb_mmt.specs.Maps.{one}
 use Rattle.isdb_mmt.specs.Lent.{part, placesFrom, foundFrom}
@@ -49,12 +51,12 @@ bodyRead ok n = record { ok = ok; breaks = n }
 
 unfoldable pub bodyFrom : ℕ → SectionHeader → Bytes → BodyRead
 bodyFrom id h b =
-    if id =? 0x9D then bodyRead (bitBodyOk (bitBody h b .result)) (bitBody h b .breaks)
-    else if id =? 0x9F then bodyRead (sdtBodyOk (sdtBody h b .result)) (sdtBody h b .breaks)
-    else if id =? 0xA0 then bodyRead (sdtBodyOk (sdtBody h b .result)) (sdtBody h b .breaks)
-    else if id =? 0x40 then bodyRead (nitBodyOk (nitBody h b)) 0
-    else if id =? 0x41 then bodyRead (nitBodyOk (nitBody h b)) 0
-    else if id =? 0xFE then bodyRead (amtBodyOk (amtBody h b)) 0
+    if id =? bitId then bodyRead (bitBodyOk (bitBody h b .result)) (bitBody h b .breaks)
+    else if id =? sdtActualId then bodyRead (sdtBodyOk (sdtBody h b .result)) (sdtBody h b .breaks)
+    else if id =? sdtOtherId then bodyRead (sdtBodyOk (sdtBody h b .result)) (sdtBody h b .breaks)
+    else if id =? nitActualId then bodyRead (nitBodyOk (nitBody h b)) 0
+    else if id =? nitOtherId then bodyRead (nitBodyOk (nitBody h b)) 0
+    else if id =? amtId then bodyRead (amtBodyOk (amtBody h b)) 0
     else bodyRead (eitBodyOk (eitBody h b .result)) (eitBody h b .breaks)
 
 abbrev pub outcome : ℕ → ℕ → ℕ → ℕ → TableAction → TableOutcome

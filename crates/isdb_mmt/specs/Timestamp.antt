@@ -1,13 +1,14 @@
 -- The MPU timestamp descriptor (ARIB STD-B60, 7.4.3.5) and the MPU extended timestamp descriptor (7.4.3.35).
 use Prim.Native.Nat.{ℕ, _+_, _-_, _*_, _/_, _%_}
-use mathlib.Core.List.{List, [], _∷_}
-use mathlib.Core.Bool.{Bool, true, false, not}
+use mathlib.Core.List.{List, []}
+use mathlib.Core.Bool.{Bool, not}
 use mathlib.Core.Option.{Option, none, some}
 use lib.ListN.{length, getD}
 use Rattle.isdb_tlv.specs.Guards.{if_then_else_, _<?_, _≤?_, _=?_}
 use Rattle.isdb_tlv.specs.Bytes.{be}
-use Rattle.isdb_tlv.specs.Walk.{Next, stop, more, walk}
+use Rattle.isdb_tlv.specs.Walk.{Next, stop, more, walk, also}
 use Rattle.isdb_mmt.specs.Part.{partAt}
+use Rattle.isdb_mmt.specs.Maps.{isSome}
 use Rattle.isdb_mmt.specs.declared.maybe.MaybeU16.{MaybeU16}
 use Rattle.isdb_mmt.specs.declared.maybe.MaybeU16.the-variants.{None as noU16, Some as someU16}
 use Rattle.isdb_mmt.specs.declared.maybe.MaybeU32.{MaybeU32}
@@ -58,21 +59,13 @@ mpuAt s own at =
     (at + 8 + getD s (at + 7) 0 * unitSize own)
 
 -- the MPUs from a place on, or none where they do not end with the body
-abbrev pub alsoMpu : MpuStep → Option (List MpuStep) → Option (List MpuStep)
-alsoMpu m none = none
-alsoMpu m (some l) = some (m ∷ l)
-
 abbrev pub mpuItem : MpuStep → Next (Option (List MpuStep))
 mpuItem End = stop (some [])
 mpuItem Broken = stop none
-mpuItem (Mpu q l d n units next) = more next (alsoMpu (Mpu q l d n units next))
+mpuItem (Mpu q l d n units next) = more next (also (Mpu q l d n units next))
 
 unfoldable pub mpusFrom : List ℕ → Bool → ℕ → Option (List MpuStep)
 mpusFrom s own at = walk (λ p. mpuItem (mpuAt s own p)) none (length s) at
-
-abbrev pub isSome : {A : Type 0} → Option A → Bool
-isSome none = false
-isSome (some x) = true
 
 unfoldable pub mpusWhole : List ℕ → Bool → ℕ → Bool
 mpusWhole s own at = isSome (mpusFrom s own at)
@@ -103,11 +96,3 @@ unfoldable pub unitStep : List ℕ → Extended → ℕ → AccessUnitStep
 unitStep s e at =
     if length s - at <? unitSize (e .«own_pts_offset») then noUnit
     else accessUnit (unitAt s e at) (at + unitSize (e .«own_pts_offset»))
-
-abbrev pub unitItem : AccessUnitStep → Next (List AccessUnit)
-unitItem noUnit = stop []
-unitItem (accessUnit u next) = more next (λ l. u ∷ l)
-
--- the access units from a place on
-unfoldable pub unitsFrom : List ℕ → Extended → ℕ → List AccessUnit
-unitsFrom s e at = walk (λ p. unitItem (unitStep s e p)) [] (length s) at

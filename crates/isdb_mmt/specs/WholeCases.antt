@@ -7,6 +7,7 @@ use mathlib.Core.List.{List, [], _∷_, _++_}
 use mathlib.Core.Option.{some}
 use Rattle.isdb_tlv.specs.Bytes.{be}
 use Rattle.isdb_tlv.specs.Crc.{feed, feedByte, crcOf}
+use Rattle.isdb_mmt.specs.Maps.{isSome}
 use Rattle.isdb_mmt.specs.Part.{partAt}
 use Rattle.isdb_mmt.specs.Steps.{toEnd}
 use Rattle.isdb_mmt.specs.Location.{sized, urlOf, locationOf}
@@ -102,7 +103,7 @@ pub mpt-whole : mptValue mptBytes ≡ some (record {
     };
   } ∷ [];
 })
-unfolding mptOf declaredLength mptTable mptAssets assetAt assetFields locationOf sized urlOf toEnd stepAt lengthWidth splitOf splitFrom descriptorOf accessControl timestampAt extendedTimestamp extendedOf mpusWhole mpusFrom mpuAt unitStep be
+unfolding mptOf declaredLength mptTable mptAssets assetAt assetFields locationOf sized urlOf toEnd stepAt lengthWidth splitOf splitFrom descriptorOf accessControl timestampAt extendedTimestamp extendedOf mpusWhole mpusFrom mpuAt unitStep be isSome
 mpt-whole = refl
 
 -- service 101 with its names: provider 61h 62h, service 63h 64h

@@ -7,8 +7,10 @@ use mathlib.Core.List.{List, map}
 use mathlib.Core.Option.{Option, none, some}
 use lib.ListN.{length}
 use Rattle.isdb_tlv.specs.Guards.{if_then_else_, _=?_}
+use Rattle.isdb_tlv.specs.Si.{nitActualId, nitOtherId, amtId}
+use Rattle.isdb_mmt.specs.TableIds.{bitId, sdtActualId, sdtOtherId}
 use Rattle.isdb_mmt.specs.Part.{partOf}
-use Rattle.isdb_mmt.specs.Timestamp.{isSome}
+use Rattle.isdb_mmt.specs.Maps.{isSome}
 use Rattle.isdb_mmt.specs.Steps.{Found, counted, toEnd}
 use Rattle.isdb_mmt.specs.Section.{length12}
 use Rattle.isdb_mmt.specs.Desc.{RawDescriptor, splitOf}
@@ -32,12 +34,12 @@ use Rattle.isdb_mmt.specs.declared.table.bit.Broadcaster.{Broadcaster}
 -- a section has the whole value of the table that an id names
 abbrev pub sectionWhole : ℕ → List ℕ → Bool
 sectionWhole id b =
-    if id =? 0x9D then isSome (bitValue b)
-    else if id =? 0x9F then isSome (sdtValue b)
-    else if id =? 0xA0 then isSome (sdtValue b)
-    else if id =? 0x40 then isSome (nitValue b)
-    else if id =? 0x41 then isSome (nitValue b)
-    else if id =? 0xFE then isSome (amtValue b)
+    if id =? bitId then isSome (bitValue b)
+    else if id =? sdtActualId then isSome (sdtValue b)
+    else if id =? sdtOtherId then isSome (sdtValue b)
+    else if id =? nitActualId then isSome (nitValue b)
+    else if id =? nitOtherId then isSome (nitValue b)
+    else if id =? amtId then isSome (amtValue b)
     else isSome (eitValue b)
 
 -- what a reading asks of kept bytes before it hands them out is that they have a whole value

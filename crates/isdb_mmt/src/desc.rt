@@ -13,12 +13,14 @@ use crate::timestamp::Extended;
 use crate::timestamp::MaybeExtended;
 use isdb_tlv::bytes;
 
+pub mod tag;
+
 // The width in bytes of the length field that follows a tag.
 pub fn length_width(tag: u16) -> usize
     ensures { λ r. ⌜ r ≡ lengthWidth tag ⌝ }
 {
     match tag {
-        0x0002 => 2,
+        tag::DEPENDENCY => 2,
         0x4000..=0x6FFF => 2,
         0x7000..=0x7FFF => 4,
         0xF000..=0xFFFF => 2,
@@ -182,7 +184,7 @@ fn access_control(b: &[u8]) -> Descriptor
     ensures { λ r. ⌜ r ≡ accessControl (now (b .entry)) ⌝ }
 {
     if b.len() < 2 {
-        return kept(0x8004, b);
+        return kept(tag::ACCESS_CONTROL, b);
     }
     Descriptor::AccessControl {
         ca_system_id: bytes::get_u16(b, 0),
@@ -194,7 +196,7 @@ fn scrambler_of(b: &[u8]) -> Descriptor
     ensures { λ r. ⌜ r ≡ scrambler (now (b .entry)) ⌝ }
 {
     if b.len() < 2 {
-        return kept(0x8005, b);
+        return kept(tag::SCRAMBLER, b);
     }
     Descriptor::Scrambler {
         layer_type: bytes::get_u8(b, 0) / 64,
@@ -206,7 +208,7 @@ fn stream_identifier(b: &[u8]) -> Descriptor
     ensures { λ r. ⌜ r ≡ streamIdentifier (now (b .entry)) ⌝ }
 {
     if b.len() < 2 {
-        return kept(0x8011, b);
+        return kept(tag::STREAM_IDENTIFIER, b);
     }
     Descriptor::StreamIdentifier {
         component_tag: bytes::get_u16(b, 0),
@@ -217,16 +219,16 @@ fn service_of(b: &[u8]) -> Descriptor
     ensures { λ r. ⌜ r ≡ serviceText (now (b .entry)) ⌝ }
 {
     if b.len() < 2 {
-        return kept(0x8019, b);
+        return kept(tag::SERVICE, b);
     }
     let p = bytes::get_u8(b, 1) as usize;
     let start = p + 3;
     if b.len() < start {
-        return kept(0x8019, b);
+        return kept(tag::SERVICE, b);
     }
     let n = bytes::get_u8(b, p + 2) as usize;
     if b.len() < start + n {
-        return kept(0x8019, b);
+        return kept(tag::SERVICE, b);
     }
     Descriptor::Service {
         service_type: bytes::get_u8(b, 0),
@@ -242,16 +244,16 @@ fn short_event(b: &[u8]) -> Descriptor
     ensures { λ r. ⌜ r ≡ shortEvent (now (b .entry)) ⌝ }
 {
     if b.len() < 4 {
-        return kept(0xF001, b);
+        return kept(tag::SHORT_EVENT, b);
     }
     let n = bytes::get_u8(b, 3) as usize;
     let start = n + 6;
     if b.len() < start {
-        return kept(0xF001, b);
+        return kept(tag::SHORT_EVENT, b);
     }
     let t = bytes::get_u16(b, n + 4) as usize;
     if b.len() < start + t {
-        return kept(0xF001, b);
+        return kept(tag::SHORT_EVENT, b);
     }
     Descriptor::ShortEvent {
         language: Language {
@@ -271,7 +273,7 @@ fn hevc_of(b: &[u8]) -> Descriptor
     ensures { λ r. ⌜ r ≡ hevc (now (b .entry)) ⌝ }
 {
     if b.len() < 12 {
-        return kept(0x800A, b);
+        return kept(tag::HEVC, b);
     }
     let profile = bytes::get_u8(b, 0);
     Descriptor::Hevc {
@@ -285,7 +287,7 @@ fn extended_timestamp(b: &[u8]) -> Descriptor
     ensures { λ r. ⌜ r ≡ extendedTimestamp (now (b .entry)) ⌝ }
 {
     match timestamp::parse_extended(b) {
-        MaybeExtended::None => kept(0x8026, b),
+        MaybeExtended::None => kept(tag::MPU_EXTENDED_TIMESTAMP, b),
         MaybeExtended::Some(e) => Descriptor::ExtendedTimestamp(e),
     }
 }
@@ -296,17 +298,17 @@ impl Descriptor {
         ensures { λ r. ⌜ r ≡ descriptorOf tag (now (b .entry)) ⌝ }
     {
         match tag {
-            0x0001 => Descriptor::MpuTimestamp,
-            0x8026 => extended_timestamp(b),
-            0x8004 => access_control(b),
-            0x8005 => scrambler_of(b),
-            0x8011 => stream_identifier(b),
-            0x8019 => service_of(b),
-            0x800D => Descriptor::ServiceList,
-            0xF001 => short_event(b),
-            0x8012 => Descriptor::Content,
-            0x800A => hevc_of(b),
-            0x8018 => Descriptor::BroadcasterName(Part {
+            tag::MPU_TIMESTAMP => Descriptor::MpuTimestamp,
+            tag::MPU_EXTENDED_TIMESTAMP => extended_timestamp(b),
+            tag::ACCESS_CONTROL => access_control(b),
+            tag::SCRAMBLER => scrambler_of(b),
+            tag::STREAM_IDENTIFIER => stream_identifier(b),
+            tag::SERVICE => service_of(b),
+            tag::SERVICE_LIST => Descriptor::ServiceList,
+            tag::SHORT_EVENT => short_event(b),
+            tag::CONTENT => Descriptor::Content,
+            tag::HEVC => hevc_of(b),
+            tag::BROADCASTER_NAME => Descriptor::BroadcasterName(Part {
                 start: 0,
                 length: b.len(),
             }),

@@ -8,6 +8,7 @@ ghost use Rattle.isdb_mmt.specs.Message.{fragmentOf, prefixWidth, aggreg
 use crate::part;
 use crate::part::Part;
 use isdb_tlv::bytes;
+use isdb_tlv::mmtp;
 
 // What a control payload's first byte says.
 pub enum Division {
@@ -148,17 +149,11 @@ pub fn content_of(m: &[u8]) -> Content
     if m.len() < 2 {
         return Content::Malformed;
     }
-    let id = bytes::get_u16(m, 0);
-    if id == 0x0000 {
-        return pa_tables(m);
+    match bytes::get_u16(m, 0) {
+        mmtp::PA_MESSAGE => pa_tables(m),
+        mmtp::M2_SECTION_MESSAGE..=mmtp::M2_SHORT_SECTION_MESSAGE => section_table(m),
+        _ => Content::Nothing,
     }
-    if id < 0x8000 {
-        return Content::Nothing;
-    }
-    if id <= 0x8002 {
-        return section_table(m);
-    }
-    Content::Nothing
 }
 
 // A table of a PA message's body.

@@ -1,47 +1,36 @@
 -- The walk over a header extension's entries, by places; and that a payload starts within its packet. Assumes nothing.
-use Prim.Native.Nat.{ℕ, zero, suc, _+_, _-_, _/_, _%_, _≤_, _<_}
-use mathlib.Core.Path.{_≡_, refl, sym, ap, _∙_}
-use mathlib.Core.List.{List, [], _∷_}
-use mathlib.Core.Bool.{cond, not}
-use native.Mathlib.Nat.{add-zero}
+use Prim.Native.Nat.{ℕ, _+_, _-_, _/_, _%_, _≤_}
+use mathlib.Core.Path.{_≡_}
+use mathlib.Core.List.{List}
+use mathlib.Core.Bool.{not}
 use native.Mathlib.Omega.{arith}
 use lib.Dec.{ltb, leb, eqb}
-use lib.ListN.{length, getD, drop, length-drop}
-use lib.Seq.{drop-cons, drop-drop, getD-drop}
+use lib.ListN.{length, getD}
 use borrow.Author.Tests.{ltb-false}
 use Rattle.isdb_tlv.specs.Bytes.{be}
-use Rattle.isdb_tlv.specs.Mmtp.{bitsOf, entry, entries, extensionAt, fixedSize, afterFixed, packet, mmtpOf}
-use Rattle.isdb_tlv.specs.declared.mmtp.Scramble.the-variants.{Absent, NoByte, Bits}
+use Rattle.isdb_tlv.specs.Walk.{turn}
+use Rattle.isdb_tlv.specs.Mmtp.{entry, entries, extensionAt, fixedSize, afterFixed, packet, mmtpOf}
+use Rattle.isdb_tlv.specs.declared.mmtp.Scramble.the-variants.{Absent}
 use Rattle.isdb_tlv.specs.declared.mmtp.Extension.{Extension}
 use Rattle.isdb_tlv.specs.declared.mmtp.Extension.the-variants.{Bad, Good}
 use Rattle.isdb_tlv.specs.declared.mmtp.Parsed.{Parsed}
 use Rattle.isdb_tlv.specs.declared.mmtp.Parsed.the-variants.{None, Some}
-use Rattle.isdb_tlv.proofs.Numbers.{be-drop}
 use Rattle.isdb_tlv.proofs.Guards.{cond-elim}
+use Rattle.isdb_tlv.proofs.Walk.{Ahead, walk-at}
 
-skip : (k : ℕ) (l : List ℕ) → entries k l ≡ entries 0 (drop k l)
-skip zero l = refl
-skip (suc k) [] = refl
-skip (suc k) (x ∷ l) = skip k l
+module _ (l : List ℕ) where
+  ahead : (q : ℕ) → Ahead (length l) q (entry l q)
+  unfolding entry
+  ahead q =
+      cond-elim (Ahead (length l) q) (ltb (length l - q) 4) (λ e. tt) (λ e.
+      cond-elim (Ahead (length l) q) (eqb (be 2 l q % 32768) 1) (λ e1. tt) (λ e1.
+      cond-elim (Ahead (length l) q) (leb 128 (getD l q 0)) (λ e2. tt) (λ e2.
+      let h = ltb-false (length l - q) 4 e in omega arith)))
 
-module _ (l : List ℕ) (q : ℕ) (h : q < length l) where
-  at-entry : entries 0 (drop q l) ≡ entry (drop q l) (entries 0 (drop (q + 4 + be 2 l (q + 2)) l))
-  at-entry =
-      let m = drop (suc q) l in
-      let e = drop-cons l q 0 h in
-      let b = be-drop 2 q l 2 in
-      let k : suc q + (3 + be 2 (drop q l) 2) ≡ q + 4 + be 2 l (q + 2) = omega arith in
-      ap (entries 0) e
-      ∙ ap (λ (d : List ℕ). entry d (entries (3 + be 2 d 2) m)) (sym e)
-      ∙ ap (entry (drop q l)) (skip (3 + be 2 (drop q l) 2) m ∙ ap (entries 0) (drop-drop _ (suc q) l ∙ ap (λ (n : ℕ). drop n l) k))
-
-  -- the entry at `q`, by its place
-  pub entry-at : entries 0 (drop q l)
-      ≡ cond (ltb (length l - q) 4) Absent
-      (cond (eqb (be 2 l q % 32768) 1) (cond (ltb 4 (length l - q)) (Bits (getD l (q + 4) 0 / 8 % 4)) NoByte)
-      (cond (leb 128 (getD l q 0)) Absent (entries 0 (drop (q + 4 + be 2 l (q + 2)) l))))
-  unfolding entry bitsOf
-  entry-at = at-entry ∙ simp (length-drop, be-drop 2, getD-drop, add-zero)
+  -- the entries from a place on: the one that stands there, and those from where it leads
+  pub entry-at : (q : ℕ) → entries l q ≡ turn (entries l) (entry l q)
+  unfolding entries
+  entry-at q = walk-at (entry l) Absent (length l) ahead q
 
 abbrev Ends : List ℕ → Extension → Type 0
 Ends s Bad = Unit {0}

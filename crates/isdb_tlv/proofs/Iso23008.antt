@@ -1,6 +1,6 @@
 -- What a sender that conforms to ISO/IEC 23008-1 and ARIB STD-B60 writes is read right. Assumes nothing.
 use Prim.Native.Nat.{ℕ, _+_, _-_, _*_, _/_, _%_, _^_, _≤_, _<_}
-use mathlib.Core.Path.{_≡_, refl, sym, _∙_}
+use mathlib.Core.Path.{_≡_, refl, sym, ap, _∙_}
 use mathlib.Core.List.{List, [], _∷_, _++_, append-assoc, append-nil}
 use mathlib.Core.Bool.{cond}
 use mathlib.Core.Option.{Option, none, some}
@@ -11,8 +11,8 @@ use lib.ListN.{length, getD, drop, length-append, List·getD-append}
 use lib.Seq.{take-at, drop-at, getD-drop}
 use borrow.Author.Tests.{lt-ltb, le-ltb, le-leb, lt-leb, ne-eqb, eqb-true, leb-true, leb-false}
 use Rattle.isdb_tlv.specs.Bytes.{be}
-use Rattle.isdb_tlv.specs.Fields.{Field, field, bits, packed, written}
-use Rattle.isdb_tlv.specs.Mmtp.{fecType, payloadType, entries, extensionAt, fixedSize, afterFixed, mmtpOf}
+use Rattle.isdb_tlv.specs.Fields.{Field, field, bits, packed, bytesOf, written}
+use Rattle.isdb_tlv.specs.Mmtp.{fecType, payloadType, bitsOf, entry, entries, extensionAt, fixedSize, afterFixed, mmtpOf}
 use Rattle.isdb_tlv.specs.Iso23008.{Entry, Extension, noExtension, multiType, otherType, Mmtp, entrySent, entriesSent}
 use Rattle.isdb_tlv.specs.Iso23008.{extensionBytes, extensionSent, extensionFlag, counterSent, counterFlag, header, front, sent}
 use Rattle.isdb_tlv.specs.Iso23008.{EntryConforming, EntriesConforming, ExtensionConforming, Conforming}
@@ -43,58 +43,62 @@ module _ (a : List ℕ) (word : ℕ) (b r : List ℕ) (fits : word < 2 ^ 16) (sh
       let e : length up ≡ length a + 4 = rw (length-append, length-written (front-of word b)) in
       rw (append-assoc a, append-assoc (written (front-of word b)), ← append-assoc a) (drop-at up (b ++ r) (length a + 4) e)
 
-  end : length (a ++ extensionBytes word b) ≡ length a + 4 + length b
-  end = rw (length-append, length-append, length-written (front-of word b)) (omega arith)
+  end-is : length (a ++ extensionBytes word b) ≡ length a + 4 + length b
+  end-is = rw (length-append, length-append, length-written (front-of word b)) (omega arith)
 
   whole : length (a ++ extensionBytes word b ++ r) ≡ length a + 4 + length b + length r
-  whole = rw (length-append, end)
-
-  behind : drop (length a + 4 + length b) (a ++ extensionBytes word b ++ r) ≡ r
-  behind = drop-at (a ++ extensionBytes word b) r (length a + 4 + length b) end
+  whole = rw (length-append, end-is)
 
   one-extension : extensionAt (a ++ extensionBytes word b ++ r) (length a)
-      ≡ cond (eqb word 0) (Good (entries 0 b) (length (a ++ extensionBytes word b))) (Good Absent (length (a ++ extensionBytes word b)))
+      ≡ cond (eqb word 0) (Good (entries b 0) (length (a ++ extensionBytes word b))) (Good Absent (length (a ++ extensionBytes word b)))
   unfolding extensionAt
   one-extension =
       let s = a ++ extensionBytes word b ++ r in
       rw (le-ltb (length s - length a) 4 (omega (arith, whole)), of-front 1)
       (rw (le-ltb (length s - (length a + 4)) (length b) (omega (arith, whole)), rw add-zero at (of-front 0))
-      (rw (content, take-at b r (length b) refl, ← end)))
+      (rw (content, take-at b r (length b) refl, ← end-is)))
 
--- an entry with other bytes behind it
-module _ (end : ℕ) (flag : end < 2) (e : Entry) (c : EntryConforming e) (r : List ℕ) where
+-- an entry with other bytes before and behind it
+module _ (a : List ℕ) (end : ℕ) (flag : end < 2) (e : Entry) (c : EntryConforming e) (r : List ℕ) where
   abbrev word : ℕ
   word = packed (bits 1 end ∷ bits 15 (e .type) ∷ [])
 
-  first-byte : getD (entrySent end e ++ r) 0 0 ≡ word / 256 ^ 1
-  first-byte = be-one (entrySent end e ++ r) 0 ∙ rw (append-assoc, append-assoc) (be-high 1 1 word _ (omega arith))
+  abbrev all : List ℕ
+  all = a ++ entrySent end e ++ r
 
-  last : leb 128 (getD (entrySent end e ++ r) 0 0) ≡ leb 1 end
+  first-byte : getD all (length a) 0 ≡ word / 256 ^ 1
+  first-byte =
+      be-one all (length a)
+      ∙ rw (append-assoc a, append-assoc (written (front-of word (e .content))), append-assoc (bytesOf 2 word))
+      (ap (be 1 _) (sym (add-zero (length a))) ∙ be-behind 1 a _ refl 0 ∙ be-high 1 1 word _ (omega arith))
+
+  last : leb 128 (getD all (length a) 0) ≡ leb 1 end
   last =
       either (leb 1 end)
-      (λ y. let h = leb-true 1 end y in rw y (le-leb 128 (getD (entrySent end e ++ r) 0 0) (omega (arith, first-byte))))
-      (λ n. let h = leb-false 1 end n in rw n (lt-leb 128 (getD (entrySent end e ++ r) 0 0) (omega (arith, first-byte))))
+      (λ y. let h = leb-true 1 end y in rw y (le-leb 128 (getD all (length a) 0) (omega (arith, first-byte))))
+      (λ n. let h = leb-false 1 end n in rw n (lt-leb 128 (getD all (length a) 0) (omega (arith, first-byte))))
 
-  one-entry : entries 0 (entrySent end e ++ r) ≡ scramblingBits e (cond (leb 1 end) Absent (entries 0 r))
+  one-entry : entries all (length a) ≡ scramblingBits e (cond (leb 1 end) Absent (entries all (length (a ++ entrySent end e))))
+  unfolding entry bitsOf
   one-entry =
-      let s = entrySent end e ++ r in
       let b = e .content in
       let fits : word < 2 ^ 16 = omega arith in
-      let long = whole [] word b r fits (c .short) in
-      let type : be 2 s 0 % 32768 ≡ e .type = rw (of-front [] word b r fits (c .short) 0) (omega arith) in
-      let byte : 0 < length b → getD s 4 0 ≡ getD b 0 0 =
-      λ h. sym (getD-drop 4 s 0 0) ∙ rw (content [] word b r fits (c .short)) (List·getD-append b r 0 0 h) in
-      entry-at s 0 (omega arith)
-      ∙ rw (le-ltb (length s - 0) 4 (omega arith), type, last, of-front [] word b r fits (c .short) 1, behind [] word b r fits (c .short))
+      let long = whole a word b r fits (c .short) in
+      let type : be 2 all (length a) % 32768 ≡ e .type = rw (rw add-zero at (of-front a word b r fits (c .short) 0)) (omega arith) in
+      let byte : 0 < length b → getD all (length a + 4) 0 ≡ getD b 0 0 =
+      λ h. rw add-zero at (sym (getD-drop (length a + 4) all 0 0)) ∙ rw (content a word b r fits (c .short)) (List·getD-append b r 0 0 h) in
+      entry-at all (length a)
+      ∙ rw (le-ltb (length all - length a) 4 (omega arith), type, last, of-front a word b r fits (c .short) 1, ← end-is a word b r fits (c .short))
       (either (eqb (e .type) 1)
-      (λ y. let h = c .scrambling (eqb-true (e .type) 1 y) in rw (y, lt-ltb 4 (length s - 0) (omega arith), byte h))
-      (λ n. rw n))
+      (λ y. let h = c .scrambling (eqb-true (e .type) 1 y) in rw (y, lt-ltb (length a + 4) (length all) (omega arith), byte h))
+      (λ n. rw n (either (leb 1 end) (λ y. rw y) (λ m. rw m))))
 
-all-entries : (es : List Entry) (final : Entry) → EntriesConforming es → EntryConforming final
-    → entries 0 (entriesSent es final) ≡ scramblingIn es final
-all-entries [] final h c = rw append-nil at (one-entry 1 (omega arith) final c [])
-all-entries (e ∷ es) final h c =
-    rw (all-entries es final (h .1) c) at (one-entry 0 (omega arith) e (h .0) (entriesSent es final))
+all-entries : (a : List ℕ) (es : List Entry) (final : Entry) → EntriesConforming es → EntryConforming final
+    → entries (a ++ entriesSent es final) (length a) ≡ scramblingIn es final
+all-entries a [] final h c = rw (append-nil (a ++ entrySent 1 final)) at (one-entry a 1 (omega arith) final c [])
+all-entries a (e ∷ es) final h c =
+    rw (← append-assoc a)
+    (rw (all-entries (a ++ entrySent 0 e) es final (h .1) c) at (one-entry a 0 (omega arith) e (h .0) (entriesSent es final)))
 
 -- what follows the fixed part `a`
 after : (x : Extension) → ExtensionConforming x → (a r : List ℕ) (flags : ℕ)
@@ -104,7 +108,7 @@ unfolding afterFixed
 after noExtension h a r flags e n =
     rw (e, n) (rw append-nil (rw (le-ltb (length (a ++ r)) (length a) (omega (arith, length-append a r)))))
 after (multiType es final) h a r flags e n =
-    rw (e, n) (one-extension a 0 (entriesSent es final) r (omega arith) (h .2) ∙ rw (all-entries es final (h .0) (h .1)))
+    rw (e, n) (one-extension a 0 (entriesSent es final) r (omega arith) (h .2) ∙ rw (all-entries [] es final (h .0) (h .1)))
 after (otherType type b) h a r flags e n =
     rw (e, n) (one-extension a type b r (h .1) (h .2) ∙ rw (ne-eqb type 0 (λ z. omega arith)))
 

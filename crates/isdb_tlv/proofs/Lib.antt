@@ -5,6 +5,7 @@ pub mod Table
 pub mod CrcLinear
 pub mod CrcWords
 pub mod Guards
+pub mod Walk
 pub mod Codes
 pub mod Extension
 pub mod Sections

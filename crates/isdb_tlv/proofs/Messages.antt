@@ -6,15 +6,16 @@ use mathlib.Core.Bool.{Bool, true, false, cond, not}
 use mathlib.Core.List.{List, [], _∷_, _++_}
 use mathlib.Core.Option.{Option}
 use mathlib.Core.Option as Option
-use native.Mathlib.Nat.{pow-suc, one-le-pow, div-eq-of-lt, mul-div-mul-right, zero-div, zero-add}
+use native.Mathlib.Nat.{pow-suc, one-le-pow, div-eq-of-lt, mul-div-mul-right, zero-div}
 use native.Mathlib.Omega.{arith}
 use lib.ListN.{length, take, drop, getD, length-take, length-drop}
 use lib.Dec.{ltb, leb, eqb, eqb·zero-suc, eqb·suc-zero, eqb·suc-suc}
 use lib.Bits.{bitOr, or-shr, or-mod, or-zero-r}
 use borrow.Author.Tests.{ltb-false, leb-true, eqb-true, eqb-false, eq-eqb, ne-eqb, le-leb, lt-leb, le-ltb, lt-ltb}
 use Rattle.isdb_tlv.specs.Bytes.{be, withBit}
-use Rattle.isdb_tlv.specs.Walk.{turn, Ahead, walk-at}
-use Rattle.isdb_tlv.specs.Messages.{none, wordOf, has, withWord, insert, insertAll, setOf, member, listedFrom, tableAt, walkedFrom, messageOf, behind, messageIn, prefixedAt, messageAt, messageStep, also, item, messagesFrom, counted}
+use Rattle.isdb_tlv.specs.Walk.{more, turn}
+use Rattle.isdb_tlv.proofs.Walk.{Ahead, walk-at, run-more, plus, one-more as one-more-item}
+use Rattle.isdb_tlv.specs.Messages.{none, wordOf, has, withWord, insert, insertAll, setOf, member, listedAt, listedFrom, tableAt, walkedFrom, messageOf, behind, messageIn, prefixedAt, messageAt, messageStep, item, messagesFrom}
 use Rattle.isdb_tlv.specs.declared.mmtp.TableIds.{TableIds}
 use Rattle.isdb_tlv.specs.declared.mmtp.Message.{Message}
 use Rattle.isdb_tlv.specs.declared.mmtp.MaybeMessage.{MaybeMessage}
@@ -107,8 +108,9 @@ insert-both (id ∷ a) b t = insert-both a b (insert id t)
 module _ (s : List ℕ) (at : ℕ) where
   pub listed-next : (n : ℕ) (t u : TableIds) → 0 < n → at < length s → u ≡ insert (getD s at 0) t
       → insertAll (listedFrom (n - 1) s (at + 4)) u ≡ insertAll (listedFrom n s at) t
-  listed-next zero t u hn h e = absurd (omega arith)
-  listed-next (suc n) t u hn h e = let d : suc n - 1 ≡ n = omega arith in rw (lt-leb (length s) at h, d, e)
+  listed-next n t u hn h e =
+      let d : listedAt s at ≡ more (at + 4) (λ ids. getD s at 0 ∷ ids) = rw (lt-leb (length s) at h) in
+      rw (run-more (listedAt s) (λ p. []) at n hn d, e)
 
   pub listed-end : (n : ℕ) → length s ≤ at → listedFrom n s at ≡ []
   listed-end zero h = refl
@@ -173,20 +175,7 @@ module _ (p : List ℕ) where
   unfolding messagesFrom
   messages-at at = walk-at (λ q. item (messageStep p q)) Option.none (length p) step-ahead at
 
--- k messages before these
-abbrev pub plus : ℕ → Option (List Message) → MessageCount
-plus k Option.none = refusedAll
-plus k (Option.some l) = Count (k + length l)
-
-pub plus-zero : (o : Option (List Message)) → plus 0 o ≡ counted o
-unfolding counted
-plus-zero Option.none = refl
-plus-zero (Option.some l) = rw zero-add
-
-plus-also : (k : ℕ) (m : Message) (o : Option (List Message)) → plus (k + 1) o ≡ plus k (also m o)
-plus-also k m Option.none = refl
-plus-also k m (Option.some l) = let e : k + 1 + length l ≡ k + suc (length l) = omega arith in rw e
-
+-- the turn of the loop that counts them
 pub one-more : (p : List ℕ) (at k : ℕ) {m : Message} {next : ℕ} {r : MessageCount} → messageStep p at ≡ Found m next
-    → plus k (messagesFrom p at) ≡ r → plus (k + 1) (messagesFrom p next) ≡ r
-one-more p at k {m} {next} d e = plus-also k m (messagesFrom p next) ∙ (rw (messages-at p at, d) at e)
+    → plus refusedAll Count k (messagesFrom p at) ≡ r → plus refusedAll Count (k + 1) (messagesFrom p next) ≡ r
+one-more p at k {m} {next} d e = one-more-item refusedAll Count k m (messagesFrom p next) (messages-at p at ∙ rw d) e

@@ -1,12 +1,11 @@
 -- The laws of `be` and `putBe`, each over every width. Assumes nothing.
 use Prim.Native.Nat.{ℕ, zero, suc, _+_, _-_, _*_, _/_, _%_, _^_, _≤_, _<_}
 use mathlib.Core.Path.{_≡_, refl, sym, ap, _∙_}
-use mathlib.Core.Logic.{_⊎_, inl, inr, ⊎-elim}
 use mathlib.Core.List.{List}
-use native.Mathlib.Nat.{pow-suc, pow-succ', pow-le-pow-right, div-lt-iff-lt-mul, div-add-mod', add-suc, add-zero, add-assoc, mul-assoc, div-div-eq-div-mul, mod-eq-of-lt}
+use native.Mathlib.Nat.{pow-suc, pow-succ', pow-le-pow-right, div-add-mod', add-suc, add-zero, add-assoc, mul-assoc, div-div-eq-div-mul, mod-eq-of-lt}
 use native.Mathlib.Omega.{arith}
 use lib.ListN.{getD, set, length, length-set, take, drop}
-use lib.Seq.{getD-set-same, getD-set-other, getD-drop, getD-take, set-comm}
+use lib.Seq.{getD-drop, getD-take, set-comm}
 use mir.Val.{Fits}
 use mir.Syntax.{w8}
 use Rattle.isdb_tlv.specs.Bytes.{be, putBe}
@@ -59,34 +58,6 @@ pub length-putBe : (w at v : ℕ) (l : List ℕ) → length (putBe w at v l) ≡
 unfolding putBe
 length-putBe zero at v l = refl
 length-putBe (suc w) at v l = length-set (putBe w at (v / 256) l) (at + w) (v % 256) ∙ length-putBe w at (v / 256) l
-
--- a byte outside the place that is written stays
-pub getD-putBe : (w at v i : ℕ) (l : List ℕ) → (i < at) ⊎ (at + w ≤ i) → getD (putBe w at v l) i 0 ≡ getD l i 0
-unfolding putBe
-getD-putBe zero at v i l h = refl
-getD-putBe (suc w) at v i l h =
-    getD-set-other (putBe w at (v / 256) l) (at + w) i (v % 256) 0
-    (λ e. ⊎-elim (λ a. omega arith) (λ b. omega arith) h)
-    ∙ getD-putBe w at (v / 256) i l (⊎-elim (λ a. inl (omega arith)) (λ b. inr (omega arith)) h)
-
--- read after write, at a place apart
-pub be-put-other : (w at u b v : ℕ) (l : List ℕ) → (at + w ≤ b) ⊎ (b + u ≤ at) → be w (putBe u b v l) at ≡ be w l at
-be-put-other w at u b v l h =
-    be-ext w at (putBe u b v l) l
-    (λ k d. getD-putBe u b v (at + k) l (⊎-elim (λ x. inl (omega arith)) (λ y. inr (omega arith)) h))
-
--- read after write, at the same place
-pub be-put-same : (w at v : ℕ) (l : List ℕ) → at + w ≤ length l → v < 256 ^ w → be w (putBe w at v l) at ≡ v
-unfolding be putBe
-be-put-same zero at v l h b = omega arith
-be-put-same (suc w) at v l h b =
-    let p : List ℕ = putBe w at (v / 256) l in
-    let e1 : be w (set p (at + w) (v % 256)) at ≡ be w p at =
-    be-ext w at (set p (at + w) (v % 256)) p (λ k d. getD-set-other p (at + w) (at + k) (v % 256) 0 (λ e. omega arith)) in
-    let e2 : be w p at ≡ v / 256 = be-put-same w at (v / 256) l (omega arith) (div-lt-iff-lt-mul (omega arith) .1 (rw pow-suc at b)) in
-    let e3 : getD (set p (at + w) (v % 256)) (at + w) 0 ≡ v % 256 =
-    getD-set-same p (at + w) (v % 256) 0 (omega (arith, length-putBe w at (v / 256) l)) in
-    omega (arith, div-add-mod' v 256)
 
 -- a byte behind a number may be stored before it
 pub putBe-set : (w at v j x : ℕ) (l : List ℕ) → at + w ≤ j → set (putBe w at v l) j x ≡ putBe w at v (set l j x)

@@ -8,12 +8,13 @@ use lib.Dec.{ltb, eqb}
 use lib.ListN.{length, getD, take, drop}
 use borrow.Author.Tests.{ltb-false, lt-ltb, le-ltb}
 use Rattle.isdb_tlv.specs.Crc.{crcOf}
-use Rattle.isdb_tlv.specs.Walk.{Next, turn, Ahead, walk-at}
+use Rattle.isdb_tlv.specs.Walk.{Next, turn}
 use Rattle.isdb_tlv.specs.Si.{isTlvSi, tableId, sectionLength, sectionAt, found, scanAt, sectionsFrom, sectionsOf, first, nextSection, onward}
 use Rattle.isdb_tlv.specs.declared.si.Section.{Section}
 use Rattle.isdb_tlv.specs.declared.si.MaybeSection.{MaybeSection}
 use Rattle.isdb_tlv.specs.declared.si.MaybeSection.the-variants.{None, Some}
 use Rattle.isdb_tlv.proofs.Guards.{cond-elim}
+use Rattle.isdb_tlv.proofs.Walk.{Ahead, walk-at}
 
 -- a section at `at` or behind it, whole and within the data
 pub record Lies (s : List ℕ) (at : ℕ) (x : Section) : Type 0 where

@@ -1,6 +1,6 @@
 -- The control messages of an undivided payload: their ids and the ids of the tables that they carry.
 -- ARIB STD-B32 Part 3, Figure 2 (the payload) and STD-B60, 4.2 and 7.2.3, Tables 4-6 and 4-8 (the messages).
-use Prim.Native.Nat.{ℕ, zero, suc, _+_, _-_, _*_, _/_, _%_, _^_}
+use Prim.Native.Nat.{ℕ, _+_, _-_, _*_, _/_, _%_, _^_}
 use mathlib.Core.List.{List, [], _∷_, _++_}
 use mathlib.Core.Option.{Option}
 use mathlib.Core.Option as Option
@@ -8,7 +8,7 @@ use mathlib.Core.Bool.{Bool, true, false}
 use lib.ListN.{length, take, drop, getD}
 use Rattle.isdb_tlv.specs.Guards.{if_then_else_, _<?_, _≤?_, _=?_, _≠?_}
 use Rattle.isdb_tlv.specs.Bytes.{be, withBit}
-use Rattle.isdb_tlv.specs.Walk.{Next, stop, more, walk}
+use Rattle.isdb_tlv.specs.Walk.{Next, stop, more, run, walk, also, countOf}
 use Rattle.isdb_tlv.specs.declared.mmtp.TableIds.{TableIds}
 use Rattle.isdb_tlv.specs.declared.mmtp.Message.{Message}
 use Rattle.isdb_tlv.specs.declared.mmtp.MaybeMessage.{MaybeMessage}
@@ -56,13 +56,25 @@ member x (y ∷ l) =
     if x =? y then true
     else member x l
 
+-- the messages' ids (Table 4-6); CA, 0x8001, lies between the last two
+abbrev pub paMessageId : ℕ
+paMessageId = 0x0000
+
+abbrev pub m2SectionMessageId : ℕ
+m2SectionMessageId = 0x8000
+
+abbrev pub m2ShortSectionMessageId : ℕ
+m2ShortSectionMessageId = 0x8002
+
 -- PA message: the table list has an entry of 4 bytes for each of `n` tables, its table id first; those from `at` on that
 -- are present
+abbrev pub listedAt : List ℕ → ℕ → Next (List ℕ)
+listedAt s at =
+    if length s ≤? at then stop []
+    else more (at + 4) (λ ids. getD s at 0 ∷ ids)
+
 abbrev pub listedFrom : ℕ → List ℕ → ℕ → List ℕ
-listedFrom zero s at = []
-listedFrom (suc n) s at =
-    if length s ≤? at then []
-    else getD s at 0 ∷ listedFrom n s (at + 4)
+listedFrom n s at = run (listedAt s) (λ p. []) n at
 
 -- a table: its id, a version, a length of 16 bits and so many bytes
 abbrev pub tableAt : List ℕ → ℕ → Next (List ℕ)
@@ -82,7 +94,7 @@ paTables body = listedFrom (getD body 0 0) body 1 ++ walkedFrom body (1 + 4 * ge
 abbrev pub paBody : List ℕ → MaybeMessage
 paBody body =
     if length body =? 0 then noMessage
-    else someMessage (record { id = 0; tables = setOf (paTables body) })
+    else someMessage (record { id = paMessageId; tables = setOf (paTables body) })
 
 -- PA message: id 16 bits, version 8, length 32, body, cut at the message's end
 unfoldable pub paMessage : List ℕ → MaybeMessage
@@ -99,13 +111,13 @@ sectionMessage m id =
 abbrev pub otherMessage : ℕ → MaybeMessage
 otherMessage id = someMessage (record { id = id; tables = none })
 
--- a message, by its id (Table 4-6): 0x0000 PA, 0x8000 M2 section, 0x8001 CA, 0x8002 M2 short section, others without tables
+-- a message, by its id; others than these without tables
 unfoldable pub messageOf : List ℕ → MaybeMessage
 messageOf m =
     if length m <? 2 then noMessage
-    else if be 2 m 0 =? 0x0000 then paMessage m
-    else if be 2 m 0 <? 0x8000 then otherMessage (be 2 m 0)
-    else if be 2 m 0 ≤? 0x8002 then sectionMessage m (be 2 m 0)
+    else if be 2 m 0 =? paMessageId then paMessage m
+    else if be 2 m 0 <? m2SectionMessageId then otherMessage (be 2 m 0)
+    else if be 2 m 0 ≤? m2ShortSectionMessageId then sectionMessage m (be 2 m 0)
     else otherMessage (be 2 m 0)
 
 abbrev pub behind : ℕ → MaybeMessage → MessageStep
@@ -140,10 +152,6 @@ messageStep p at =
     else if length p ≤? at then End
     else messageAt p at
 
-abbrev pub also : Message → Option (List Message) → Option (List Message)
-also m Option.none = Option.none
-also m (Option.some l) = Option.some (m ∷ l)
-
 abbrev pub item : MessageStep → Next (Option (List Message))
 item Refused = stop Option.none
 item End = stop (Option.some [])
@@ -157,5 +165,4 @@ unfoldable pub messagesOf : List ℕ → Option (List Message)
 messagesOf p = messagesFrom p 2
 
 unfoldable pub counted : Option (List Message) → MessageCount
-counted Option.none = refusedAll
-counted (Option.some l) = Count (length l)
+counted o = countOf refusedAll Count o

@@ -1,10 +1,11 @@
 -- What is read of an MMTP packet, whatever its bytes: ISO/IEC 23008-1 and ARIB STD-B60, 6.4.1.1, Tables 6-4 to 6-9.
-use Prim.Native.Nat.{ℕ, zero, suc, _+_, _-_, _/_, _%_}
-use mathlib.Core.List.{List, [], _∷_}
+use Prim.Native.Nat.{ℕ, _+_, _-_, _/_, _%_}
+use mathlib.Core.List.{List}
 use mathlib.Core.Bool.{Bool, true, false}
 use lib.ListN.{length, take, drop, getD}
 use Rattle.isdb_tlv.specs.Guards.{if_then_else_, _<?_, _≤?_, _=?_, _≠?_}
 use Rattle.isdb_tlv.specs.Bytes.{be}
+use Rattle.isdb_tlv.specs.Walk.{Next, stop, more, walk}
 use Rattle.isdb_tlv.specs.declared.mmtp.FecType.{FecType}
 use Rattle.isdb_tlv.specs.declared.mmtp.FecType.the-variants.{NotProtected, Source, Repair, Reserved as reservedFec}
 use Rattle.isdb_tlv.specs.declared.mmtp.PayloadType.{PayloadType}
@@ -49,26 +50,24 @@ payloadType c =
     else if c % 64 =? payloadCode FecRepair then FecRepair
     else Reserved (c % 64)
 
--- bits 4 and 3 of the byte behind the header of the entry at the head of `e`, whatever the entry's length says
-unfoldable pub bitsOf : List ℕ → Scramble
-bitsOf e =
-    if 4 <? length e then Bits (getD e 4 0 / 8 % 4)
+-- bits 4 and 3 of the byte behind the header of the entry at `at`, whatever the entry's length says
+unfoldable pub bitsOf : List ℕ → ℕ → Scramble
+bitsOf s at =
+    if at + 4 <? length s then Bits (getD s (at + 4) 0 / 8 % 4)
     else NoByte
 
--- the entry at the head of `e` (Tables 6-8, 6-9): a flag that says that it is the last, a type of 15 bits, a length of 16
--- bits, and so many bytes. The first of type 1, scrambling, decides; `others` is what the entries behind it give.
-unfoldable pub entry : List ℕ → Scramble → Scramble
-entry e others =
-    if length e <? 4 then Absent
-    else if be 2 e 0 % 32768 =? 1 then bitsOf e
-    else if 128 ≤? getD e 0 0 then Absent
-    else others
+-- the entry at `at` of an extension (Tables 6-8, 6-9): a flag that says that it is the last, a type of 15 bits, a length of
+-- 16 bits, and so many bytes. The first of type 1, scrambling, decides.
+unfoldable pub entry : List ℕ → ℕ → Next Scramble
+entry s at =
+    if length s - at <? 4 then stop Absent
+    else if be 2 s at % 32768 =? 1 then stop (bitsOf s at)
+    else if 128 ≤? getD s at 0 then stop Absent
+    else more (at + 4 + be 2 s (at + 2)) (λ others. others)
 
--- the entries of an extension, `k` bytes of which are still to be passed over
-abbrev pub entries : ℕ → List ℕ → Scramble
-entries k [] = Absent
-entries (suc k) (x ∷ l) = entries k l
-entries zero (x ∷ l) = entry (x ∷ l) (entries (3 + be 2 (x ∷ l) 2) l)
+-- the entries from a place on
+unfoldable pub entries : List ℕ → ℕ → Scramble
+entries s at = walk (entry s) Absent (length s) at
 
 -- scrambled: bits of 2 or 3, or an entry without its byte
 abbrev pub scrambleInfo : Scramble → Bool
@@ -86,7 +85,7 @@ unfoldable pub extensionAt : List ℕ → ℕ → Extension
 extensionAt s at =
     if length s - at <? 4 then Bad
     else if length s - (at + 4) <? be 2 s (at + 2) then Bad
-    else if be 2 s at =? 0 then Good (entries 0 (take (be 2 s (at + 2)) (drop (at + 4) s))) (at + 4 + be 2 s (at + 2))
+    else if be 2 s at =? 0 then Good (entries (take (be 2 s (at + 2)) (drop (at + 4) s)) 0) (at + 4 + be 2 s (at + 2))
     else Good Absent (at + 4 + be 2 s (at + 2))
 
 -- where the fixed part ends: a packet counter of four bytes follows the twelve where its flag is set

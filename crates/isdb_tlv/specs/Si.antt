@@ -12,12 +12,21 @@ use Rattle.isdb_tlv.specs.declared.si.Section.{Section}
 use Rattle.isdb_tlv.specs.declared.si.MaybeSection.{MaybeSection}
 use Rattle.isdb_tlv.specs.declared.si.MaybeSection.the-variants.{None, Some}
 
--- TLV-NIT of this and of another network, AMT
+-- the tables' ids (Table 4-2): TLV-NIT of this and of another network, AMT
+abbrev pub nitActualId : ℕ
+nitActualId = 0x40
+
+abbrev pub nitOtherId : ℕ
+nitOtherId = 0x41
+
+abbrev pub amtId : ℕ
+amtId = 0xFE
+
 unfoldable pub isTlvSi : ℕ → Bool
 isTlvSi t =
-    if t =? 0x40 then true
-    else if t =? 0x41 then true
-    else t =? 0xFE
+    if t =? nitActualId then true
+    else if t =? nitOtherId then true
+    else t =? amtId
 
 -- the header's fields, of a section at `i`: table id 8 bits, syntax indicator 1, reserved 3, section length 12, table id
 -- extension 16, reserved 2, version 5

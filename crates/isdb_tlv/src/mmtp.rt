@@ -133,7 +133,11 @@ pub struct Header {
     pub payload_type: PayloadType,
     pub packet_id: u16,
     pub sequence: u32,
+    // The header extension has scramble information (type 0001h of ARIB STD-B61; STD-B60, Tables 6-7 to 6-9), and that
+    // does not say that the payload is in the clear.
     pub scramble_info: bool,
+    // Bits 4 and 3 of that information's first byte: 00 in the clear, also where a scrambled stream was descrambled and
+    // kept the extension; 10 and 11 scrambled. So they are seen on air; STD-B61 is not public.
     pub scramble_control: MaybeControl,
 }
 
@@ -160,7 +164,7 @@ impl Packet {
 
 // The entries of a multi-type header extension: the first of type 1 decides.
 fn scramble_of(s: &[u8]) -> Scramble
-    ensures { λ r. ⌜ r ≡ entries 0 (now (s .entry)) ⌝ }
+    ensures { λ r. ⌜ r ≡ entries (now (s .entry)) 0 ⌝ }
 {
     let mut q: usize = 0;
     while q < s.len() {
@@ -309,6 +313,13 @@ fn insert_id(t: TableIds, id: u8) -> TableIds
     s
 }
 
+// Message ids (Table 4-6). CA, 0x8001, lies between the last two.
+pub const PA_MESSAGE: u16 = 0x0000;
+
+pub const M2_SECTION_MESSAGE: u16 = 0x8000;
+
+pub const M2_SHORT_SECTION_MESSAGE: u16 = 0x8002;
+
 // A control message: its id and the ids of the tables it carries.
 pub struct Message {
     pub id: u16,
@@ -379,7 +390,7 @@ fn pa_message(m: &[u8]) -> MaybeMessage
         return MaybeMessage::None;
     }
     MaybeMessage::Some(Message {
-        id: 0,
+        id: PA_MESSAGE,
         tables: pa_tables(body),
     })
 }
@@ -411,16 +422,11 @@ fn message_of(m: &[u8]) -> MaybeMessage
         return MaybeMessage::None;
     }
     let id = bytes::get_u16(m, 0);
-    if id == 0x0000 {
-        return pa_message(m);
+    match id {
+        PA_MESSAGE => pa_message(m),
+        M2_SECTION_MESSAGE..=M2_SHORT_SECTION_MESSAGE => section_message(m, id),
+        _ => MaybeMessage::Some(other(id)),
     }
-    if id < 0x8000 {
-        return MaybeMessage::Some(other(id));
-    }
-    if id <= 0x8002 {
-        return section_message(m, id);
-    }
-    MaybeMessage::Some(other(id))
 }
 
 // A message whose tables are not looked at.

@@ -1,5 +1,8 @@
-// TLV-SI in transmission control packets: TLV-NIT (table id 40h, 41h) and AMT (FEh), sections of the extended format with
-// a CRC (ARIB STD-B60, 5). The layout around them is not public, so they are found by their header and CRC.
+// TLV-SI in transmission control packets (type FEh): TLV-NIT (table id 40h, 41h) and AMT (FEh), sections of the extended
+// format with a CRC (ARIB STD-B32 Part 3, 3.2 and 3.10; STD-B60, 5, Tables 4-2 and 5-1).
+// What stands around a section in a control packet's data is laid down elsewhere (a notification of the ministry, ARIB
+// STD-B63), and none of it is used here: a section is found by itself. It starts wherever a known table id stands, the
+// section syntax indicator behind it is set, and the CRC over as many bytes as its length says is good.
 // Translated from si.rs of isdb-rs (Apache-2.0, see NOTICE) and changed.
 ghost use mathlib.Core.Path.{_≡_};
 ghost use Prim.Native.Nat.{_+_, _≤_, _<_};
@@ -36,13 +39,20 @@ pub enum MaybeSection {
     Some(Section),
 }
 
+// Table ids (STD-B60, Table 4-2).
+pub const NIT_ACTUAL: u8 = 0x40;
+
+pub const NIT_OTHER: u8 = 0x41;
+
+pub const AMT: u8 = 0xFE;
+
 fn is_tlv_si(id: u8) -> bool
     ensures { λ r. ⌜ r ≡ isTlvSi id ⌝ }
 {
     match id {
-        0x40 => true,
-        0x41 => true,
-        0xFE => true,
+        NIT_ACTUAL => true,
+        NIT_OTHER => true,
+        AMT => true,
         _ => false,
     }
 }
@@ -78,7 +88,8 @@ fn section_at(data: &[u8], i: usize) -> MaybeSection
     })
 }
 
-// The first section at or behind a place. To go on from one: the place behind it, offset + length.
+// The first section at or behind a place: every place is tried, since the data around sections says nothing of where they
+// start. To go on from one: the place behind it, offset + length.
 pub fn next_section(data: &[u8], at: usize) -> MaybeSection
     ensures { λ r. ⌜ r ≡ nextSection (now («data» .entry)) at ⌝ }
 {

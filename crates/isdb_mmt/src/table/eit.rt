@@ -2,9 +2,11 @@
 // Translated from table.rs of isdb-rs (Apache-2.0, see NOTICE) and changed.
 ghost use mathlib.Core.Path.{_≡_};
 ghost use Rattle.isdb_mmt.specs.Desc.{firstOf};
+ghost use Rattle.isdb_mmt.specs.Tags.{shortEventTag};
 ghost use Rattle.isdb_mmt.specs.Eit.{told, eitBody, eitOf, eventOf, eventStep};
 use crate::desc;
 use crate::desc::Found;
+use crate::desc::tag;
 use crate::part::Part;
 use crate::table::section;
 use crate::table::section::Entry;
@@ -127,7 +129,7 @@ pub fn next_event(body: &[u8], at: usize) -> EventStep
 
 // The first short event descriptor of an event's descriptors.
 pub fn short_event(descriptors: &[u8]) -> Found
-    ensures { λ r. ⌜ r ≡ firstOf 0xF001 (now (descriptors .entry)) 0 ⌝ }
+    ensures { λ r. ⌜ r ≡ firstOf shortEventTag (now (descriptors .entry)) 0 ⌝ }
 {
-    desc::first_of(descriptors, 0xF001)
+    desc::first_of(descriptors, tag::SHORT_EVENT)
 }

@@ -8,6 +8,7 @@ ghost use Rattle.isdb_mmt.specs.Mpt.{declaredLength, locationsEnd, asset
 use crate::desc;
 use crate::desc::Descriptor;
 use crate::desc::Found;
+use crate::desc::tag;
 use crate::location::Located;
 use crate::location::Location;
 use crate::maybe::MaybeU16;
@@ -294,7 +295,7 @@ impl Asset {
 pub fn component_tag(descriptors: &[u8]) -> MaybeU16
     ensures { λ r. ⌜ r ≡ componentTag (now (descriptors .entry)) ⌝ }
 {
-    match desc::first_of(descriptors, 0x8011) {
+    match desc::first_of(descriptors, tag::STREAM_IDENTIFIER) {
         Found::None => MaybeU16::None,
         Found::Some(d, _) => match d {
             Descriptor::StreamIdentifier { component_tag } => MaybeU16::Some(component_tag),

@@ -166,11 +166,18 @@ fn bcd(b: &[u8], n: u8) -> MaybeU64
     MaybeU64::Some(v)
 }
 
-// The frequency in kHz of a satellite delivery system descriptor (tag 43h): eight BCD digits, in 10 kHz.
+// TLV-SI descriptor tags (Table 4-4).
+pub const NETWORK_NAME: u8 = 0x40;
+
+pub const SERVICE_LIST: u8 = 0x41;
+
+pub const SATELLITE_DELIVERY: u8 = 0x43;
+
+// The frequency in kHz of a satellite delivery system descriptor: eight BCD digits, in 10 kHz.
 pub fn satellite_frequency_khz(tag: u8, b: &[u8]) -> MaybeU64
     ensures { λ r. ⌜ r ≡ frequencyOf tag (now (b .entry)) ⌝ }
 {
-    if tag != 0x43 {
+    if tag != SATELLITE_DELIVERY {
         return MaybeU64::None;
     }
     if b.len() < 4 {
@@ -200,16 +207,16 @@ fn whole_body(wanted: u8, tag: u8, b: &[u8]) -> MaybePart
     })
 }
 
-// The text of a network name descriptor (tag 40h).
+// The text of a network name descriptor.
 pub fn network_name(tag: u8, b: &[u8]) -> MaybePart
     ensures { λ r. ⌜ r ≡ networkName tag (now (b .entry)) ⌝ }
 {
-    whole_body(0x40, tag, b)
+    whole_body(NETWORK_NAME, tag, b)
 }
 
-// The entries of a service list descriptor (tag 41h), which desc::next_service walks.
+// The entries of a service list descriptor, which desc::next_service walks.
 pub fn service_list(tag: u8, b: &[u8]) -> MaybePart
     ensures { λ r. ⌜ r ≡ serviceList tag (now (b .entry)) ⌝ }
 {
-    whole_body(0x41, tag, b)
+    whole_body(SERVICE_LIST, tag, b)
 }

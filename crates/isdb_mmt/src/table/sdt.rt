@@ -2,9 +2,11 @@
 // Translated from table.rs of isdb-rs (Apache-2.0, see NOTICE) and changed.
 ghost use mathlib.Core.Path.{_≡_};
 ghost use Rattle.isdb_mmt.specs.Desc.{firstOf};
+ghost use Rattle.isdb_mmt.specs.Tags.{serviceTag};
 ghost use Rattle.isdb_mmt.specs.Sdt.{told, sdtBody, sdtOf, serviceOf, serviceStep};
 use crate::desc;
 use crate::desc::Found;
+use crate::desc::tag;
 use crate::part::Part;
 use crate::table::section;
 use crate::table::section::Entry;
@@ -122,7 +124,7 @@ pub fn next_service(body: &[u8], at: usize) -> SdtStep
 
 // The first service descriptor of a service's descriptors.
 pub fn service_descriptor(descriptors: &[u8]) -> Found
-    ensures { λ r. ⌜ r ≡ firstOf 0x8019 (now (descriptors .entry)) 0 ⌝ }
+    ensures { λ r. ⌜ r ≡ firstOf serviceTag (now (descriptors .entry)) 0 ⌝ }
 {
-    desc::first_of(descriptors, 0x8019)
+    desc::first_of(descriptors, tag::SERVICE)
 }

@@ -1,4 +1,5 @@
-use borrow.Author.Tests.{lt-ltb, le-ltb, le-leb, lt-leb, eq-eqb, ne-eqb}
+use borrow.Author.Tests.{lt-ltb, le-ltb, le-leb, lt-leb, ne-eqb}
+use native.Mathlib.Omega.{arith}
 use Rattle.isdb_mmt.specs.Message.{contentOf}
 use borrow.Author.Needs.{needs}
 use Rattle.isdb_mmt.proofs.message.content_of.Statement.{statement}
@@ -10,19 +11,40 @@ returns c = rw (lt-ltb _ _ (c .if1 .taken))
 
 returns-2 : tie.Need-returns-2
 unfolding contentOf
-returns-2 c = rw (le-ltb _ _ (c .before .before .before .if1 .left), ← c .before .before .get-u16 .ensures, eq-eqb _ _ (c .before .if2 .taken), c .pa-tables .ensures)
+returns-2 c = rw (le-ltb _ _ (c .before .before .before .if1 .left), ← c .before .before .get-u16 .ensures, c .before .match .keys1, c .pa-tables .ensures)
 
 returns-3 : tie.Need-returns-3
 unfolding contentOf
-returns-3 c = rw (le-ltb _ _ (c .before .before .before .if1 .left), ← c .before .before .get-u16 .ensures, ne-eqb _ _ (c .before .if2 .left), lt-ltb _ _ (c .if3 .taken))
+returns-3 c = let t = c .before .before .before .before .get-u16 .result in
+    rw (
+      le-ltb _ _ (c .before .before .before .before .before .if1 .left),
+      ← c .before .before .before .before .get-u16 .ensures,
+      ne-eqb t 0 (λ e. omega arith),
+      le-ltb t 0x8000 (omega arith),
+      le-leb t 0x8002 (omega arith),
+      c .section-table .ensures,
+    )
 
 returns-4 : tie.Need-returns-4
 unfolding contentOf
-returns-4 c = rw (le-ltb _ _ (c .before .before .before .before .before .if1 .left), ← c .before .before .before .before .get-u16 .ensures, ne-eqb _ _ (c .before .before .before .if2 .left), le-ltb _ _ (c .before .before .if3 .left), le-leb _ _ (c .before .if4 .taken), c .section-table .ensures)
+returns-4 c = let t = c .before .before .get-u16 .result in
+    rw (
+      le-ltb _ _ (c .before .before .before .if1 .left),
+      ← c .before .before .get-u16 .ensures,
+      ne-eqb t 0 (c .before .match .rest .1),
+      lt-ltb t 0x8000 (omega arith),
+    )
 
 returns-5 : tie.Need-returns-5
 unfolding contentOf
-returns-5 c = rw (le-ltb _ _ (c .before .before .before .before .if1 .left), ← c .before .before .before .get-u16 .ensures, ne-eqb _ _ (c .before .before .if2 .left), le-ltb _ _ (c .before .if3 .left), lt-leb _ _ (c .if4 .left))
+returns-5 c = let t = c .before .before .before .get-u16 .result in
+    rw (
+      le-ltb _ _ (c .before .before .before .before .if1 .left),
+      ← c .before .before .before .get-u16 .ensures,
+      ne-eqb t 0 (λ e. omega arith),
+      le-ltb t 0x8000 (omega arith),
+      lt-leb t 0x8002 (omega arith),
+    )
 
 pub content-of-spec : {M : Type 1} → statement M
 content-of-spec =
@@ -31,8 +53,8 @@ content-of-spec =
     returns
     (λ c κs. search needs)
     (λ c κs. search needs)
+    (λ c κs. search needs)
     returns-2
     returns-3
-    (λ c κs. search needs)
     returns-4
     returns-5)

@@ -5,19 +5,21 @@ use native.Mathlib.Nat.{add-zero}
 use native.Mathlib.Omega.{arith}
 use lib.ListN.{length}
 use Rattle.isdb_mmt.specs.Mpu.{unitsFrom, unitsOf, counted}
-use Rattle.isdb_mmt.proofs.Units.{unit-lies, units-at, plus, plus-zero, one-more}
+use Rattle.isdb_mmt.proofs.Units.{unit-lies, units-at, one-more}
+use Rattle.isdb_tlv.proofs.Walk.{plus, plus-zero}
+use Rattle.isdb_mmt.specs.declared.mpu.UnitCount.the-variants.{Malformed, Count}
 use Rattle.isdb_mmt.proofs.mpu.count_units.Statement.{statement}
 use Rattle.isdb_mmt.proofs.mpu.count_units.Tie as tie
 
 abbrev Inv-loop : tie.InvT-loop
-Inv-loop q timed aggregated at₀ n₀ at n = (n ≤ at) × (plus n (unitsFrom q timed aggregated at) ≡ counted (unitsOf q timed aggregated))
+Inv-loop q timed aggregated at₀ n₀ at n = (n ≤ at) × (plus Malformed Count n (unitsFrom q timed aggregated at) ≡ counted (unitsOf q timed aggregated))
 
 abbrev μ-loop : tie.MeasureT-loop
 μ-loop q timed aggregated at₀ n₀ at n = length q - at
 
 loop-holds : tie.Need-loop-holds Inv-loop μ-loop
-unfolding unitsOf
-loop-holds c = (search needs, plus-zero (unitsFrom _ _ _ 8))
+unfolding unitsOf counted
+loop-holds c = (search needs, plus-zero Malformed Count (unitsFrom _ _ _ 8))
 
 returns : tie.Need-returns Inv-loop μ-loop
 returns c = rw (units-at _ _ _ (c .before .before .before .loop .at), ← c .before .before .next-unit .ensures, c .enum-told .given .1, add-zero) at (c .before .before .before .loop .inv .1)

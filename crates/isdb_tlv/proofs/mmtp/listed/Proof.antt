@@ -16,7 +16,8 @@ returns : tie.Need-returns Inv-loop μ-loop
 returns c = rw (listed-end _ _ _ (c .if1 .taken)) at (c .before .before .loop .inv)
 
 loop-again : tie.Need-loop-again Inv-loop μ-loop
-loop-again c = listed-next _ _ _ _ _ (c .before .before .before .loop-test .taken) (c .before .before .if1 .left) (c .insert-id .ensures) ∙ c .before .before .before .before .loop .inv
+loop-again c = let l = c .before .before .before .before .loop in
+    listed-next (c .before .before .before .before .before .before .args .body .now) (l .at) (l .left) (l .t) _ (c .before .before .before .loop-test .taken) (c .before .before .if1 .left) (c .insert-id .ensures) ∙ l .inv
 
 returns-2 : tie.Need-returns-2 Inv-loop μ-loop
 returns-2 c = let e : c .before .loop .left ≡ 0 = omega arith in rw e at (c .before .loop .inv)

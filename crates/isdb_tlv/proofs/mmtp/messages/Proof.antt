@@ -5,13 +5,15 @@ use native.Mathlib.Nat.{add-zero}
 use Prim.Native.Nat.{_-_, _≤_, _<_}
 use mathlib.Core.Path.{_≡_, sym, _∙_}
 use Rattle.isdb_tlv.specs.declared.mmtp.MessageStep.the-variants.{Found}
-use Rattle.isdb_tlv.proofs.Messages.{step-ahead, messages-at, plus, plus-zero, one-more}
+use Rattle.isdb_tlv.proofs.Messages.{step-ahead, messages-at, one-more}
+use Rattle.isdb_tlv.proofs.Walk.{plus, plus-zero}
+use Rattle.isdb_tlv.specs.declared.mmtp.MessageCount.the-variants.{Refused, Count}
 use Rattle.isdb_tlv.specs.Messages.{messageStep, messagesFrom, messagesOf, counted}
 use Rattle.isdb_tlv.proofs.mmtp.messages.Statement.{statement}
 use Rattle.isdb_tlv.proofs.mmtp.messages.Tie as tie
 
 abbrev Inv-loop : tie.InvT-loop
-Inv-loop p at₀ n₀ at n = (n ≤ at) × (plus n (messagesFrom p at) ≡ counted (messagesOf p))
+Inv-loop p at₀ n₀ at n = (n ≤ at) × (plus Refused Count n (messagesFrom p at) ≡ counted (messagesOf p))
 
 abbrev μ-loop : tie.MeasureT-loop
 μ-loop p at₀ n₀ at n = length p - at
@@ -27,8 +29,8 @@ module _ (c : tie.After-known-told Inv-loop μ-loop) where
   ahead = rw taken at (step-ahead (c .before .before .before .before .before .before .args .p .now) (c .before .before .before .before .loop .at))
 
 loop-holds : tie.Need-loop-holds Inv-loop μ-loop
-unfolding messagesOf
-loop-holds c = (search needs, plus-zero (messagesFrom _ 2))
+unfolding messagesOf counted
+loop-holds c = (search needs, plus-zero Refused Count (messagesFrom _ 2))
 
 returns : tie.Need-returns Inv-loop μ-loop
 returns c = rw (messages-at _ (c .before .before .before .loop .at), ← c .before .before .next-message .ensures, c .enum-told .given .1) at (c .before .before .before .loop .inv .1)

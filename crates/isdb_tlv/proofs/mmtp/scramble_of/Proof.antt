@@ -1,50 +1,54 @@
 use borrow.Author.Needs.{needs}
 use Rattle.isdb_tlv.proofs.Extension.{entry-at}
-use Rattle.isdb_tlv.specs.Mmtp.{entries}
+use Rattle.isdb_tlv.specs.Mmtp.{bitsOf, entry, entries}
 use borrow.Author.Tests.{lt-ltb, le-ltb, eq-eqb, ne-eqb, le-leb, lt-leb}
-use lib.ListN.{length, drop, drop-of-length-le}
+use lib.ListN.{length}
 use native.Mathlib.Omega.{arith}
-use Prim.Native.Nat.{_-_}
+use Prim.Native.Nat.{_+_, _-_}
 use mathlib.Core.Path.{_≡_}
 use Rattle.isdb_tlv.proofs.mmtp.scramble_of.Statement.{statement}
 use Rattle.isdb_tlv.proofs.mmtp.scramble_of.Tie as tie
 
 abbrev Inv-loop : tie.InvT-loop
-Inv-loop s q₀ q = entries 0 (drop q s) ≡ entries 0 s
+Inv-loop s q₀ q = entries s q ≡ entries s 0
 
 abbrev μ-loop : tie.MeasureT-loop
 μ-loop s q₀ q = length s - q
 
 returns : tie.Need-returns Inv-loop μ-loop
-returns c = rw (← c .before .before .loop .inv, entry-at (c .before .before .before .before .args .s .now) (c .before .before .loop .q) (c .before .loop-test .taken), lt-ltb _ _ (c .if1 .taken))
+unfolding entry
+returns c = rw (← c .before .before .loop .inv, entry-at (c .before .before .before .before .args .s .now) (c .before .before .loop .q), lt-ltb _ _ (c .if1 .taken))
 
 returns-2 : tie.Need-returns-2 Inv-loop μ-loop
+unfolding entry bitsOf
 returns-2 c = let l = c .before .before .before .before .before .before .loop in
     rw (
       ← l .inv,
-      entry-at (c .before .before .before .before .before .before .before .before .args .s .now) (l .q) (c .before .before .before .before .before .loop-test .taken),
+      entry-at (c .before .before .before .before .before .before .before .before .args .s .now) (l .q),
       le-ltb _ _ (c .before .before .before .before .if1 .left),
       ← c .before .before .before .get-u16 .ensures,
       eq-eqb _ _ (c .before .before .if2 .taken),
-      lt-ltb 4 (length (c .before .before .before .before .before .before .before .before .args .s .now) - l .q) (omega arith),
+      lt-ltb (l .q + 4) (length (c .before .before .before .before .before .before .before .before .args .s .now)) (omega arith),
     )
 
 returns-3 : tie.Need-returns-3 Inv-loop μ-loop
+unfolding entry bitsOf
 returns-3 c = let l = c .before .before .before .before .before .loop in
     rw (
       ← l .inv,
-      entry-at (c .before .before .before .before .before .before .before .args .s .now) (l .q) (c .before .before .before .before .loop-test .taken),
+      entry-at (c .before .before .before .before .before .before .before .args .s .now) (l .q),
       le-ltb _ _ (c .before .before .before .if1 .left),
       ← c .before .before .get-u16 .ensures,
       eq-eqb _ _ (c .before .if2 .taken),
-      le-ltb 4 (length (c .before .before .before .before .before .before .before .args .s .now) - l .q) (omega arith),
+      le-ltb (l .q + 4) (length (c .before .before .before .before .before .before .before .args .s .now)) (omega arith),
     )
 
 returns-4 : tie.Need-returns-4 Inv-loop μ-loop
+unfolding entry
 returns-4 c = let l = c .before .before .before .before .before .before .loop in
     rw (
       ← l .inv,
-      entry-at (c .before .before .before .before .before .before .before .before .args .s .now) (l .q) (c .before .before .before .before .before .loop-test .taken),
+      entry-at (c .before .before .before .before .before .before .before .before .args .s .now) (l .q),
       le-ltb _ _ (c .before .before .before .before .if1 .left),
       ← c .before .before .before .get-u16 .ensures,
       ne-eqb _ _ (c .before .before .if2 .left),
@@ -52,9 +56,10 @@ returns-4 c = let l = c .before .before .before .before .before .before .loop in
     )
 
 loop-again : tie.Need-loop-again Inv-loop μ-loop
+unfolding entry
 loop-again c = let l = c .before .before .before .before .before .before .before .loop in
     rw (
-      entry-at (c .before .before .before .before .before .before .before .before .before .args .s .now) (l .q) (c .before .before .before .before .before .before .loop-test .taken),
+      entry-at (c .before .before .before .before .before .before .before .before .before .args .s .now) (l .q),
       le-ltb _ _ (c .before .before .before .before .before .if1 .left),
       ← c .before .before .before .before .get-u16 .ensures,
       ne-eqb _ _ (c .before .before .before .if2 .left),
@@ -63,7 +68,9 @@ loop-again c = let l = c .before .before .before .before .before .before .before
     ) at (l .inv)
 
 returns-5 : tie.Need-returns-5 Inv-loop μ-loop
-returns-5 c = rw (drop-of-length-le _ (c .loop-test .left)) at (c .before .loop .inv)
+unfolding entry
+returns-5 c =
+    rw (← c .before .loop .inv, entry-at (c .before .before .before .args .s .now) (c .before .loop .q), lt-ltb (length (c .before .before .before .args .s .now) - c .before .loop .q) 4 (omega arith))
 
 pub scramble-of-spec : {M : Type 1} → statement M
 scramble-of-spec =
