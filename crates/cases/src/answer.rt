@@ -56,7 +56,7 @@ fn more(word: &[u8], b: &[u8]) {
     if check::same(word, b"sections") {
         return sections(b);
     }
-    crate::tables::answer(word, b)
+    crate::units::answer(word, b)
 }
 
 fn packet_type(t: PacketType) {

@@ -1,15 +1,23 @@
 //! The cases, as `crates/cases` reads and writes them, answered by the Rust.
 use dump::hex;
-use isdb_mmt::desc;
+use isdb_mmt::{desc, message, mpu};
 use isdb_mmt::table::{Amt, Bit, Eit, Event, Location, Mpt, Nit, Plt, Sdt, SdtService, SectionError, Tot};
 use isdb_tlv::{ip, mmtp, si, tlv};
 use std::fmt::Write;
 use std::io::Read;
 
-fn bytes(text: &str) -> Vec<u8> {
-    (0..text.len() / 2)
-        .map(|i| u8::from_str_radix(&text[2 * i..2 * i + 2], 16).unwrap())
-        .collect()
+/// The bytes of some digits, or what is wrong with them.
+fn bytes(text: &str) -> Result<Vec<u8>, String> {
+    if let Some(i) = text.bytes().position(|x| !x.is_ascii_hexdigit()) {
+        return Err(format!(" error: no hexadecimal digit, at {i}"));
+    }
+    if text.len() % 2 != 0 {
+        return Err(" error: an odd number of digits".into());
+    }
+    if text.len() > 131_072 {
+        return Err(" error: more than 65536 bytes".into());
+    }
+    Ok((0..text.len() / 2).map(|i| u8::from_str_radix(&text[2 * i..2 * i + 2], 16).unwrap()).collect())
 }
 
 fn datagram(r: Result<ip::Datagram, ip::IpError>) -> String {
@@ -84,6 +92,69 @@ fn sections(b: &[u8]) -> String {
     s
 }
 
+fn units(b: &[u8]) -> String {
+    let Some(h) = mpu::parse_header(b) else {
+        return " none".into();
+    };
+    let mut s = format!(
+        " type {} timed {} fragmentation {} aggregated {} counter {} mpu {}",
+        h.fragment_type.code(),
+        u8::from(h.timed),
+        h.fragmentation.code(),
+        u8::from(h.aggregated),
+        h.fragment_counter,
+        h.mpu_sequence_number
+    );
+    let Some((_, l)) = mpu::parse(b) else {
+        return s + " malformed";
+    };
+    write!(s, " units {}", l.len()).unwrap();
+    for u in l {
+        s += "\n  unit";
+        if let Some(m) = u.mfu {
+            write!(s, " movie_fragment {} sample {} offset {}", m.movie_fragment_sequence_number, m.sample_number, m.offset).unwrap();
+            write!(s, " priority {} dependency {}", m.priority, m.dependency_counter).unwrap();
+        }
+        if let Some(i) = u.item_id {
+            write!(s, " item {i}").unwrap();
+        }
+        s = s + " data " + &hex(u.data);
+    }
+    s
+}
+
+fn control(b: &[u8]) -> String {
+    let mut m = message::Messages::new();
+    let mut tables = Vec::new();
+    m.push(1, b, false, &mut tables);
+    if b.len() < 2 {
+        return format!(" malformed {}", m.errors.malformed);
+    }
+    match b[0] >> 6 {
+        1 => return " first".into(),
+        2 => return " middle".into(),
+        3 => return " last".into(),
+        _ => {}
+    }
+    let mut s = String::new();
+    for t in tables {
+        s = s + "\n  table " + &hex(&t.bytes);
+    }
+    s + &format!("\n  malformed {}", m.errors.malformed)
+}
+
+/// Two packets of one id, with these numbers and no payload.
+fn lost(b: &[u8]) -> String {
+    let mut r = mpu::Reassembler::new();
+    for n in [&b[0..4], &b[4..8]] {
+        let mut packet = vec![0u8, 0, 0, 1, 0, 0, 0, 0];
+        packet.extend_from_slice(n);
+        let (h, payload) = mmtp::parse(&packet).unwrap();
+        r.push(&h, payload, &mut Vec::new());
+    }
+    format!(" lost {}", r.stats().next().unwrap().1.packets_lost)
+}
+
 fn descriptors(b: &[u8]) -> String {
     let before = desc::split_errors();
     let l = desc::decode_all(b);
@@ -126,7 +197,13 @@ fn main() {
             continue;
         }
         let (word, text) = line.split_once(' ').unwrap();
-        let b = bytes(text);
+        let b = match bytes(text) {
+            Ok(b) => b,
+            Err(e) => {
+                println!("{line} ->{e}");
+                continue;
+            }
+        };
         let found = match word {
             "crc" => format!(" crc {:08x}", isdb_ts::crc::crc32(&b)),
             "tlv" => packet_type(b[0]),
@@ -136,6 +213,9 @@ fn main() {
             "mmtp" => packet(&b),
             "messages" => messages(&b),
             "sections" => sections(&b),
+            "units" => units(&b),
+            "control" => control(&b),
+            "lost" => lost(&b),
             "location" => Location::parse(&b).map_or(" none".into(), |(l, n)| format!(" took {n} {}", dump::location(&l))),
             "descriptors" => descriptors(&b),
             "mpt" => counted(|| Mpt::parse(&b).map_or("none".into(), |t| dump::mpt(&t))),
@@ -155,7 +235,7 @@ fn main() {
                 println!("{}", kept.unwrap_or(line));
                 continue;
             }
-            w => panic!("no such reading: {w}"),
+            _ => " no such reading".into(),
         };
         println!("{line} ->{found}");
     }
