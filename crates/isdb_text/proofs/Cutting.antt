@@ -144,9 +144,12 @@ module _ (w : List ℕ) (most i : ℕ) (c : Cut) (e : c ≡ cutAt w most i) wher
   pub end-short : c ≡ Short → recordingFrom w most i .end ≡ badAt i
   end-short d = rw (recording-at w most i, ← e, d)
 
-pub end-clean : (w : List ℕ) (most i : ℕ) → length w ≤ i → recordingFrom w most i .end ≡ Clean
+pub over-end : (w : List ℕ) (most i : ℕ) → length w ≤ i → cutAt w most i ≡ End
 unfolding cutAt
-end-clean w most i h = rw (recording-at w most i, le-leb (length w) i h)
+over-end w most i h = rw (le-leb (length w) i h)
+
+pub end-clean : (w : List ℕ) (most i : ℕ) → length w ≤ i → recordingFrom w most i .end ≡ Clean
+end-clean w most i h = rw (recording-at w most i, over-end w most i h)
 
 pub end-here : (w : List ℕ) (most i : ℕ) (c : Cut) → c ≡ cutAt w most i → c ≡ End → length w ≤ i
 unfolding cutAt
