@@ -1,4 +1,5 @@
 // Lists the media ids of a recording: standard input as TLV packets, pushed into a session one by one.
+ghost use Rattle.feedlist.specs.Pass.{StopsAt};
 use isdb_mmt::decoder;
 use isdb_mmt::decoder::limits::Limits;
 use isdb_text::cut;
@@ -40,7 +41,9 @@ fn pass(
     window: &[u8],
     rows: &mut [u8; 36864],
     data: &mut [u8; 16384],
-) -> Passed {
+) -> Passed
+    ensures { λ r. ⌜ StopsAt (now (window .entry)) r ⌝ }
+{
     let mut at: usize = 0;
     while at < window.len() {
         match cut::cut_at(window, MOST, at) {

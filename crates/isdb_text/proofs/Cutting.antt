@@ -16,7 +16,7 @@ use Rattle.isdb_tlv.proofs.Numbers.{be-drop}
 use Rattle.isdb_tlv.proofs.Fields.{be-before}
 use Rattle.isdb_text.specs.declared.cut.Cut.{Cut}
 use Rattle.isdb_text.specs.declared.cut.Cut.the-variants.{Packet, End, Short, Bad}
-use Rattle.isdb_text.specs.declared.cut.Stop.the-variants.{Clean}
+use Rattle.isdb_text.specs.declared.cut.Stop.the-variants.{Clean, Bad as badAt}
 use Rattle.isdb_text.specs.Cut.{cutAt, ends, also, item, recordingFrom}
 
 -- two different answers are not one
@@ -131,6 +131,35 @@ pub packet-less : (w : List ℕ) (most i : ℕ) (c : Cut) → c ≡ cutAt w most
 packet-less w most i c e kind start n next d h =
     let l = packet-lies w most i (sym e ∙ d) in
     omega (arith, l .behind-header, l .behind-bytes, l .inside)
+
+-- where reading stops, turn by turn
+module _ (w : List ℕ) (most i : ℕ) (c : Cut) (e : c ≡ cutAt w most i) where
+  pub end-behind : (kind start n next : ℕ) → c ≡ Packet kind start n next
+      → recordingFrom w most i .end ≡ recordingFrom w most next .end
+  end-behind kind start n next d = rw (recording-at w most i, ← e, d)
+
+  pub end-bad : c ≡ Bad → recordingFrom w most i .end ≡ badAt i
+  end-bad d = rw (recording-at w most i, ← e, d)
+
+  pub end-short : c ≡ Short → recordingFrom w most i .end ≡ badAt i
+  end-short d = rw (recording-at w most i, ← e, d)
+
+pub over-end : (w : List ℕ) (most i : ℕ) → length w ≤ i → cutAt w most i ≡ End
+unfolding cutAt
+over-end w most i h = rw (le-leb (length w) i h)
+
+pub end-clean : (w : List ℕ) (most i : ℕ) → length w ≤ i → recordingFrom w most i .end ≡ Clean
+end-clean w most i h = rw (recording-at w most i, over-end w most i h)
+
+pub end-here : (w : List ℕ) (most i : ℕ) (c : Cut) → c ≡ cutAt w most i → c ≡ End → length w ≤ i
+unfolding cutAt
+end-here w most i c e d =
+    let P : Cut → Type 0 = λ a. a ≡ End → length w ≤ i in
+    cond-elim P (leb (length w) i) (λ h _. leb-true _ _ h) (λ _.
+    cond-elim P (not (eqb (getD w i 0) 127)) (λ _ q. differ (cc)) (λ _.
+    cond-elim P (ltb (length w - i) 4) (λ _ q. differ (cc)) (λ _.
+    cond-elim P (ltb most (be 2 w (i + 2))) (λ _ q. differ (cc)) (λ _.
+    cond-elim P (ltb (length w - i - 4) (be 2 w (i + 2))) (λ _ q. differ (cc)) (λ _ q. differ (cc)))))) (sym e ∙ d)
 
 -- a window: bytes of the input from `base` on. What it shows at `i` is what the input has at `base + i`; that it shows no whole
 -- packet says so of the input where the input ends with it.
