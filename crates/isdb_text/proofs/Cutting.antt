@@ -10,7 +10,8 @@ use lib.ListN.{length, take, drop, getD, length-append, length-drop, List·getD-
 use lib.Seq.{getD-drop, drop-drop, drop-append-le, take-append-le}
 use borrow.Author.Tests.{ltb-false, leb-true, leb-false, le-leb, lt-leb, le-ltb}
 use Rattle.isdb_tlv.specs.Bytes.{be}
-use Rattle.isdb_tlv.specs.Walk.{turn, Ahead, walk-at}
+use Rattle.isdb_tlv.specs.Walk.{turn}
+use Rattle.isdb_tlv.proofs.Walk.{Ahead, walk-at}
 use Rattle.isdb_tlv.proofs.Guards.{either, cond-elim}
 use Rattle.isdb_tlv.proofs.Numbers.{be-drop}
 use Rattle.isdb_tlv.proofs.Fields.{be-before}
