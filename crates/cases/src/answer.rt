@@ -240,5 +240,5 @@ fn section(s: Section, b: &[u8]) -> usize {
     field(b"extension", s.extension as u64);
     field(b"version", s.version as u64);
     bytes_field(b"bytes", s.bytes(b));
-    std::num::wrapping_add_usize(s.offset, s.length)
+    std::num::wrapping_add_usize(s.offset, s.size)
 }

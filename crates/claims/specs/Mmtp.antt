@@ -95,8 +95,8 @@ messages = refl
 
 -- si::next_section: one that ends with the data, behind a byte that starts none
 -- wrong: offset = 1 => offset = 0 (where the scan began)
--- wrong: length = 16 => length = 13 (as its field says)
+-- wrong: size = 16 => size = 13 (as its field says)
 pub next-section : nextSection (bytesOf 17 0x7F40B00D0004C30000F000F0001751D06F) 0
-    ≡ Some (record { offset = 1; «table_id» = 0x40; extension = 4; version = 1; length = 16 })
+    ≡ Some (record { offset = 1; «table_id» = 0x40; extension = 4; version = 1; size = 16 })
 unfolding bytesOf be feed feedByte crcOf isTlvSi sectionAt sectionsFrom nextSection
 next-section = refl

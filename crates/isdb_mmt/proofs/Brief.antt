@@ -16,7 +16,7 @@ use Rattle.isdb_tlv.specs.Crc.{crcOf}
 use Rattle.isdb_tlv.specs.Tlv.{packetType}
 use Rattle.isdb_tlv.specs.Ip.{ipv4Of, ipv6Of, compressedOf}
 use Rattle.isdb_tlv.specs.Mmtp.{mmtpOf}
-use Rattle.isdb_tlv.specs.Si.{isTlvSi, tableId, sectionLength, sectionAt, found, scanAt, sectionsFrom, sectionsOf}
+use Rattle.isdb_tlv.specs.Si.{isTlvSi, tableId, wholeSize, sectionAt, found, scanAt, sectionsFrom, sectionsOf}
 use Rattle.isdb_tlv.specs.declared.si.Section.{Section as Found}
 use Rattle.isdb_tlv.specs.declared.si.MaybeSection.{MaybeSection}
 use Rattle.isdb_tlv.specs.declared.si.MaybeSection.the-variants.{None as noSection, Some as oneSection}
@@ -158,7 +158,7 @@ media-plain h payload l = clear-read (h .«scramble_info») payload (headerIn (p
 
 abbrev lengths : List Found → ℕ
 lengths [] = 0
-lengths (x ∷ l) = x .length + lengths l
+lengths (x ∷ l) = x .size + lengths l
 
 abbrev amount : List Found → ℕ
 amount l = length l
@@ -166,12 +166,12 @@ amount l = length l
 module _ (s : Bytes) where
   abbrev Here : ℕ → MaybeSection → Type 0
   Here at noSection = Unit {0}
-  Here at (oneSection x) = (1 ≤ x .length) × (at + x .length ≤ length s)
+  Here at (oneSection x) = (1 ≤ x .size) × (at + x .size ≤ length s)
 
   here : (at : ℕ) → Here at (sectionAt s at)
   unfolding sectionAt
   here at =
-      let n = sectionLength s at in
+      let n = wholeSize s at in
       cond-elim (Here at) (not (isTlvSi (tableId s at))) (λ e. tt) (λ e.
       cond-elim (Here at) (ltb (getD s (at + 1) 0) 128) (λ e1. tt) (λ e1.
       cond-elim (Here at) (ltb n 12) (λ e2. tt) (λ e2.
@@ -210,11 +210,11 @@ module _ (s : Bytes) where
       )
 
   abbrev cutOut : List Found → List Bytes
-  cutOut l = map (λ x. take (x .length) (drop (x .offset) s)) l
+  cutOut l = map (λ x. take (x .size) (drop (x .offset) s)) l
 
   total-cut : (l : List Found) → total (cutOut l) ≤ lengths l
   total-cut [] = omega arith
-  total-cut (x ∷ l) = omega (arith, total-cut l, length-take (x .length) (drop (x .offset) s))
+  total-cut (x ∷ l) = omega (arith, total-cut l, length-take (x .size) (drop (x .offset) s))
 
   length-cut : (l : List Found) → length (cutOut l) ≡ length l
   length-cut [] = refl
@@ -222,7 +222,7 @@ module _ (s : Bytes) where
 
   octets-cut : Octets s → (l : List Found) → AllOctets (cutOut l)
   octets-cut o [] = tt
-  octets-cut o (x ∷ l) = (octets-take (x .length) (drop (x .offset) s) (octets-drop (x .offset) s o), octets-cut o l)
+  octets-cut o (x ∷ l) = (octets-take (x .size) (drop (x .offset) s) (octets-drop (x .offset) s o), octets-cut o l)
 
 -- a packet, from its payload outwards
 

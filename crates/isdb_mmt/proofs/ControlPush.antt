@@ -143,7 +143,7 @@ module _ (state others objects messages tables : List ℕ) (b : Bytes) (can : Ca
     next = pushed (view s) p
 
     abbrev bs : List Bytes
-    bs = map (λ (x : Found). take (x .length) (drop (x .offset) b)) (sectionsOf b)
+    bs = map (λ (x : Found). take (x .size) (drop (x .offset) b)) (sectionsOf b)
 
     abbrev a : Areas
     a = areas s ok b log₀ (no-log mostSections) noRecent 0 c₁ c₁

@@ -119,18 +119,18 @@ cut-located j = go (j .aggregated)
 
 -- ---- the sections of a control packet
 
-pub bytes-sections : (b : Bytes) → tableBytes (placedSections b 0) ≡ map (λ (x : Section). take (x .length) (drop (x .offset) b)) (sectionsOf b)
+pub bytes-sections : (b : Bytes) → tableBytes (placedSections b 0) ≡ map (λ (x : Section). take (x .size) (drop (x .offset) b)) (sectionsOf b)
 unfolding placedSections sectionsOf
 bytes-sections b = go (sectionsFrom b 0)
   where
-    go : (xs : List Section) → tableBytes (map (λ (x : Section). record { at = x .offset; bytes = part (x .offset) (x .length) b }) xs) ≡ map (λ (x : Section). take (x .length) (drop (x .offset) b)) xs
+    go : (xs : List Section) → tableBytes (map (λ (x : Section). record { at = x .offset; bytes = part (x .offset) (x .size) b }) xs) ≡ map (λ (x : Section). take (x .size) (drop (x .offset) b)) xs
     go [] = refl
-    go (x ∷ xs) = ap (λ (l : List Bytes). part (x .offset) (x .length) b ∷ l) (go xs)
+    go (x ∷ xs) = ap (λ (l : List Bytes). part (x .offset) (x .size) b ∷ l) (go xs)
 
 pub sections-placed : (b : Bytes) → AllPlaced b (placedSections b 0)
 unfolding placedSections
 sections-placed b = go (sectionsFrom b 0)
   where
-    go : (xs : List Section) → AllPlaced b (map (λ (x : Section). record { at = x .offset; bytes = part (x .offset) (x .length) b }) xs)
+    go : (xs : List Section) → AllPlaced b (map (λ (x : Section). record { at = x .offset; bytes = part (x .offset) (x .size) b }) xs)
     go [] = tt
-    go (x ∷ xs) = (rw zero-add at (part-located b 0 b (record { start = x .offset; length = x .length }) (whole-located b)), go xs)
+    go (x ∷ xs) = (rw zero-add at (part-located b 0 b (record { start = x .offset; length = x .size }) (whole-located b)), go xs)

@@ -57,7 +57,7 @@ sections-start ix log others g b c =
 module _ (ix₀ log₀ others₀ : List ℕ) (g₀ : WalkState) (b : Bytes) (ix log others : List ℕ) (g : WalkState) (p : ℕ)
     (go : InSections ix₀ log₀ others₀ g₀ b ix log others g p) (s : MaybeSection) (es : s ≡ nextSection b p) where
   abbrev placedIt : Section → Placed
-  placedIt x = record { at = x .offset; bytes = part (x .offset) (x .length) b }
+  placedIt x = record { at = x .offset; bytes = part (x .offset) (x .size) b }
 
   rest-of : (z : MaybeSection) → s ≡ z → placedSections b p ≡ map placedIt (onward b z)
   unfolding placedSections
@@ -72,13 +72,13 @@ module _ (ix₀ log₀ others₀ : List ℕ) (g₀ : WalkState) (b : Bytes) (ix 
     lies : Lies b p x
     lies = subst (Found b p) (sym es ∙ e) (next-lies b p)
 
-    pub sections-adds : Fits w64 (x .offset + x .length)
+    pub sections-adds : Fits w64 (x .offset + x .size)
     sections-adds = omega (arith, lies .within, go .can .short)
 
-    pub sections-less : length b - (x .offset + x .length) < length b - p
+    pub sections-less : length b - (x .offset + x .size) < length b - p
     sections-less = omega (arith, lies .behind, lies .whole, lies .within)
 
-    module _ (t : Bytes) (et : t ≡ part (x .offset) (x .length) b) where
+    module _ (t : Bytes) (et : t ≡ part (x .offset) (x .size) b) where
       pub sections-can : CanTakeSection ix log others g t (x .offset)
       sections-can =
           record {
@@ -86,19 +86,19 @@ module _ (ix₀ log₀ others₀ : List ℕ) (g₀ : WalkState) (b : Bytes) (ix 
             room =
                 room-more g others (mostCount + min p (length b) * mostAdded) mostBefore (omega (arith, go .can .short))
                 (go .goes .room mostCount (go .can .room));
-            short = rw et (omega (arith, length-take (x .length) (drop (x .offset) b), lies .within, go .can .short));
+            short = rw et (omega (arith, length-take (x .size) (drop (x .offset) b), lies .within, go .can .short));
             near = omega (arith, lies .within, go .can .short);
           }
 
       pub sections-on : (r : WalkState) (ix′ log′ others′ : List ℕ) → Walked sectionRead ix log others g (at (x .offset) t ∷ []) 1 0 r ix′ log′ others′
           → length ix′ ≡ length ix → length log′ ≡ length log → length others′ ≡ length others
-          → InSections ix₀ log₀ others₀ g₀ b ix′ log′ others′ r (x .offset + x .length)
+          → InSections ix₀ log₀ others₀ g₀ b ix′ log′ others′ r (x .offset + x .size)
       unfolding placedSections
       sections-on r ix′ log′ others′ w li ll lo =
           record {
             goes =
                 in-sequence sectionRead ix₀ log₀ others₀ g₀ (placedSections b 0) 0 ix log others g (placedSections b p) 0 (min p (length b)) (go .goes)
-                (placedIt x ∷ []) (placedSections b (x .offset + x .length)) (rest-of (Some x) e) 0 0 refl 1 (min (x .offset + x .length) (length b))
+                (placedIt x ∷ []) (placedSections b (x .offset + x .size)) (rest-of (Some x) e) 0 0 refl 1 (min (x .offset + x .size) (length b))
                 (omega (arith, lies .behind, lies .whole, lies .within)) r ix′ log′ others′
                 (subst (λ (z : Bytes). Walked sectionRead ix log others g (at (x .offset) z ∷ []) 1 0 r ix′ log′ others′) et w) li ll lo;
             can = go .can;

@@ -234,11 +234,11 @@ module _ (s : Session) (rows out : Bytes) (kind : ℕ) (b : Bytes) (can : CanTak
         (ap (routed b) k ∙ ap (λ (y : MaybeU64). ntp (timeGiven y)) (sym (i ∙ ap timeIn j))) (quiet-time s (can .session) (timeGiven t) l f)
 
   pub route-control : r ≡ Route.Control → (n : ℕ) (s′ : Session)
-      → QuietPushed s (control (map (λ y. take (y .length) (drop (y .offset) b)) (sectionsOf b))) n s′ → (a : Answer) → a ≡ refusedAs n
+      → QuietPushed s (control (map (λ y. take (y .size) (drop (y .offset) b)) (sectionsOf b))) n s′ → (a : Answer) → a ≡ refusedAs n
       → PacketPushed s rows out (classify kind b) (a .number) (a .records) (a .bytes) s′ rows out
   unfolding gives
   route-control k n s′ h a g =
-      let p : Packet = control (map (λ y. take (y .length) (drop (y .offset) b)) (sectionsOf b)) in
+      let p : Packet = control (map (λ y. take (y .size) (drop (y .offset) b)) (sectionsOf b)) in
       same-packet s rows out p (classify kind b) (through p (ap (routed b) k)) (a .number) (a .records) (a .bytes) s′ rows out
       (quiet-arm s rows out p refl n s′ h a g)
 

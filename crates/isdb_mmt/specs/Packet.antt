@@ -153,7 +153,7 @@ abbrev pub byKind : Bytes → PacketType → Packet
 byKind b Ipv4 = datagramIn b (ipv4Of b)
 byKind b Ipv6 = datagramIn b (ipv6Of b)
 byKind b Compressed = datagramIn b (compressedOf b)
-byKind b Control = control (map (λ x. take (x .length) (drop (x .offset) b)) (sectionsOf b))
+byKind b Control = control (map (λ x. take (x .size) (drop (x .offset) b)) (sectionsOf b))
 byKind b Null = other
 byKind b (Other v) = other
 

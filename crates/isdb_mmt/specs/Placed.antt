@@ -63,7 +63,7 @@ behind n p = partFor (p .start - n) (p .length - (n - p .start))
 
 -- the sections of a control packet's data, from a place on
 unfoldable pub placedSections : Bytes → ℕ → List Placed
-placedSections b at = map (λ (x : Section). record { at = x .offset; bytes = part (x .offset) (x .length) b }) (sectionsFrom b at)
+placedSections b at = map (λ (x : Section). record { at = x .offset; bytes = part (x .offset) (x .size) b }) (sectionsFrom b at)
 
 -- bytes that stand at a place of others
 abbrev pub PlacedAt : Bytes → ℕ → Bytes → Type 0

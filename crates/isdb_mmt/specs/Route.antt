@@ -50,6 +50,6 @@ abbrev pub routed : Bytes → Route → Packet
 routed b IpError = ipError
 routed b (Time at) = ntp (timeGiven (timeIn (drop at b)))
 routed b (Mmtp at) = mmtpIn (drop at b) (mmtpOf (drop at b))
-routed b Control = control (map (λ x. take (x .length) (drop (x .offset) b)) (sectionsOf b))
+routed b Control = control (map (λ x. take (x .size) (drop (x .offset) b)) (sectionsOf b))
 routed b Null = other
 routed b Other = other

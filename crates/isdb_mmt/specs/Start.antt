@@ -113,7 +113,7 @@ pub record CanGo (state t : List ℕ) : Type 0 where
 
 -- the packet that a control signal's data are
 abbrev pub signalOf : Bytes → Packet
-signalOf b = control (map (λ (x : Section). take (x .length) (drop (x .offset) b)) (sectionsOf b))
+signalOf b = control (map (λ (x : Section). take (x .size) (drop (x .offset) b)) (sectionsOf b))
 
 abbrev pub withSectionsUsed : Used → ℕ → Used
 withSectionsUsed u n = record { «media_ids» = u .«media_ids»; «control_ids» = u .«control_ids»; sections = n }

@@ -35,8 +35,8 @@ pub mod records;
 mod route;
 mod section;
 mod start;
-mod take;
 mod table_outcome;
+mod take;
 mod walk;
 
 fn clear(s: &mut [u8])

@@ -15,7 +15,7 @@ use borrow.Author.Tests.{ltb-false, leb-true, eqb-true, eqb-false, eq-eqb, ne-eq
 use Rattle.isdb_tlv.specs.Bytes.{be, withBit}
 use Rattle.isdb_tlv.specs.Walk.{more, turn}
 use Rattle.isdb_tlv.proofs.Walk.{Ahead, walk-at, run-more, plus, one-more as one-more-item}
-use Rattle.isdb_tlv.specs.Messages.{none, wordOf, has, withWord, insert, insertAll, setOf, member, listedAt, listedFrom, tableAt, walkedFrom, messageOf, behind, messageIn, prefixedAt, messageAt, messageStep, item, messagesFrom}
+use Rattle.isdb_tlv.specs.Messages.{noTableIds, wordOf, has, withWord, insert, insertAll, setOf, member, listedAt, listedFrom, tableAt, walkedFrom, messageOf, behind, messageIn, prefixedAt, messageAt, messageStep, item, messagesFrom}
 use Rattle.isdb_tlv.specs.declared.mmtp.TableIds.{TableIds}
 use Rattle.isdb_tlv.specs.declared.mmtp.Message.{Message}
 use Rattle.isdb_tlv.specs.declared.mmtp.MaybeMessage.{MaybeMessage}
@@ -67,7 +67,7 @@ word-other t (suc (suc (suc zero))) w (suc (suc zero)) hk hj h = refl
 word-other t (suc (suc (suc zero))) w (suc (suc (suc j))) hk hj h = absurd (h (omega arith))
 word-other t (suc (suc (suc (suc k)))) w j hk hj h = absurd (omega arith)
 
-word-none : (k : ℕ) → wordOf none k ≡ 0
+word-none : (k : ℕ) → wordOf noTableIds k ≡ 0
 unfolding wordOf
 word-none k = simp cond-same
 
@@ -85,7 +85,7 @@ module _ (x : ℕ) (hx : x < 256) where
       (λ e. let d = eqb-false (x / 64) (id / 64) e in
       rw (word-other t (id / 64) (withBit (wordOf t (id / 64)) (id % 64)) (x / 64) (omega arith) (omega arith) d, ne-eqb x id (λ b. d (ap (λ n. n / 64) b))))
 
-  has-none : has none x ≡ false
+  has-none : has noTableIds x ≡ false
   unfolding has
   has-none = rw (word-none (x / 64), zero-div)
 
@@ -98,7 +98,7 @@ module _ (x : ℕ) (hx : x < 256) where
   -- the set of a list of ids has those of the list and no others
   pub has-set : (ids : List ℕ) → ((i : ℕ) → getD ids i 0 < 256) → has (setOf ids) x ≡ member x ids
   unfolding setOf
-  has-set ids h = has-all ids none h ∙ rw has-none (either (member x ids) (λ e. rw e) (λ e. rw e))
+  has-set ids h = has-all ids noTableIds h ∙ rw has-none (either (member x ids) (λ e. rw e) (λ e. rw e))
 
 pub insert-both : (a b : List ℕ) (t : TableIds) → insertAll (a ++ b) t ≡ insertAll b (insertAll a t)
 insert-both [] b t = refl

@@ -9,7 +9,7 @@ use lib.ListN.{length, getD, take, drop}
 use borrow.Author.Tests.{ltb-false, lt-ltb, le-ltb}
 use Rattle.isdb_tlv.specs.Crc.{crcOf}
 use Rattle.isdb_tlv.specs.Walk.{Next, turn}
-use Rattle.isdb_tlv.specs.Si.{isTlvSi, tableId, sectionLength, sectionAt, found, scanAt, sectionsFrom, sectionsOf, first, nextSection, onward}
+use Rattle.isdb_tlv.specs.Si.{isTlvSi, tableId, wholeSize, sectionAt, found, scanAt, sectionsFrom, sectionsOf, first, nextSection, onward}
 use Rattle.isdb_tlv.specs.declared.si.Section.{Section}
 use Rattle.isdb_tlv.specs.declared.si.MaybeSection.{MaybeSection}
 use Rattle.isdb_tlv.specs.declared.si.MaybeSection.the-variants.{None, Some}
@@ -19,8 +19,8 @@ use Rattle.isdb_tlv.proofs.Walk.{Ahead, walk-at}
 -- a section at `at` or behind it, whole and within the data
 pub record Lies (s : List ℕ) (at : ℕ) (x : Section) : Type 0 where
   pub behind : at ≤ x .offset
-  pub whole : 12 ≤ x .length
-  pub within : x .offset + x .length ≤ length s
+  pub whole : 12 ≤ x .size
+  pub within : x .offset + x .size ≤ length s
 
 abbrev pub Found : List ℕ → ℕ → MaybeSection → Type 0
 Found s at None = Unit {0}
@@ -39,7 +39,7 @@ module _ (s : List ℕ) where
   here : (at : ℕ) → Here s at (sectionAt s at)
   unfolding sectionAt
   here at =
-      let n = sectionLength s at in
+      let n = wholeSize s at in
       cond-elim (Here s at) (not (isTlvSi (tableId s at))) (λ e. tt) (λ e.
       cond-elim (Here s at) (ltb (getD s (at + 1) 0) 128) (λ e1. tt) (λ e1.
       cond-elim (Here s at) (ltb n 12) (λ e2. tt) (λ e2.
@@ -87,7 +87,7 @@ module _ (s : List ℕ) where
       → Steps s at (turn (sectionsFrom s) (found at m))
   steps-found at g None w = record { step = g .step; lies = further at (first (sectionsFrom s (at + 1))) (g .lies) }
   steps-found at g (Some x) w =
-      record { step = ap (λ (o : ℕ). x ∷ sectionsFrom s (o + x .length)) (sym (w .0)); lies = w .1 }
+      record { step = ap (λ (o : ℕ). x ∷ sectionsFrom s (o + x .size)) (sym (w .0)); lies = w .1 }
 
   steps : (k at : ℕ) → length s - at < k → Steps s at (sectionsFrom s at)
   steps zero at h = absurd (omega arith)

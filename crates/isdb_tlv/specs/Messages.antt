@@ -19,8 +19,8 @@ use Rattle.isdb_tlv.specs.declared.mmtp.MessageCount.{MessageCount}
 use Rattle.isdb_tlv.specs.declared.mmtp.MessageCount.the-variants.{Refused as refusedAll, Count}
 
 -- a set of table ids: bit i of word k stands for the id 64 k + i
-abbrev pub none : TableIds
-none = record { w0 = 0; w1 = 0; w2 = 0; w3 = 0 }
+abbrev pub noTableIds : TableIds
+noTableIds = record { w0 = 0; w1 = 0; w2 = 0; w3 = 0 }
 
 unfoldable pub wordOf : TableIds → ℕ → ℕ
 wordOf t k =
@@ -47,7 +47,7 @@ insertAll [] t = t
 insertAll (id ∷ ids) t = insertAll ids (insert id t)
 
 unfoldable pub setOf : List ℕ → TableIds
-setOf ids = insertAll ids none
+setOf ids = insertAll ids noTableIds
 
 -- whether an id is in a list: where all are below 256, `has (setOf ids) x` is `member x ids` (has-set of proofs/Messages.antt)
 abbrev pub member : ℕ → List ℕ → Bool
@@ -109,7 +109,7 @@ sectionMessage m id =
     else someMessage (record { id = id; tables = setOf (getD m 5 0 ∷ []) })
 
 abbrev pub otherMessage : ℕ → MaybeMessage
-otherMessage id = someMessage (record { id = id; tables = none })
+otherMessage id = someMessage (record { id = id; tables = noTableIds })
 
 -- a message, by its id; others than these without tables
 unfoldable pub messageOf : List ℕ → MaybeMessage

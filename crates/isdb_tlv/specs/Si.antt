@@ -34,8 +34,8 @@ abbrev pub tableId : List ℕ → ℕ → ℕ
 tableId s i = getD s i 0
 
 -- of the whole section: the length field counts what stands behind it
-abbrev pub sectionLength : List ℕ → ℕ → ℕ
-sectionLength s i = be 2 s (i + 1) % 4096 + 3
+abbrev pub wholeSize : List ℕ → ℕ → ℕ
+wholeSize s i = be 2 s (i + 1) % 4096 + 3
 
 -- the section at `i`: its id is one of TLV-SI, its syntax indicator is set, it has the five bytes of the extended header
 -- and a CRC, it ends within the data, and its CRC is good
@@ -43,21 +43,21 @@ unfoldable pub sectionAt : List ℕ → ℕ → MaybeSection
 sectionAt s i =
     if not (isTlvSi (tableId s i)) then None
     else if getD s (i + 1) 0 <? 128 then None
-    else if sectionLength s i <? 12 then None
-    else if length s - i <? sectionLength s i then None
-    else if crcOf (take (sectionLength s i) (drop i s)) ≠? 0 then None
+    else if wholeSize s i <? 12 then None
+    else if length s - i <? wholeSize s i then None
+    else if crcOf (take (wholeSize s i) (drop i s)) ≠? 0 then None
     else Some (record {
       offset = i;
       «table_id» = tableId s i;
       extension = be 2 s (i + 3);
       version = getD s (i + 5) 0 / 2 % 32;
-      length = sectionLength s i;
+      size = wholeSize s i;
     })
 
 -- the scan: a section moves it behind itself, anything else by one byte
 abbrev pub found : ℕ → MaybeSection → Next (List Section)
 found i None = more (i + 1) (λ rest. rest)
-found i (Some x) = more (i + x .length) (λ rest. x ∷ rest)
+found i (Some x) = more (i + x .size) (λ rest. x ∷ rest)
 
 abbrev pub scanAt : List ℕ → ℕ → Next (List Section)
 scanAt s i = if length s - i <? 3 then stop [] else found i (sectionAt s i)
@@ -80,4 +80,4 @@ nextSection s at = first (sectionsFrom s at)
 -- a step from section to section: the one that was found, and those behind it
 abbrev pub onward : List ℕ → MaybeSection → List Section
 onward s None = []
-onward s (Some x) = x ∷ sectionsFrom s (x .offset + x .length)
+onward s (Some x) = x ∷ sectionsFrom s (x .offset + x .size)

@@ -5,7 +5,7 @@ ghost use mathlib.Core.Path.{_≡_};
 ghost use Prim.Native.Nat.{_+_, _≤_, _<_};
 ghost use lib.ListN.{length, drop};
 ghost use Rattle.isdb_tlv.specs.Mmtp.{fecCode, fecType, payloadCode, payloadType, entries, scrambleInfo, scrambleControl, fixedSize, extensionAt, afterFixed, headerOf, mmtpOf};
-ghost use Rattle.isdb_tlv.specs.Messages.{none, wordOf, has, insert, insertAll, setOf, listedFrom, walkedFrom, paTables, paMessage, sectionMessage, messageOf, messageIn, prefixedAt, messageAt, messageStep, counted, messagesOf};
+ghost use Rattle.isdb_tlv.specs.Messages.{noTableIds, wordOf, has, insert, insertAll, setOf, listedFrom, walkedFrom, paTables, paMessage, sectionMessage, messageOf, messageIn, prefixedAt, messageAt, messageStep, counted, messagesOf};
 use crate::bytes;
 
 // FEC_type (Table 6-5).
@@ -333,7 +333,7 @@ pub enum MaybeMessage {
 
 // The ids in the table list of a PA message's body, n of them or as many as are present.
 fn listed(body: &[u8], n: u8) -> TableIds
-    ensures { λ r. ⌜ r ≡ insertAll (listedFrom n (now (body .entry)) 1) none ⌝ }
+    ensures { λ r. ⌜ r ≡ insertAll (listedFrom n (now (body .entry)) 1) noTableIds ⌝ }
 {
     let mut t = TableIds {
         w0: 0,
@@ -431,7 +431,7 @@ fn message_of(m: &[u8]) -> MaybeMessage
 
 // A message whose tables are not looked at.
 fn other(id: u16) -> Message
-    ensures { λ r. ⌜ r ≡ record { id = id; tables = none } ⌝ }
+    ensures { λ r. ⌜ r ≡ record { id = id; tables = noTableIds } ⌝ }
 {
     Message {
         id,

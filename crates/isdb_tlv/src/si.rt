@@ -20,17 +20,17 @@ pub struct Section {
     pub extension: u16,
     pub version: u8,
     // Of the whole section, CRC included.
-    pub length: usize,
+    pub size: usize,
 }
 
 impl Section {
     // The whole section, a part of the data it was found in.
     pub fn bytes(self, data: &[u8]) -> &[u8]
-        ensures { λ r. ⌜ now r ≡ take (self .length) (drop (self .offset) (now («data» .entry))) ⌝ }
+        ensures { λ r. ⌜ now r ≡ take (self .size) (drop (self .offset) (now («data» .entry))) ⌝ }
     {
         let offset = self.offset;
-        let length = self.length;
-        bytes::part(data, offset, length)
+        let size = self.size;
+        bytes::part(data, offset, size)
     }
 }
 
@@ -69,14 +69,14 @@ fn section_at(data: &[u8], i: usize) -> MaybeSection
     if data[i + 1] < 128 {
         return MaybeSection::None;
     }
-    let length = bytes::get_u12(data, i + 1) as usize + 3;
-    if length < 12 {
+    let size = bytes::get_u12(data, i + 1) as usize + 3;
+    if size < 12 {
         return MaybeSection::None;
     }
-    if data.len() - i < length {
+    if data.len() - i < size {
         return MaybeSection::None;
     }
-    if crc::crc32(bytes::part(data, i, length)) != 0 {
+    if crc::crc32(bytes::part(data, i, size)) != 0 {
         return MaybeSection::None;
     }
     MaybeSection::Some(Section {
@@ -84,12 +84,12 @@ fn section_at(data: &[u8], i: usize) -> MaybeSection
         table_id,
         extension: bytes::get_u16(data, i + 3),
         version: data[i + 5] / 2 % 32,
-        length,
+        size,
     })
 }
 
 // The first section at or behind a place: every place is tried, since the data around sections says nothing of where they
-// start. To go on from one: the place behind it, offset + length.
+// start. To go on from one: the place behind it, offset + size.
 pub fn next_section(data: &[u8], at: usize) -> MaybeSection
     ensures { λ r. ⌜ r ≡ nextSection (now («data» .entry)) at ⌝ }
 {

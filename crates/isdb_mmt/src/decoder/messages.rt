@@ -218,7 +218,13 @@ pub(crate) fn put_fragment(
 {
     match f {
         FragmentOutcome::First => place::put_in_area(messages, i, area, 0, bytes::rest(b, 2)),
-        FragmentOutcome::Grown => place::put_in_area(messages, i, area, c.length as usize, bytes::rest(b, 2)),
+        FragmentOutcome::Grown => place::put_in_area(
+            messages,
+            i,
+            area,
+            c.length as usize,
+            bytes::rest(b, 2),
+        ),
         FragmentOutcome::Short => {}
         FragmentOutcome::Undivided => {}
         FragmentOutcome::Orphan => {}

@@ -129,7 +129,15 @@ fn whole_ask(l: Limits, area: u64, g: WalkState) -> u8
     n
 }
 
-fn leave_state(state: &mut [u8], ix: &[u8], i: usize, k: u32, d: Control, cs: Counters, g: WalkState)
+fn leave_state(
+    state: &mut [u8],
+    ix: &[u8],
+    i: usize,
+    k: u32,
+    d: Control,
+    cs: Counters,
+    g: WalkState,
+)
     requires { ⌜ CanLeaveState (now state) (now ix) i k g ⌝ }
     ensures { λ r. ⌜ now (state .exit) ≡ stateLeft i k d cs g (now (ix .entry)) (now (state .entry)) ⌝ }
 {

@@ -245,7 +245,14 @@ fn grown_unit(ends: bool, t: MediaEffect, p: Part, n: u64) -> MediaEffect
     dropped_unit(t, p)
 }
 
-fn step(f: FragmentationIndicator, mpu: u32, rap: bool, t: MediaEffect, u: Unit, n: u64) -> MediaEffect
+fn step(
+    f: FragmentationIndicator,
+    mpu: u32,
+    rap: bool,
+    t: MediaEffect,
+    u: Unit,
+    n: u64,
+) -> MediaEffect
     requires { ⌜ Light t n ⌝ }
     ensures { λ r. ⌜ r ≡ withUnit f mpu rap t u n ⌝ }
 {
@@ -525,7 +532,14 @@ pub(crate) fn media_outcome(p: Media, n: u32, scrambled: bool, rap: bool, b: &[u
 }
 
 // What a packet adds to the counts.
-fn adds_of(p: Media, n: u32, scrambled: bool, h: MaybeHeader, bad: bool, t: MediaEffect) -> AssetStats
+fn adds_of(
+    p: Media,
+    n: u32,
+    scrambled: bool,
+    h: MaybeHeader,
+    bad: bool,
+    t: MediaEffect,
+) -> AssetStats
     ensures { λ r. ⌜ r ≡ addsOf p n scrambled h bad t ⌝ }
 {
     AssetStats {

@@ -168,7 +168,14 @@ pub(crate) fn body_read(id: u8, h: SectionHeader, b: &[u8]) -> BodyRead
 }
 
 // What a good section leaves, with what it counts as a version change, for the place i.
-fn body_outcome(t: &[u8], h: SectionHeader, b: &[u8], change: u64, i: usize, key: u32) -> TableOutcome
+fn body_outcome(
+    t: &[u8],
+    h: SectionHeader,
+    b: &[u8],
+    change: u64,
+    i: usize,
+    key: u32,
+) -> TableOutcome
     ensures { λ r. ⌜ r ≡ bodyPut (now (t .entry)) h (now (b .entry)) change i key ⌝ }
 {
     let x = body_read(bytes::get_u8(t, 0), h, b);

@@ -14,8 +14,8 @@ use crate::decoder::layout::MOST_SECTIONS;
 use crate::decoder::layout::SECTION_SIZE;
 use crate::decoder::section::put_section_at;
 use crate::decoder::table_outcome;
-use crate::decoder::table_outcome::TableAction;
 use crate::decoder::table_outcome::Recent;
+use crate::decoder::table_outcome::TableAction;
 use crate::decoder::table_outcome::TableOutcome;
 use crate::message::Content;
 use crate::message::MessageStep;
@@ -232,7 +232,7 @@ pub(crate) fn sections(
         match si::next_section(b, at) {
             MaybeSection::Some(x) => {
                 let k = x.offset;
-                let n = x.length;
+                let n = x.size;
                 g = section(ix, log, others, g, bytes::part(b, k, n), k);
                 at = k + n;
             }

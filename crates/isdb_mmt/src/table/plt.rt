@@ -4,10 +4,10 @@ ghost use mathlib.Core.Path.{_≡_};
 ghost use Rattle.isdb_mmt.specs.Plt.{packageAt, packagesEnd, deliverySize, deliveryAt, deliveriesWhole, pltWith, pltDeliveries, pltTable, pltOf};
 use crate::location::Located;
 use crate::location::Location;
+use crate::maybe::MaybeUsize;
 use crate::part;
 use crate::part::Part;
 use crate::table::mpt;
-use crate::maybe::MaybeUsize;
 use isdb_tlv::bytes;
 
 pub struct Package {

@@ -2,12 +2,12 @@ use mathlib.Core.Path.{_∙_, _≡_}
 use borrow.Author.Needs.{needs}
 use native.Mathlib.Omega.{arith}
 use Rattle.isdb_tlv.proofs.Messages.{listed-next, listed-end}
-use Rattle.isdb_tlv.specs.Messages.{none, insertAll, listedFrom}
+use Rattle.isdb_tlv.specs.Messages.{noTableIds, insertAll, listedFrom}
 use Rattle.isdb_tlv.proofs.mmtp.listed.Statement.{statement}
 use Rattle.isdb_tlv.proofs.mmtp.listed.Tie as tie
 
 abbrev Inv-loop : tie.InvT-loop
-Inv-loop body n t₀ at₀ left₀ t at left = insertAll (listedFrom left body at) t ≡ insertAll (listedFrom n body 1) none
+Inv-loop body n t₀ at₀ left₀ t at left = insertAll (listedFrom left body at) t ≡ insertAll (listedFrom n body 1) noTableIds
 
 abbrev μ-loop : tie.MeasureT-loop
 μ-loop body n t₀ at₀ left₀ t at left = left
