@@ -1,10 +1,10 @@
 -- What an opening that is turned down leaves.
 use Prim.Native.Nat.{ℕ}
 use mathlib.Core.Path.{_≡_, refl, ap, _∙_}
-use Rattle.isdb_mmt.specs.Limits.{inRange, placesInRange, asked}
-use Rattle.isdb_mmt.specs.Session.{Session}
-use Rattle.isdb_mmt.specs.Opening.{Opened}
-use Rattle.isdb_mmt.specs.Check.{lengthsOf}
+use Rattle.isdb_mmt.specs.Memory.Limits.{inRange, placesInRange, asked}
+use Rattle.isdb_mmt.specs.Memory.Session.{Session}
+use Rattle.isdb_mmt.specs.Memory.Opening.{Opened}
+use Rattle.isdb_mmt.specs.Memory.Check.{lengthsOf}
 use Rattle.isdb_mmt.specs.declared.decoder.limits.Limits.{Limits}
 use Rattle.claims.specs.Session.{Refused}
 use native.Mathlib.Omega.{arith}

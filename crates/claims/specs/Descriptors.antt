@@ -5,12 +5,12 @@ use mathlib.Core.List.{[], _∷_}
 use lib.Ieee.{binary64, ofInt, sub, div, toBits}
 use Rattle.isdb_tlv.specs.Fields.{bytesOf}
 use Rattle.isdb_tlv.specs.Bytes.{be}
-use Rattle.isdb_mmt.specs.Maps.{isSome}
-use Rattle.isdb_mmt.specs.Part.{partAt}
-use Rattle.isdb_mmt.specs.Location.{sized, urlOf, locationOf, packetId}
-use Rattle.isdb_mmt.specs.Ntp.{ntpToUnix}
-use Rattle.isdb_mmt.specs.Timestamp.{timestampAt, mpuAt, mpusFrom, mpusWhole, extendedOf, unitStep}
-use Rattle.isdb_mmt.specs.Desc.{lengthWidth, stepAt, splitFrom, splitOf, counted, streamIdentifier, descriptorOf, isOther, firstOf, serviceAt, genreAt}
+use Rattle.isdb_mmt.specs.Decoder.Maps.{isSome}
+use Rattle.isdb_mmt.specs.Formats.Part.{partAt}
+use Rattle.isdb_mmt.specs.Formats.Location.{sized, urlOf, locationOf, packetId}
+use Rattle.isdb_mmt.specs.Formats.Ntp.{ntpToUnix}
+use Rattle.isdb_mmt.specs.Formats.Timestamp.{timestampAt, mpuAt, mpusFrom, mpusWhole, extendedOf, unitStep}
+use Rattle.isdb_mmt.specs.Formats.Desc.{lengthWidth, stepAt, splitFrom, splitOf, counted, streamIdentifier, descriptorOf, isOther, firstOf, serviceAt, genreAt}
 use Rattle.isdb_mmt.specs.declared.maybe.MaybeU16.the-variants.{None as noU16, Some as someU16}
 use Rattle.isdb_mmt.specs.declared.maybe.MaybeU32.the-variants.{None as noU32}
 use Rattle.isdb_mmt.specs.declared.location.Location.the-variants.{Mpeg2Ts, Url}

@@ -6,11 +6,11 @@ use mathlib.Core.Option.{none, some}
 use mathlib.Core.List.{List, [], _∷_, _++_, map}
 use lib.ListN.{length}
 use Rattle.isdb_tlv.specs.Fields.{bytesOf}
-use Rattle.isdb_mmt.specs.Objects.{Mfu, continued, grown, effectOf}
-use Rattle.isdb_mmt.specs.Model.{opened}
-use Rattle.isdb_mmt.specs.Demand.{packetsOf, pushAll}
-use Rattle.isdb_mmt.specs.Cases.{told, left, passed, sections, needed, given, tables, asks, clearly, headOf, lastOf, unreadable, scrambledOf, payload, mediaNeeds, ab, cd}
-use Rattle.isdb_mmt.specs.ControlCases.{fragment, mptMessage, messageNeeds, nit1, nit2}
+use Rattle.isdb_mmt.specs.Decoder.Objects.{Mfu, continued, grown, effectOf}
+use Rattle.isdb_mmt.specs.Decoder.Model.{opened}
+use Rattle.isdb_mmt.specs.Books.Demand.{packetsOf, pushAll}
+use Rattle.isdb_mmt.specs.Examples.Cases.{told, left, passed, sections, needed, given, tables, asks, clearly, headOf, lastOf, unreadable, scrambledOf, payload, mediaNeeds, ab, cd}
+use Rattle.isdb_mmt.specs.Examples.ControlCases.{fragment, mptMessage, messageNeeds, nit1, nit2}
 use Rattle.isdb_mmt.specs.declared.mpu.FragmentationIndicator.the-variants.{Middle, Last}
 
 -- behind 4,294,967,295 comes 0: a head there and its last at 0 are one object

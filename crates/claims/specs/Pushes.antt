@@ -3,11 +3,11 @@ use Prim.Native.Nat.{ℕ, _+_}
 use mathlib.Core.Path.{_≡_, refl}
 use mathlib.Core.List.{[], _∷_, _++_}
 use lib.ListN.{replicate}
-use Rattle.isdb_mmt.specs.Packet.{Bytes}
-use Rattle.isdb_mmt.specs.Layout.{sectionPlaces, sectionSize}
-use Rattle.isdb_mmt.specs.Cases.{completeOf, headOf, lastOf, ab, cd}
-use Rattle.isdb_mmt.specs.ControlCases.{fragment, tableMessage, nit1, nitNext}
-use Rattle.isdb_mmt.specs.PushCases.{told, rowsOf, pushedTo, behind, stateAt, objectsBy, bytes, number, blank, input, only, whole, longHead, null, bare, low4, longMpt}
+use Rattle.isdb_mmt.specs.Decoder.Packet.{Bytes}
+use Rattle.isdb_mmt.specs.Memory.Layout.{sectionPlaces, sectionSize}
+use Rattle.isdb_mmt.specs.Examples.Cases.{completeOf, headOf, lastOf, ab, cd}
+use Rattle.isdb_mmt.specs.Examples.ControlCases.{fragment, tableMessage, nit1, nitNext}
+use Rattle.isdb_mmt.specs.Examples.PushCases.{told, rowsOf, pushedTo, behind, stateAt, objectsBy, bytes, number, blank, input, only, whole, longHead, null, bare, low4, longMpt}
 
 -- decoder::push: memory of zeros is no session
 -- wrong: number 5 => number 0 (taken for one)

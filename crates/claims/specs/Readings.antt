@@ -2,12 +2,12 @@
 use mathlib.Core.Path.{_≡_, refl}
 use mathlib.Core.Bool.{false}
 use mathlib.Core.List.{[], _∷_}
-use Rattle.isdb_mmt.specs.Part.{partAt}
-use Rattle.isdb_mmt.specs.Cases.{ab}
-use Rattle.isdb_mmt.specs.ControlCases.{fragment, firstPart, tableMessage, nit1, mpt}
-use Rattle.isdb_mmt.specs.PushCases.{ntp, plt, tot}
-use Rattle.isdb_mmt.specs.Readings.{nothing, refused, these}
-use Rattle.isdb_mmt.specs.ReadingCases.{told, countersIn, timeIn, countIn, mediaFrom, controlFrom, keyFrom, mediaIn, heldIn, controlIn, sectionIn, mptIn, pltIn, totIn, assetIn, feed, timed, counted, name, media, object, control, table, asset, after, damaged, units, nits, mpts, oneUnit, onlyCounted}
+use Rattle.isdb_mmt.specs.Formats.Part.{partAt}
+use Rattle.isdb_mmt.specs.Examples.Cases.{ab}
+use Rattle.isdb_mmt.specs.Examples.ControlCases.{fragment, firstPart, tableMessage, nit1, mpt}
+use Rattle.isdb_mmt.specs.Examples.PushCases.{ntp, plt, tot}
+use Rattle.isdb_mmt.specs.Answers.Readings.{nothing, refused, these}
+use Rattle.isdb_mmt.specs.Examples.ReadingCases.{told, countersIn, timeIn, countIn, mediaFrom, controlFrom, keyFrom, mediaIn, heldIn, controlIn, sectionIn, mptIn, pltIn, totIn, assetIn, feed, timed, counted, name, media, object, control, table, asset, after, damaged, units, nits, mpts, oneUnit, onlyCounted}
 use Rattle.isdb_mmt.specs.declared.maybe.MaybeU16.the-variants.{Some as someU16}
 use Rattle.isdb_mmt.specs.declared.maybe.MaybeU32.the-variants.{None as noU32, Some as someU32}
 use Rattle.isdb_mmt.specs.declared.mpu.MaybeMfu.the-variants.{Some as someMfu}

@@ -8,19 +8,19 @@ use Rattle.isdb_tlv.specs.Fields.{bytesOf}
 use Rattle.isdb_tlv.specs.Bytes.{be}
 use Rattle.isdb_tlv.specs.Crc.{feed, feedByte, crcOf}
 use Rattle.isdb_tlv.specs.declared.ip.Address.the-variants.{V4}
-use Rattle.isdb_mmt.specs.Maps.{isSome}
-use Rattle.isdb_mmt.specs.Part.{partAt}
-use Rattle.isdb_mmt.specs.Location.{sized, locationOf}
-use Rattle.isdb_mmt.specs.Desc.{lengthWidth, stepAt, splitFrom, splitOf, broken, streamIdentifier, serviceText, shortEvent, descriptorOf, firstOf}
-use Rattle.isdb_mmt.specs.Section.{longSectionOf, entryAt, entriesFrom, entriesTold}
-use Rattle.isdb_mmt.specs.Eit.{eitBody, eitOf, eventStep}
-use Rattle.isdb_mmt.specs.Sdt.{sdtBody, sdtOf, serviceStep}
-use Rattle.isdb_mmt.specs.Bit.{bitBody, bitOf, broadcasterStep}
-use Rattle.isdb_mmt.specs.Nit.{nitBody, nitOf, streamStep, tlvStepAt, frequencyOf, wholeBody, networkName, serviceList}
-use Rattle.isdb_mmt.specs.Amt.{serviceAt, servicesWhole, amtBody, amtOf}
-use Rattle.isdb_mmt.specs.Tot.{totFields, totOf}
-use Rattle.isdb_mmt.specs.Mpt.{declaredLength, assetFields, assetAt, mptAssets, mptTable, mptOf, serviceId, firstPacketId, locationsOf, componentTag}
-use Rattle.isdb_mmt.specs.Plt.{packageAt, deliverySize, deliveryAt, deliveriesWhole, pltDeliveries, pltTable, pltOf}
+use Rattle.isdb_mmt.specs.Decoder.Maps.{isSome}
+use Rattle.isdb_mmt.specs.Formats.Part.{partAt}
+use Rattle.isdb_mmt.specs.Formats.Location.{sized, locationOf}
+use Rattle.isdb_mmt.specs.Formats.Desc.{lengthWidth, stepAt, splitFrom, splitOf, broken, streamIdentifier, serviceText, shortEvent, descriptorOf, firstOf}
+use Rattle.isdb_mmt.specs.Formats.Section.{longSectionOf, entryAt, entriesFrom, entriesTold}
+use Rattle.isdb_mmt.specs.Formats.Eit.{eitBody, eitOf, eventStep}
+use Rattle.isdb_mmt.specs.Formats.Sdt.{sdtBody, sdtOf, serviceStep}
+use Rattle.isdb_mmt.specs.Formats.Bit.{bitBody, bitOf, broadcasterStep}
+use Rattle.isdb_mmt.specs.Formats.Nit.{nitBody, nitOf, streamStep, tlvStepAt, frequencyOf, wholeBody, networkName, serviceList}
+use Rattle.isdb_mmt.specs.Formats.Amt.{serviceAt, servicesWhole, amtBody, amtOf}
+use Rattle.isdb_mmt.specs.Formats.Tot.{totFields, totOf}
+use Rattle.isdb_mmt.specs.Formats.Mpt.{declaredLength, assetFields, assetAt, mptAssets, mptTable, mptOf, serviceId, firstPacketId, locationsOf, componentTag}
+use Rattle.isdb_mmt.specs.Formats.Plt.{packageAt, deliverySize, deliveryAt, deliveriesWhole, pltDeliveries, pltTable, pltOf}
 use Rattle.isdb_mmt.specs.declared.maybe.MaybeU16.the-variants.{Some as someU16}
 use Rattle.isdb_mmt.specs.declared.maybe.MaybeU64.the-variants.{Some as someU64}
 use Rattle.isdb_mmt.specs.declared.location.Location.the-variants.{SameFlow}

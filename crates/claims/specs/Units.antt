@@ -6,9 +6,9 @@ use mathlib.Core.List.{_++_}
 use lib.ListN.{replicate}
 use Rattle.isdb_tlv.specs.Fields.{bytesOf}
 use Rattle.isdb_tlv.specs.Bytes.{be}
-use Rattle.isdb_mmt.specs.Part.{partAt}
-use Rattle.isdb_mmt.specs.Mpu.{fragmentCode, fragmentType, indicatorCode, indicator, completesOf, payloadHeader, declaredOf, unitIn, unitAt, unitStep, unitsFrom, unitsOf, counted, follows, lostFrom}
-use Rattle.isdb_mmt.specs.Message.{divisionOf, fragmentOf, aggregatedAt, paTables, contentOf, tableAt}
+use Rattle.isdb_mmt.specs.Formats.Part.{partAt}
+use Rattle.isdb_mmt.specs.Formats.Mpu.{fragmentCode, fragmentType, indicatorCode, indicator, completesOf, payloadHeader, declaredOf, unitIn, unitAt, unitStep, unitsFrom, unitsOf, counted, follows, lostFrom}
+use Rattle.isdb_mmt.specs.Formats.Message.{divisionOf, fragmentOf, aggregatedAt, paTables, contentOf, tableAt}
 use Rattle.isdb_mmt.specs.declared.maybe.MaybeU32.the-variants.{Some as someU32}
 use Rattle.isdb_mmt.specs.declared.mpu.FragmentType.the-variants.{Mfu, Reserved}
 use Rattle.isdb_mmt.specs.declared.mpu.FragmentationIndicator.the-variants.{Complete, Head, Middle, Last}

@@ -8,24 +8,24 @@ use mathlib.Core.List.{List, [], _∷_, _++_}
 use native.Mathlib.Omega.{arith}
 use lib.ListN.{length}
 use Rattle.isdb_tlv.specs.Fields.{Field, field, written}
-use Rattle.isdb_mmt.specs.Packet.{Bytes, Packet, classify, ipError, ntp, nonMmtp, media, message, control, other}
-use Rattle.isdb_mmt.specs.Reassembly.{PartialMessage}
-use Rattle.isdb_mmt.specs.Objects.{Mfu, Asset, Rec, assetAfter}
-use Rattle.isdb_mmt.specs.Kept.{Kept}
-use Rattle.isdb_mmt.specs.Model.{State, assetOf, controlOf, pushed, gives}
-use Rattle.isdb_mmt.specs.Needs.{partialLength, needs}
-use Rattle.isdb_mmt.specs.Demand.{pushAll, giveAll}
-use Rattle.isdb_mmt.specs.Layout.{mostCount}
-use Rattle.isdb_mmt.specs.Lent.{over}
-use Rattle.isdb_mmt.specs.Session.{Session, limitsOf, usedOf, countersOf, usedFields, latestFields, timeFields, countersFields, controlFields, sectionFields, mediaFields}
-use Rattle.isdb_mmt.specs.Check.{mediaIn, controlsIn, sectionsIn, lengthsOf, Sound}
-use Rattle.isdb_mmt.specs.View.{assetEntry, controlEntry, sectionEntry, viewBy, view}
-use Rattle.isdb_mmt.specs.Opening.{openedSession}
-use Rattle.isdb_mmt.specs.Octets.{Octets, Lent}
-use Rattle.isdb_mmt.specs.PlacesOf.{placeFor, tableLength, controlFor, latestFor}
-use Rattle.isdb_mmt.specs.MediaPush.{heldOver, oneMore, mediaPlaceFor, leavesAt, assetNext, mediaLeaves}
-use Rattle.isdb_mmt.specs.Leaves.{joinedIn, keptPlace, usedFor, withControl, sectionRows, withTime, withCounters, stateOfTables, bytesOver, keptOver, controlLeaves, messageIn, controlPlaceFor, messageAt, messageLeaves, packetLeaves}
-use Rattle.isdb_mmt.specs.Push.{Input, packetOf, asks, Fits, Taken, leavesAll, handed, handedAll, AllTaken, AllBytes, packetsOf, Demand2}
+use Rattle.isdb_mmt.specs.Decoder.Packet.{Bytes, Packet, classify, ipError, ntp, nonMmtp, media, message, control, other}
+use Rattle.isdb_mmt.specs.Decoder.Reassembly.{PartialMessage}
+use Rattle.isdb_mmt.specs.Decoder.Objects.{Mfu, Asset, Rec, assetAfter}
+use Rattle.isdb_mmt.specs.Decoder.Kept.{Kept}
+use Rattle.isdb_mmt.specs.Decoder.Model.{State, assetOf, controlOf, pushed, gives}
+use Rattle.isdb_mmt.specs.Decoder.Needs.{partialLength, needs}
+use Rattle.isdb_mmt.specs.Books.Demand.{pushAll, giveAll}
+use Rattle.isdb_mmt.specs.Memory.Layout.{mostCount}
+use Rattle.isdb_mmt.specs.Memory.Lent.{over}
+use Rattle.isdb_mmt.specs.Memory.Session.{Session, limitsOf, usedOf, countersOf, usedFields, latestFields, timeFields, countersFields, controlFields, sectionFields, mediaFields}
+use Rattle.isdb_mmt.specs.Memory.Check.{mediaIn, controlsIn, sectionsIn, lengthsOf, Sound}
+use Rattle.isdb_mmt.specs.Memory.View.{assetEntry, controlEntry, sectionEntry, viewBy, view}
+use Rattle.isdb_mmt.specs.Memory.Opening.{openedSession}
+use Rattle.isdb_mmt.specs.Memory.Octets.{Octets, Lent}
+use Rattle.isdb_mmt.specs.Memory.PlacesOf.{placeFor, tableLength, controlFor, latestFor}
+use Rattle.isdb_mmt.specs.Pushes.MediaPush.{heldOver, oneMore, mediaPlaceFor, leavesAt, assetNext, mediaLeaves}
+use Rattle.isdb_mmt.specs.Pushes.Leaves.{joinedIn, keptPlace, usedFor, withControl, sectionRows, withTime, withCounters, stateOfTables, bytesOver, keptOver, controlLeaves, messageIn, controlPlaceFor, messageAt, messageLeaves, packetLeaves}
+use Rattle.isdb_mmt.specs.Pushes.Push.{Input, packetOf, asks, Fits, Taken, leavesAll, handed, handedAll, AllTaken, AllBytes, packetsOf, Demand2}
 use Rattle.isdb_mmt.specs.declared.decoder.place.PlaceFor.{PlaceFor}
 use Rattle.isdb_mmt.specs.declared.decoder.place.PlaceFor.the-variants.{Own, Free, NoneFree}
 use Rattle.isdb_mmt.specs.declared.decoder.limits.Limits.{Limits}

@@ -16,7 +16,7 @@ use Rattle.isdb_tlv.proofs.Walk.{Ahead, walk-at}
 use Rattle.isdb_tlv.proofs.Numbers.{be-whole}
 use Rattle.isdb_tlv.proofs.Guards.{cond-elim}
 use Rattle.isdb_mmt.proofs.Places.{Lies}
-use Rattle.isdb_mmt.specs.Message.{prefixWidth, aggregatedAt, aggregatedItem, aggregatedFrom, tableAt, tableItem, tablesFrom}
+use Rattle.isdb_mmt.specs.Formats.Message.{prefixWidth, aggregatedAt, aggregatedItem, aggregatedFrom, tableAt, tableItem, tablesFrom}
 use Rattle.isdb_mmt.specs.declared.part.Part.{Part}
 use Rattle.isdb_mmt.specs.declared.message.MessageStep.{MessageStep}
 use Rattle.isdb_mmt.specs.declared.message.MessageStep.the-variants.{End, Malformed, Message}

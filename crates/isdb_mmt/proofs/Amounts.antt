@@ -13,19 +13,19 @@ use Rattle.isdb_tlv.specs.Bytes.{be}
 use Rattle.isdb_tlv.specs.Crc.{crcOf}
 use Rattle.isdb_tlv.specs.Walk.{Next, stop, more, turn, run, also}
 use Rattle.isdb_tlv.proofs.Guards.{cond-elim}
-use Rattle.isdb_mmt.specs.Part.{partAt, partOf}
-use Rattle.isdb_mmt.specs.Packet.{Bytes}
-use Rattle.isdb_mmt.specs.Mpu.{unitStep, item, unitsFrom, unitsOf}
-use Rattle.isdb_mmt.specs.Message.{prefixWidth, aggregatedAt, bodyPart, paTables, sectionTable, contentOf, tableAt, Aggregated, aggregatedItem, aggregatedFrom, tableItem, tablesFrom}
-use Rattle.isdb_mmt.specs.Section.{length12, longSectionOf, inSection, entriesFrom, entriesTold}
-use Rattle.isdb_mmt.specs.Eit.{eitOf, eitBody}
-use Rattle.isdb_mmt.specs.Sdt.{sdtOf, sdtBody}
-use Rattle.isdb_mmt.specs.Bit.{bitOf, bitBody}
-use Rattle.isdb_mmt.specs.Tot.{totOf, totFields}
-use Rattle.isdb_mmt.specs.Mpt.{mptOf, mptIn, mptTable as mptWhole, mptAssets, declaredLength, locationsEnd, behindLocation, assetFields, assetBehind, assetAt, assetItem, assetsFrom}
-use Rattle.isdb_mmt.specs.Location.{locationOf}
-use Rattle.isdb_mmt.specs.Reassembly.{PartialMessage, TablesFound, partsOf, tablesIn, tablesOf, tablesOfAll, messagesOf, cutOf}
-use Rattle.isdb_mmt.specs.Kept.{sectionOf, bodyRead, Body, Table, emptyTable, mptTable, pltTable, totTable, truncatedSection, aSection, otherTable, longTable, tableById, tableRead}
+use Rattle.isdb_mmt.specs.Formats.Part.{partAt, partOf}
+use Rattle.isdb_mmt.specs.Decoder.Packet.{Bytes}
+use Rattle.isdb_mmt.specs.Formats.Mpu.{unitStep, item, unitsFrom, unitsOf}
+use Rattle.isdb_mmt.specs.Formats.Message.{prefixWidth, aggregatedAt, bodyPart, paTables, sectionTable, contentOf, tableAt, Aggregated, aggregatedItem, aggregatedFrom, tableItem, tablesFrom}
+use Rattle.isdb_mmt.specs.Formats.Section.{length12, longSectionOf, inSection, entriesFrom, entriesTold}
+use Rattle.isdb_mmt.specs.Formats.Eit.{eitOf, eitBody}
+use Rattle.isdb_mmt.specs.Formats.Sdt.{sdtOf, sdtBody}
+use Rattle.isdb_mmt.specs.Formats.Bit.{bitOf, bitBody}
+use Rattle.isdb_mmt.specs.Formats.Tot.{totOf, totFields}
+use Rattle.isdb_mmt.specs.Formats.Mpt.{mptOf, mptIn, mptTable as mptWhole, mptAssets, declaredLength, locationsEnd, behindLocation, assetFields, assetBehind, assetAt, assetItem, assetsFrom}
+use Rattle.isdb_mmt.specs.Formats.Location.{locationOf}
+use Rattle.isdb_mmt.specs.Decoder.Reassembly.{PartialMessage, TablesFound, partsOf, tablesIn, tablesOf, tablesOfAll, messagesOf, cutOf}
+use Rattle.isdb_mmt.specs.Decoder.Kept.{sectionOf, bodyRead, Body, Table, emptyTable, mptTable, pltTable, totTable, truncatedSection, aSection, otherTable, longTable, tableById, tableRead}
 use Rattle.isdb_mmt.specs.declared.part.Part.{Part}
 use Rattle.isdb_mmt.specs.declared.location.Located.{Located}
 use Rattle.isdb_mmt.specs.declared.location.Located.the-variants.{None as notLocated, Some as located}
@@ -314,7 +314,7 @@ tot-breaks s =
     let P : TotParsed → Type 0 = λ x. x .breaks ≤ length s in
     let n = length12 s 1 + 3 in
     cond-elim P (ltb (length s) 3) (λ e. omega arith) (λ e.
-    cond-elim P (ltb n 14) (λ e. omega arith) (λ e1.
+    cond-elim P (ltb (length12 s 1) 11) (λ e. omega arith) (λ e1.
     cond-elim P (ltb (length s) n) (λ e. omega arith) (λ e2.
     cond-elim P (not (eqb (crcOf (take n s)) 0)) (λ e. omega arith) (λ e3.
     cond-elim P (ltb (length (take n s)) (length12 (take n s) 8 + 10)) (λ e. omega arith) (λ e4.

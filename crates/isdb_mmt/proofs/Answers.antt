@@ -10,12 +10,12 @@ use lib.ListN.{length}
 use borrow.Author.Tests.{lt-ltb, le-ltb, eq-eqb, ne-eqb}
 use Rattle.isdb_tlv.specs.Bytes.{be}
 use Rattle.isdb_tlv.specs.Fields.{written}
-use Rattle.isdb_mmt.specs.Maps.{one}
-use Rattle.isdb_mmt.specs.Layout.{mostMediaIds, countersPlace, mediaPlaces, mediaSize, stateSize}
-use Rattle.isdb_mmt.specs.Lent.{over}
-use Rattle.isdb_mmt.specs.Session.{usedOf, countersOf, mediaFields, mediaAt}
-use Rattle.isdb_mmt.specs.MediaPush.{oneMore, withUsed, withPackets}
-use Rattle.isdb_mmt.specs.MediaCommit.{CanTakePlace, blank, placeIn, indexOf, passesOn, fitsNumber, numberOf, refused, accepted, answerBy, answerOf, Small, stateAfter, CanStore}
+use Rattle.isdb_mmt.specs.Decoder.Maps.{one}
+use Rattle.isdb_mmt.specs.Memory.Layout.{mostMediaIds, countersPlace, mediaPlaces, mediaSize, stateSize}
+use Rattle.isdb_mmt.specs.Memory.Lent.{over}
+use Rattle.isdb_mmt.specs.Memory.Session.{usedOf, countersOf, mediaFields, mediaAt}
+use Rattle.isdb_mmt.specs.Pushes.MediaPush.{oneMore, withUsed, withPackets}
+use Rattle.isdb_mmt.specs.Pushes.MediaCommit.{CanTakePlace, blank, placeIn, indexOf, passesOn, fitsNumber, numberOf, refused, accepted, answerBy, answerOf, Small, stateAfter, CanStore}
 use Rattle.isdb_mmt.specs.declared.decoder.place.PlaceFor.{PlaceFor}
 use Rattle.isdb_mmt.specs.declared.decoder.place.PlaceFor.the-variants.{Own, Free, NoneFree}
 use Rattle.isdb_mmt.specs.declared.decoder.head.Used.{Used}

@@ -8,13 +8,13 @@ use native.Mathlib.Omega.{arith}
 use mir.Val.{Fits}
 use mir.Syntax.{w64}
 use lib.ListN.{length, length-append}
-use Rattle.isdb_mmt.specs.Part.{partOf}
-use Rattle.isdb_mmt.specs.Packet.{Bytes}
-use Rattle.isdb_mmt.specs.Maps.{isSome}
+use Rattle.isdb_mmt.specs.Formats.Part.{partOf}
+use Rattle.isdb_mmt.specs.Decoder.Packet.{Bytes}
+use Rattle.isdb_mmt.specs.Decoder.Maps.{isSome}
 use Rattle.isdb_tlv.specs.Walk.{also}
-use Rattle.isdb_mmt.specs.Mpu.{unitStep, unitsFrom, unitsOf}
-use Rattle.isdb_mmt.specs.Lent.{over}
-use Rattle.isdb_mmt.specs.MediaCommit.{dataIn, unitsData, CanAppend}
+use Rattle.isdb_mmt.specs.Formats.Mpu.{unitStep, unitsFrom, unitsOf}
+use Rattle.isdb_mmt.specs.Memory.Lent.{over}
+use Rattle.isdb_mmt.specs.Pushes.MediaCommit.{dataIn, unitsData, CanAppend}
 use Rattle.isdb_mmt.specs.declared.mpu.Unit.{Unit as DataUnit}
 use Rattle.isdb_mmt.specs.declared.mpu.UnitStep.{UnitStep}
 use Rattle.isdb_mmt.specs.declared.mpu.UnitStep.the-variants.{End, Malformed as notWhole, Unit as found}

@@ -16,9 +16,9 @@ use borrow.Author.Tests.{lt-ltb, le-ltb, ltb-true, ltb-false, eqb-true, eqb-fals
 use Rattle.isdb_tlv.specs.Fields.{written, Fit}
 use Rattle.isdb_tlv.proofs.Fields.{length-written}
 use Rattle.isdb_tlv.proofs.Guards.{either}
-use Rattle.isdb_mmt.specs.Lent.{part, over, placesFrom}
-use Rattle.isdb_mmt.specs.Layout.{mostSections, tableIds, sectionSize}
-use Rattle.isdb_mmt.specs.Session.{sectionPlaceOf, sectionFields}
+use Rattle.isdb_mmt.specs.Memory.Lent.{part, over, placesFrom}
+use Rattle.isdb_mmt.specs.Memory.Layout.{mostSections, tableIds, sectionSize}
+use Rattle.isdb_mmt.specs.Memory.Session.{sectionPlaceOf, sectionFields}
 use Rattle.isdb_mmt.specs.declared.decoder.section.KeptSection.{KeptSection}
 use Rattle.isdb_mmt.proofs.Lent.{part-over, places-apart}
 use Rattle.isdb_mmt.proofs.Names.{true-not-false}
@@ -29,8 +29,8 @@ use Rattle.isdb_mmt.specs.declared.decoder.table_outcome.TableAction.{Ta
 use Rattle.isdb_mmt.specs.declared.decoder.table_outcome.TableAction.the-variants.{Nothing, Other, Mpt, Plt, Tot, Put}
 use Rattle.isdb_mmt.specs.declared.decoder.table_outcome.TableOutcome.{TableOutcome}
 use Rattle.isdb_mmt.specs.declared.decoder.walk.WalkState.{WalkState}
-use Rattle.isdb_mmt.specs.TableOutcome.{indexSize, indexOf}
-use Rattle.isdb_mmt.specs.PendingTables.{mostAdded, mostBefore, Logged, logged, withLog, placesOf, PendingTables, pendingOf, recent, putAt, indexAfter, othersAfter, mptAfter, pltAfter, totAfter, keptLength, pendingAfter, Room, PutWithin, CanApply, CanCount, countedBy, keptWith, filled, usedWith, WalkedTo, Applied}
+use Rattle.isdb_mmt.specs.Pushes.TableOutcome.{indexSize, indexOf}
+use Rattle.isdb_mmt.specs.Pushes.PendingTables.{mostAdded, mostBefore, Logged, logged, withLog, placesOf, PendingTables, pendingOf, recent, putAt, indexAfter, othersAfter, mptAfter, pltAfter, totAfter, keptLength, pendingAfter, Room, PutWithin, CanApply, CanCount, countedBy, keptWith, filled, usedWith, WalkedTo, Applied}
 use Rattle.isdb_mmt.proofs.TableOutcomes.{length-index}
 
 -- ---- an index with its log

@@ -6,9 +6,9 @@ use mathlib.Core.List.{List, _++_}
 use native.Mathlib.Omega.{arith}
 use lib.ListN.{length, drop, take-append-drop, length-drop}
 use lib.Seq.{length-take-le}
-use Rattle.isdb_mmt.specs.Objects.{Mfu, grown}
-use Rattle.isdb_mmt.specs.Lent.{part, over}
-use Rattle.isdb_mmt.specs.MediaPush.{heldOver}
+use Rattle.isdb_mmt.specs.Decoder.Objects.{Mfu, grown}
+use Rattle.isdb_mmt.specs.Memory.Lent.{part, over}
+use Rattle.isdb_mmt.specs.Pushes.MediaPush.{heldOver}
 use Rattle.isdb_mmt.proofs.Lent.{over-next}
 
 pub length-part : (at n : ℕ) (l : List ℕ) → at + n ≤ length l → length (part at n l) ≡ n

@@ -7,18 +7,18 @@ use native.Mathlib.Omega.{arith}
 use lib.Dec.{ltb}
 use lib.ListN.{length, length-append, length-set}
 use borrow.Author.Tests.{le-ltb, lt-ltb}
-use Rattle.isdb_mmt.specs.Packet.{MpuPacket, media, readable}
-use Rattle.isdb_mmt.specs.Maps.{put}
-use Rattle.isdb_mmt.specs.Objects.{Asset, Rec, passes, tagged, afterHeaders, deliveredBy, mediaGives, assetAfter}
-use Rattle.isdb_mmt.specs.Model.{assetOf, pushed, gives}
-use Rattle.isdb_mmt.specs.Needs.{dataOf, needs}
-use Rattle.isdb_mmt.specs.Lent.{foundFrom, namesFrom}
-use Rattle.isdb_mmt.specs.Layout.{mediaPlaces, mediaSize}
-use Rattle.isdb_mmt.specs.Records.{rowSize}
-use Rattle.isdb_mmt.specs.Session.{Session, limitsOf, usedOf}
-use Rattle.isdb_mmt.specs.Check.{lengthsOf, Sound}
-use Rattle.isdb_mmt.specs.View.{view, viewBy}
-use Rattle.isdb_mmt.specs.MediaPush.{mediaPlaceFor, mediaAsks}
+use Rattle.isdb_mmt.specs.Decoder.Packet.{MpuPacket, media, readable}
+use Rattle.isdb_mmt.specs.Decoder.Maps.{put}
+use Rattle.isdb_mmt.specs.Decoder.Objects.{Asset, Rec, passes, tagged, afterHeaders, deliveredBy, mediaGives, assetAfter}
+use Rattle.isdb_mmt.specs.Decoder.Model.{assetOf, pushed, gives}
+use Rattle.isdb_mmt.specs.Decoder.Needs.{dataOf, needs}
+use Rattle.isdb_mmt.specs.Memory.Lent.{foundFrom, namesFrom}
+use Rattle.isdb_mmt.specs.Memory.Layout.{mediaPlaces, mediaSize}
+use Rattle.isdb_mmt.specs.Pushes.Records.{rowSize}
+use Rattle.isdb_mmt.specs.Memory.Session.{Session, limitsOf, usedOf}
+use Rattle.isdb_mmt.specs.Memory.Check.{lengthsOf, Sound}
+use Rattle.isdb_mmt.specs.Memory.View.{view, viewBy}
+use Rattle.isdb_mmt.specs.Pushes.MediaPush.{mediaPlaceFor, mediaAsks}
 use Rattle.isdb_mmt.specs.declared.decoder.place.PlaceFor.the-variants.{Own, Free, NoneFree}
 use Rattle.isdb_mmt.specs.declared.decoder.reassembler.MediaEffect.{MediaEffect}
 use Rattle.isdb_mmt.proofs.Lent.{length-names}

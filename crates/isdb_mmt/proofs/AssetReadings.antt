@@ -10,16 +10,16 @@ use lib.ListN.{length}
 use borrow.Author.Tests.{not-true, not-false, ltb-false, lt-ltb}
 use Rattle.isdb_tlv.specs.Guards.{_=?_}
 use Rattle.isdb_tlv.proofs.Guards.{either}
-use Rattle.isdb_mmt.specs.Packet.{Bytes}
-use Rattle.isdb_mmt.specs.Part.{partOf}
-use Rattle.isdb_mmt.specs.Layout.{controlPlaces, controlSize}
-use Rattle.isdb_mmt.specs.Lent.{namesFrom}
-use Rattle.isdb_mmt.specs.Session.{Session, usedOf}
-use Rattle.isdb_mmt.specs.Check.{sound}
-use Rattle.isdb_mmt.specs.Opening.{lent}
-use Rattle.isdb_mmt.specs.Mpt.{mptOf, serviceId, locationsOf, firstPacketId, assetAt, assetsFrom}
-use Rattle.isdb_mmt.specs.Readings.{carried, leastFrom, mostName, ascendingFrom, ascending, controlNames, controlFound, mptPart, isThis, firstCarried, assetIn, assetIf, assetAmong, assetRead}
-use Rattle.isdb_mmt.specs.KeptParts.{partGiven, assetGiven, stateOnly, stateAndTables, AllInUse}
+use Rattle.isdb_mmt.specs.Decoder.Packet.{Bytes}
+use Rattle.isdb_mmt.specs.Formats.Part.{partOf}
+use Rattle.isdb_mmt.specs.Memory.Layout.{controlPlaces, controlSize}
+use Rattle.isdb_mmt.specs.Memory.Lent.{namesFrom}
+use Rattle.isdb_mmt.specs.Memory.Session.{Session, usedOf}
+use Rattle.isdb_mmt.specs.Memory.Check.{sound}
+use Rattle.isdb_mmt.specs.Memory.Opening.{lent}
+use Rattle.isdb_mmt.specs.Formats.Mpt.{mptOf, serviceId, locationsOf, firstPacketId, assetAt, assetsFrom}
+use Rattle.isdb_mmt.specs.Answers.Readings.{carried, leastFrom, mostName, ascendingFrom, ascending, controlNames, controlFound, mptPart, isThis, firstCarried, assetIn, assetIf, assetAmong, assetRead}
+use Rattle.isdb_mmt.specs.Answers.KeptParts.{partGiven, assetGiven, stateOnly, stateAndTables, AllInUse}
 use Rattle.isdb_mmt.specs.declared.part.Part.{Part}
 use Rattle.isdb_mmt.specs.declared.maybe.MaybeU16.{MaybeU16}
 use Rattle.isdb_mmt.specs.declared.maybe.MaybeU16.the-variants.{Some as someU16}

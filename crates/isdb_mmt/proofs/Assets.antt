@@ -14,10 +14,10 @@ use Rattle.isdb_tlv.proofs.Walk.{run-stop, run-more}
 use Rattle.isdb_mmt.proofs.desc.Descriptor.{the-type}
 use Rattle.isdb_mmt.proofs.Entries.{broken-le}
 use Rattle.isdb_mmt.proofs.Locations.{Takes, takes}
-use Rattle.isdb_mmt.specs.Location.{locationOf, packetId}
-use Rattle.isdb_mmt.specs.Part.{partOf}
-use Rattle.isdb_mmt.specs.Desc.{broken, Loop, ended, alsoDescribed}
-use Rattle.isdb_mmt.specs.Mpt.{behindLocation, locationsEnd, locationItem, locationsOf, firstPacketId, assetAt, assetItem, assetsFrom, loopTold, assetsTold, tagOf}
+use Rattle.isdb_mmt.specs.Formats.Location.{locationOf, packetId}
+use Rattle.isdb_mmt.specs.Formats.Part.{partOf}
+use Rattle.isdb_mmt.specs.Formats.Desc.{broken, Loop, ended, alsoDescribed}
+use Rattle.isdb_mmt.specs.Formats.Mpt.{behindLocation, locationsEnd, locationItem, locationsOf, firstPacketId, assetAt, assetItem, assetsFrom, loopTold, assetsTold, tagOf}
 use Rattle.isdb_mmt.specs.declared.maybe.MaybeU16.the-variants.{None as noU16, Some as someU16}
 use Rattle.isdb_mmt.specs.declared.location.Location.{Location}
 use Rattle.isdb_mmt.specs.declared.location.Located.{Located}

@@ -9,12 +9,12 @@ use mathlib.Core.List.{List, [], _∷_, _++_, append-nil, append-assoc}
 use lib.ListN.{length, length-append}
 use lib.Dec.{eqb, leb, leb→le, eqb→eq}
 use Rattle.isdb_mmt.proofs.Run.{at, run-written}
-use Rattle.isdb_mmt.specs.Packet.{Bytes, PayloadUnit, Packet, ipError, ntp, nonMmtp, media, message, control, other, readable}
-use Rattle.isdb_mmt.specs.Maps.{find, orElse}
-use Rattle.isdb_mmt.specs.Objects.{fresh}
-use Rattle.isdb_mmt.specs.Model.{opened, assetOf}
-use Rattle.isdb_mmt.specs.Book.{LogEntry, packetNumber, unitReceived, unitsReceived, logEntries, receptionLog, Book, nothing, dropCounted, inOrder, missing, continuedBy, entered, enteredAll, book, follower, limit, isHeld, begins, begunIn, begunBy, begun, deliveredOf, Unbroken, joined, whole, divided, MadeOf, done, skip, object}
-use Rattle.isdb_mmt.specs.Demand.{pushAll, giveAll, heldBytes, heldOf, droppedOf, lostOf, AllSmall, EverySmall, Bounded, OfId}
+use Rattle.isdb_mmt.specs.Decoder.Packet.{Bytes, PayloadUnit, Packet, ipError, ntp, nonMmtp, media, message, control, other, readable}
+use Rattle.isdb_mmt.specs.Decoder.Maps.{find, orElse}
+use Rattle.isdb_mmt.specs.Decoder.Objects.{fresh}
+use Rattle.isdb_mmt.specs.Decoder.Model.{opened, assetOf}
+use Rattle.isdb_mmt.specs.Books.Book.{LogEntry, packetNumber, unitReceived, unitsReceived, logEntries, receptionLog, Book, nothing, dropCounted, inOrder, missing, continuedBy, entered, enteredAll, book, follower, limit, isHeld, begins, begunIn, begunBy, begun, deliveredOf, Unbroken, joined, whole, divided, MadeOf, done, skip, object}
+use Rattle.isdb_mmt.specs.Books.Demand.{pushAll, giveAll, heldBytes, heldOf, droppedOf, lostOf, AllSmall, EverySmall, Bounded, OfId}
 use Rattle.isdb_mmt.specs.declared.mpu.FragmentationIndicator.the-variants.{Complete, Head, Middle, Last}
 
 -- ---- the balance

@@ -11,15 +11,15 @@ use Rattle.isdb_tlv.specs.Guards.{_<?_, _≤?_, _=?_, _≠?_}
 use Rattle.isdb_tlv.specs.Bytes.{be}
 use Rattle.isdb_tlv.specs.Crc.{crcOf}
 use Rattle.isdb_tlv.proofs.Guards.{cond-elim}
-use Rattle.isdb_mmt.specs.Part.{partAt, partOf}
-use Rattle.isdb_mmt.specs.Packet.{Bytes}
-use Rattle.isdb_mmt.specs.Maps.{one}
-use Rattle.isdb_mmt.specs.Desc.{broken}
-use Rattle.isdb_mmt.specs.Lent.{foundFrom}
-use Rattle.isdb_mmt.specs.Section.{length12}
-use Rattle.isdb_mmt.specs.Kept.{Section, sectionOf, bodyRead, Table, emptyTable, mptTable, pltTable, totTable, truncatedSection, aSection, otherTable, longTable, tableById, tableRead}
-use Rattle.isdb_mmt.specs.Tot.{totOf, totFields}
-use Rattle.isdb_mmt.specs.Mpt.{mptOf, mptIn, mptAssets, declaredLength, assetsTold, mptTable as mptRead}
+use Rattle.isdb_mmt.specs.Formats.Part.{partAt, partOf}
+use Rattle.isdb_mmt.specs.Decoder.Packet.{Bytes}
+use Rattle.isdb_mmt.specs.Decoder.Maps.{one}
+use Rattle.isdb_mmt.specs.Formats.Desc.{broken}
+use Rattle.isdb_mmt.specs.Memory.Lent.{foundFrom}
+use Rattle.isdb_mmt.specs.Formats.Section.{length12}
+use Rattle.isdb_mmt.specs.Decoder.Kept.{Section, sectionOf, bodyRead, Table, emptyTable, mptTable, pltTable, totTable, truncatedSection, aSection, otherTable, longTable, tableById, tableRead}
+use Rattle.isdb_mmt.specs.Formats.Tot.{totOf, totFields}
+use Rattle.isdb_mmt.specs.Formats.Mpt.{mptOf, mptIn, mptAssets, declaredLength, assetsTold, mptTable as mptRead}
 use Rattle.isdb_mmt.specs.declared.table.tot.TotParsed.{TotParsed}
 use Rattle.isdb_mmt.specs.declared.table.mpt.MptParsed.{MptParsed}
 use Rattle.isdb_mmt.specs.declared.maybe.MaybeUsize.{MaybeUsize}
@@ -32,9 +32,9 @@ use Rattle.isdb_mmt.proofs.Entries.{broken-le}
 use Rattle.isdb_mmt.proofs.Assets.{breaks-le as assets-le}
 use Rattle.isdb_mmt.specs.declared.decoder.table_outcome.Recent.{Recent}
 use Rattle.isdb_mmt.specs.declared.decoder.table_outcome.TableOutcome.{TableOutcome}
-use Rattle.isdb_mmt.specs.TableOutcome.{keysOf, noSection, bodyOutcome, versionOutcome, sectionOutcome, tableOutcome, changesTo}
-use Rattle.isdb_mmt.specs.PendingTables.{mostAdded, Small, sectionRead}
-use Rattle.isdb_mmt.specs.Layout.{mostMessageArea}
+use Rattle.isdb_mmt.specs.Pushes.TableOutcome.{keysOf, noSection, bodyOutcome, versionOutcome, sectionOutcome, tableOutcome, changesTo}
+use Rattle.isdb_mmt.specs.Pushes.PendingTables.{mostAdded, Small, sectionRead}
+use Rattle.isdb_mmt.specs.Memory.Layout.{mostMessageArea}
 use Rattle.isdb_mmt.proofs.TableOutcomes.{found-within}
 
 module _ (b : Bytes) where
@@ -45,7 +45,7 @@ module _ (b : Bytes) where
   unfolding totOf totFields
   tot-breaks =
       cond-elim (λ (r : TotParsed). r .breaks ≤ 1) (length b <? 3) (λ e. omega arith) (λ e0.
-      cond-elim (λ (r : TotParsed). r .breaks ≤ 1) (length12 b 1 + 3 <? 14) (λ e. omega arith) (λ e1.
+      cond-elim (λ (r : TotParsed). r .breaks ≤ 1) (length12 b 1 <? 11) (λ e. omega arith) (λ e1.
       cond-elim (λ (r : TotParsed). r .breaks ≤ 1) (length b <? length12 b 1 + 3) (λ e. omega arith) (λ e2.
       cond-elim (λ (r : TotParsed). r .breaks ≤ 1) (crcOf (take (length12 b 1 + 3) b) ≠? 0) (λ e. omega arith) (λ e3.
       let s : Bytes = take (length12 b 1 + 3) b in

@@ -32,19 +32,19 @@ use Rattle.isdb_tlv.specs.declared.mmtp.Header.{Header}
 use Rattle.isdb_tlv.specs.declared.mmtp.Parsed.{Parsed}
 use Rattle.isdb_tlv.specs.declared.mmtp.Parsed.the-variants.{None as notMmtp, Some as someMmtp}
 use Rattle.isdb_tlv.proofs.Guards.{cond-elim, either}
-use Rattle.isdb_mmt.specs.Mpu.{payloadHeader, declaredOf, unitsOf}
+use Rattle.isdb_mmt.specs.Formats.Mpu.{payloadHeader, declaredOf, unitsOf}
 use Rattle.isdb_mmt.specs.declared.mpu.FragmentType.{FragmentType}
 use Rattle.isdb_mmt.specs.declared.mpu.FragmentType.the-variants.{MpuMetadata, MovieFragmentMetadata, Mfu, Reserved as reservedType}
 use Rattle.isdb_mmt.specs.declared.mpu.PayloadHeader.{PayloadHeader}
 use Rattle.isdb_mmt.specs.declared.mpu.Unit.{Unit as DataUnit}
-use Rattle.isdb_mmt.specs.Packet.{Bytes, Packet, ipError, nonMmtp, media, message, control, other, ntp, headerIn, payloadUnit, payloadUnits, unitsFor, unitsRead, mediaOf, byType, mmtpIn, toPort, inFlow, datagramIn, byKind, classify, clear, readable}
+use Rattle.isdb_mmt.specs.Decoder.Packet.{Bytes, Packet, ipError, nonMmtp, media, message, control, other, ntp, headerIn, payloadUnit, payloadUnits, unitsFor, unitsRead, mediaOf, byType, mmtpIn, toPort, inFlow, datagramIn, byKind, classify, clear, readable}
 use Rattle.isdb_tlv.specs.Fields.{Field, bytesOf, written}
-use Rattle.isdb_mmt.specs.Lent.{over}
-use Rattle.isdb_mmt.specs.Session.{Session, limitsFields}
-use Rattle.isdb_mmt.specs.Opening.{openedState, openedSession}
+use Rattle.isdb_mmt.specs.Memory.Lent.{over}
+use Rattle.isdb_mmt.specs.Memory.Session.{Session, limitsFields}
+use Rattle.isdb_mmt.specs.Memory.Opening.{openedState, openedSession}
 use Rattle.isdb_mmt.specs.declared.decoder.limits.Limits.{Limits}
-use Rattle.isdb_mmt.specs.Layout.{usedPlace, stateSize}
-use Rattle.isdb_mmt.specs.Octets.{Octets, Lent}
+use Rattle.isdb_mmt.specs.Memory.Layout.{usedPlace, stateSize}
+use Rattle.isdb_mmt.specs.Memory.Octets.{Octets, Lent}
 use Rattle.isdb_mmt.proofs.Amounts.{Grows, grows-within, units-le, unitCount, total}
 
 -- ---- bytes

@@ -9,7 +9,7 @@ use lib.Seq.{take-at, drop-at}
 use Rattle.isdb_tlv.specs.Bytes.{be}
 use Rattle.isdb_tlv.specs.Fields.{Field, field, written, Fit}
 use Rattle.isdb_tlv.proofs.Fields.{be-one, be-behind, be-high, fieldAt, offsetOf, read}
-use Rattle.isdb_mmt.specs.Part.{partAt, partOf}
+use Rattle.isdb_mmt.specs.Formats.Part.{partAt, partOf}
 
 -- the bytes `b` stand at `at` in `s`
 pub record FoundAt (s : List ℕ) (at : ℕ) (b : List ℕ) : Type 0 where

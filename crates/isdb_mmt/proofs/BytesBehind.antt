@@ -11,20 +11,20 @@ use borrow.Author.Tests.{ltb-false, leb-true, leb-false, le-ltb, lt-leb}
 use Rattle.isdb_tlv.specs.Bytes.{be}
 use Rattle.isdb_tlv.proofs.Guards.{cond-elim, either}
 use Rattle.isdb_tlv.proofs.Fields.{be-before}
-use Rattle.isdb_mmt.specs.Part.{partAt, partOf}
-use Rattle.isdb_mmt.specs.Location.{sized, urlOf, ipv4At, ipv6At, locationOf}
+use Rattle.isdb_mmt.specs.Formats.Part.{partAt, partOf}
+use Rattle.isdb_mmt.specs.Formats.Location.{sized, urlOf, ipv4At, ipv6At, locationOf}
 use Rattle.isdb_tlv.specs.Walk.{turn}
-use Rattle.isdb_mmt.specs.Steps.{Stood, atEnd, malformed, element, required, counted, Gives, Counts}
-use Rattle.isdb_mmt.specs.WholeDescriptors.{wholeLocation, urlIn, locationTold, locationSeen, loopIn}
-use Rattle.isdb_mmt.specs.WholeParts.{Lies, UrlLies, LocatedLies, AssetLies}
-use Rattle.isdb_mmt.specs.Mpt.{behindLocation, locationsEnd, assetFields, assetBehind, assetAt, mptOf}
-use Rattle.isdb_mmt.specs.Plt.{packageIn, packageAt, deliverySize, deliveryBehind, deliveryAt}
-use Rattle.isdb_mmt.specs.Tot.{totOf}
-use Rattle.isdb_mmt.specs.Section.{length12}
-use Rattle.isdb_mmt.specs.Kept.{declaredTable, declaredSection}
-use Rattle.isdb_mmt.specs.Whole.{wholeAsset, assetTold, assetSeen, wholeMpt, packageTold, packageSeen, deliveryTold, deliverySeen, wholePlt}
-use Rattle.isdb_mmt.specs.WholeSections.{wholeTot}
-use Rattle.isdb_mmt.specs.Walks.{AssetsWalk, LocationsWalk, PltWalks, BehindTheorem}
+use Rattle.isdb_mmt.specs.WholeValues.Steps.{Stood, atEnd, malformed, element, required, counted, Gives, Counts}
+use Rattle.isdb_mmt.specs.WholeValues.WholeDescriptors.{wholeLocation, urlIn, locationTold, locationSeen, loopIn}
+use Rattle.isdb_mmt.specs.WholeValues.WholeParts.{Lies, UrlLies, LocatedLies, AssetLies}
+use Rattle.isdb_mmt.specs.Formats.Mpt.{behindLocation, locationsEnd, assetFields, assetBehind, assetAt, mptOf}
+use Rattle.isdb_mmt.specs.Formats.Plt.{packageIn, packageAt, deliverySize, deliveryBehind, deliveryAt}
+use Rattle.isdb_mmt.specs.Formats.Tot.{totOf}
+use Rattle.isdb_mmt.specs.Formats.Section.{length12}
+use Rattle.isdb_mmt.specs.Decoder.Kept.{declaredTable, declaredSection}
+use Rattle.isdb_mmt.specs.WholeValues.Whole.{wholeAsset, assetTold, assetSeen, wholeMpt, packageTold, packageSeen, deliveryTold, deliverySeen, wholePlt}
+use Rattle.isdb_mmt.specs.WholeValues.WholeSections.{wholeTot}
+use Rattle.isdb_mmt.specs.WholeValues.Walks.{AssetsWalk, LocationsWalk, PltWalks, BehindTheorem}
 use Rattle.isdb_mmt.specs.declared.part.Part.{Part}
 use Rattle.isdb_mmt.specs.declared.maybe.MaybeUsize.{MaybeUsize}
 use Rattle.isdb_mmt.specs.declared.maybe.MaybeUsize.the-variants.{None as nowhere, Some as At}

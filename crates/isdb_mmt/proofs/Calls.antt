@@ -10,29 +10,29 @@ use lib.ListN.{length}
 use lib.Dec.{eqb}
 use borrow.Author.Tests.{eqb-true, eqb-false}
 use Rattle.isdb_tlv.proofs.Guards.{either}
-use Rattle.isdb_mmt.specs.Packet.{Bytes, Packet}
-use Rattle.isdb_mmt.specs.Maps.{find}
-use Rattle.isdb_mmt.specs.Objects.{Rec}
-use Rattle.isdb_mmt.specs.Kept.{Kept, Section}
-use Rattle.isdb_mmt.specs.Lent.{placesFrom}
-use Rattle.isdb_mmt.specs.Model.{opened, pushed, gives}
-use Rattle.isdb_mmt.specs.Book.{wellFormed}
-use Rattle.isdb_mmt.specs.Demand.{pushAll, giveAll, EverySmall, Keeps, never, keeps, Holds}
-use Rattle.isdb_mmt.specs.Limits.{asked}
-use Rattle.isdb_mmt.specs.Layout.{mediaPlaces, mediaSize, controlPlaces, controlSize, sectionPlaces, sectionSize}
-use Rattle.isdb_mmt.specs.Session.{Session, limitsOf, usedOf, countersOf, timeOf, mediaAt, mediaPlaceOf, controlPlaceOf, sectionPlaceOf}
-use Rattle.isdb_mmt.specs.Check.{mediaIn, controlsIn, sectionsIn, lengthsOf, sound}
-use Rattle.isdb_mmt.specs.View.{assetEntry, controlEntry, sectionEntry, viewBy, view}
-use Rattle.isdb_mmt.specs.Opening.{openedSession}
-use Rattle.isdb_mmt.specs.Octets.{Octets, Lent}
-use Rattle.isdb_mmt.specs.Records.{readRows}
-use Rattle.isdb_mmt.specs.Leaves.{packetLeaves}
+use Rattle.isdb_mmt.specs.Decoder.Packet.{Bytes, Packet}
+use Rattle.isdb_mmt.specs.Decoder.Maps.{find}
+use Rattle.isdb_mmt.specs.Decoder.Objects.{Rec}
+use Rattle.isdb_mmt.specs.Decoder.Kept.{Kept, Section}
+use Rattle.isdb_mmt.specs.Memory.Lent.{placesFrom}
+use Rattle.isdb_mmt.specs.Decoder.Model.{opened, pushed, gives}
+use Rattle.isdb_mmt.specs.Books.Book.{wellFormed}
+use Rattle.isdb_mmt.specs.Books.Demand.{pushAll, giveAll, EverySmall, Keeps, never, keeps, Holds}
+use Rattle.isdb_mmt.specs.Memory.Limits.{asked}
+use Rattle.isdb_mmt.specs.Memory.Layout.{mediaPlaces, mediaSize, controlPlaces, controlSize, sectionPlaces, sectionSize}
+use Rattle.isdb_mmt.specs.Memory.Session.{Session, limitsOf, usedOf, countersOf, timeOf, mediaAt, mediaPlaceOf, controlPlaceOf, sectionPlaceOf}
+use Rattle.isdb_mmt.specs.Memory.Check.{mediaIn, controlsIn, sectionsIn, lengthsOf, sound}
+use Rattle.isdb_mmt.specs.Memory.View.{assetEntry, controlEntry, sectionEntry, viewBy, view}
+use Rattle.isdb_mmt.specs.Memory.Opening.{openedSession}
+use Rattle.isdb_mmt.specs.Memory.Octets.{Octets, Lent}
+use Rattle.isdb_mmt.specs.Pushes.Records.{readRows}
+use Rattle.isdb_mmt.specs.Pushes.Leaves.{packetLeaves}
 use Rattle.isdb_tlv.specs.Guards.{_<?_, _≤?_}
-use Rattle.isdb_mmt.specs.Needs.{needs}
-use Rattle.isdb_mmt.specs.Push.{Input, packetOf, mostBytes, hasPlaces, hasAreas, hasOutputs, asksOf, asks, Taken, handed as handedBy}
-use Rattle.isdb_mmt.specs.Readings.{mediaFound, controlFound, countersRead, timeRead, timeAt, countRead, mediaNames, controlNames, keysIn, leastFrom, mostName, nameTold, nextMediaRead, nextControlRead, nextKeyRead, mediaIf, mediaRead, heldAt, heldIf, heldRead, controlIf, controlRead, sectionRead, mptRead, pltRead, totRead, assetRead, timeNumber, nameNumber, mediaNumber, heldNumber, controlNumber, tableNumber, assetNumber, Told, refused, nothing, these, toldBy}
-use Rattle.isdb_mmt.specs.TableReadingLaws.{sectionBytes, mptBytes, handsOut, AsKept}
-use Rattle.isdb_mmt.specs.Calls.{keptIn, droppedIn, lostIn, heldIn, Reading, counters, time, count, nextMedia, nextControl, nextKey, mediaOf, held, controlOf, mpt, plt, tot, section, assetOf, readingNumber, Call, push, read, after, pushes, accepted, handed, AllBytes, leavesOf, replyOf, decoder, PushDetermined, Tells, none-kept, kept, After, Demand3, AllAsModel, AnswersAsModel}
+use Rattle.isdb_mmt.specs.Decoder.Needs.{needs}
+use Rattle.isdb_mmt.specs.Pushes.Push.{Input, packetOf, mostBytes, hasPlaces, hasAreas, hasOutputs, asksOf, asks, Taken, handed as handedBy}
+use Rattle.isdb_mmt.specs.Answers.Readings.{mediaFound, controlFound, countersRead, timeRead, timeAt, countRead, mediaNames, controlNames, keysIn, leastFrom, mostName, nameTold, nextMediaRead, nextControlRead, nextKeyRead, mediaIf, mediaRead, heldAt, heldIf, heldRead, controlIf, controlRead, sectionRead, mptRead, pltRead, totRead, assetRead, timeNumber, nameNumber, mediaNumber, heldNumber, controlNumber, tableNumber, assetNumber, Told, refused, nothing, these, toldBy}
+use Rattle.isdb_mmt.specs.Answers.TableReadingLaws.{sectionBytes, mptBytes, handsOut, AsKept}
+use Rattle.isdb_mmt.specs.Theorems.Calls.{keptIn, droppedIn, lostIn, heldIn, Reading, counters, time, count, nextMedia, nextControl, nextKey, mediaOf, held, controlOf, mpt, plt, tot, section, assetOf, readingNumber, Call, push, read, after, pushes, accepted, handed, AllBytes, leavesOf, replyOf, decoder, PushDetermined, Tells, none-kept, kept, After, Demand3, AllAsModel, AnswersAsModel}
 use Rattle.isdb_mmt.specs.declared.maybe.MaybeU32.{MaybeU32}
 use Rattle.isdb_mmt.specs.declared.maybe.MaybeU32.the-variants.{None as noU32, Some as someU32}
 use Rattle.isdb_mmt.specs.declared.decoder.place.Found.{Found}

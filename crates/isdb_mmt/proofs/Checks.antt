@@ -14,11 +14,11 @@ use lib.Dec.{leb, ltb}
 use lib.Bits.{bitOr, or-add-and, and-le-l, and-le-r}
 use lib.ListN.{length, getD, take, drop, length-drop, drop-of-length-le}
 use lib.Seq.{drop-cons, length-take-le}
-use Rattle.isdb_mmt.specs.Lent.{part, flag, placesFrom, namesFrom, distinct, every}
-use Rattle.isdb_mmt.specs.Session.{Session, limitsOf, usedOf, latestOf, countersOf, mediaPlaceOf, heldObjectOf, statsOf, controlPlaceOf, sectionPlaceOf}
-use Rattle.isdb_mmt.specs.Layout.{mostMediaIds, mostControlIds, mostSections, mostCount, usedPlace, latestPlace, countersPlace, heldPlace, objectPlace, statsPlace, mediaSize, mediaPlaces, controlSize, controlPlaces, sectionSize, sectionPlaces, stateSize}
-use Rattle.isdb_mmt.specs.Check.{countFits, countsFrom, lengthFits, statsCounts, packetCounts, tableCounts, lengthsOf, sound, soundIn, Sound, mediaSound, controlSound, sectionSound, usedSound, latestSound, countersSound, mediaIn, controlsIn, sectionsIn, headSound, placesSound, namesSound, PlacesThere}
-use Rattle.isdb_mmt.specs.Limits.{asked}
+use Rattle.isdb_mmt.specs.Memory.Lent.{part, flag, placesFrom, namesFrom, distinct, every}
+use Rattle.isdb_mmt.specs.Memory.Session.{Session, limitsOf, usedOf, latestOf, countersOf, mediaPlaceOf, heldObjectOf, statsOf, controlPlaceOf, sectionPlaceOf}
+use Rattle.isdb_mmt.specs.Memory.Layout.{mostMediaIds, mostControlIds, mostSections, mostCount, usedPlace, latestPlace, countersPlace, heldPlace, objectPlace, statsPlace, mediaSize, mediaPlaces, controlSize, controlPlaces, sectionSize, sectionPlaces, stateSize}
+use Rattle.isdb_mmt.specs.Memory.Check.{countFits, countsFrom, lengthFits, statsCounts, packetCounts, tableCounts, lengthsOf, sound, soundIn, Sound, mediaSound, controlSound, sectionSound, usedSound, latestSound, countersSound, mediaIn, controlsIn, sectionsIn, headSound, placesSound, namesSound, PlacesThere}
+use Rattle.isdb_mmt.specs.Memory.Limits.{asked}
 use Rattle.isdb_mmt.specs.declared.decoder.limits.Limits.{Limits}
 use Rattle.isdb_mmt.specs.declared.decoder.limits.Lengths.{Lengths}
 use Rattle.isdb_mmt.specs.declared.decoder.media.Media.{Media}

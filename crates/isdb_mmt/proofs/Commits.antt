@@ -11,28 +11,28 @@ use native.Mathlib.Numerals.{add-one}
 use lib.ListN.{length, getD, take, drop, length-append, length-take, length-drop, take-append-drop}
 use borrow.Author.Tests.{eqb-false, eq-eqb, ne-eqb, not-true, not-false}
 use Rattle.isdb_tlv.proofs.Guards.{either}
-use Rattle.isdb_mmt.specs.Packet.{Bytes}
-use Rattle.isdb_mmt.specs.Lent.{part, over, indexed, placesFrom}
-use Rattle.isdb_mmt.specs.Layout.{usedPlace, sectionPlaces, sectionSize}
-use Rattle.isdb_mmt.specs.Session.{usedFields, sectionPlaceOf}
-use Rattle.isdb_mmt.specs.MediaPush.{withUsed}
+use Rattle.isdb_mmt.specs.Decoder.Packet.{Bytes}
+use Rattle.isdb_mmt.specs.Memory.Lent.{part, over, indexed, placesFrom}
+use Rattle.isdb_mmt.specs.Memory.Layout.{usedPlace, sectionPlaces, sectionSize}
+use Rattle.isdb_mmt.specs.Memory.Session.{usedFields, sectionPlaceOf}
+use Rattle.isdb_mmt.specs.Pushes.MediaPush.{withUsed}
 use Rattle.isdb_tlv.specs.Fields.{written}
 use Rattle.isdb_tlv.proofs.Fields.{length-written}
 use Rattle.isdb_mmt.specs.declared.decoder.section.KeptSection.{KeptSection}
-use Rattle.isdb_mmt.specs.TableOutcome.{placeAt, indexOf}
+use Rattle.isdb_mmt.specs.Pushes.TableOutcome.{placeAt, indexOf}
 use Rattle.isdb_mmt.proofs.Lent.{length-over, over-next}
 use Rattle.isdb_mmt.proofs.Views.{area-apart}
-use Rattle.isdb_mmt.specs.PendingTables.{Logged, logged, withLog, bytesAt, committedEntry, committedRecent}
-use Rattle.isdb_mmt.specs.Part.{partOf}
-use Rattle.isdb_mmt.specs.Placed.{behind}
-use Rattle.isdb_mmt.specs.Leaves.{bytesOver, keptOver}
+use Rattle.isdb_mmt.specs.Pushes.PendingTables.{Logged, logged, withLog, bytesAt, committedEntry, committedRecent}
+use Rattle.isdb_mmt.specs.Formats.Part.{partOf}
+use Rattle.isdb_mmt.specs.Pushes.Placed.{behind}
+use Rattle.isdb_mmt.specs.Pushes.Leaves.{bytesOver, keptOver}
 use Rattle.isdb_mmt.specs.declared.part.Part.{Part}
 use Rattle.isdb_mmt.specs.declared.decoder.head.Used.{Used}
 use Rattle.isdb_mmt.specs.declared.decoder.limits.Limits.{Limits}
 use Rattle.isdb_mmt.specs.declared.decoder.table_outcome.Recent.{Recent}
 use Rattle.isdb_mmt.specs.declared.decoder.walk.WalkState.{WalkState}
 use Rattle.isdb_mmt.proofs.Joined.{pieces}
-use Rattle.isdb_mmt.specs.Commit.{putOne, putTables, putRecent, putAreas, EntryFits, AllFit, loggedFrom, CanPut, CanStore, CanStoreOne, CanStoreRecent, CanStoreAreas, CanStoreState}
+use Rattle.isdb_mmt.specs.Pushes.Commit.{putOne, putTables, putRecent, putAreas, EntryFits, AllFit, loggedFrom, CanPut, CanStore, CanStoreOne, CanStoreRecent, CanStoreAreas, CanStoreState}
 
 over-own : (at n : ℕ) (l : Bytes) → at + n ≤ length l → over at (part at n l) l ≡ l
 unfolding over

@@ -13,12 +13,12 @@ use Rattle.isdb_tlv.specs.Guards.{_<?_, _≤?_, _=?_}
 use Rattle.isdb_tlv.specs.Bytes.{be}
 use Rattle.isdb_tlv.proofs.Guards.{cond-elim}
 use Rattle.isdb_mmt.specs.declared.decoder.counts.Counters.{Counters}
-use Rattle.isdb_mmt.specs.Packet.{Bytes}
-use Rattle.isdb_mmt.specs.Maps.{find, put, one, isSome}
-use Rattle.isdb_mmt.specs.Lent.{foundFrom, indexed}
-use Rattle.isdb_mmt.specs.Section.{length12}
-use Rattle.isdb_mmt.specs.Kept.{Section, sectionOf, Kept, Table, emptyTable, mptTable, pltTable, totTable, truncatedSection, aSection, otherTable, otherVersion, keepIf, keep, tableCounted, sectionIncrements, changes, tableIncrements, mptAfter, stored, tableById, tableRead, longTable}
-use Rattle.isdb_mmt.specs.Needs.{tableArea}
+use Rattle.isdb_mmt.specs.Decoder.Packet.{Bytes}
+use Rattle.isdb_mmt.specs.Decoder.Maps.{find, put, one, isSome}
+use Rattle.isdb_mmt.specs.Memory.Lent.{foundFrom, indexed}
+use Rattle.isdb_mmt.specs.Formats.Section.{length12}
+use Rattle.isdb_mmt.specs.Decoder.Kept.{Section, sectionOf, Kept, Table, emptyTable, mptTable, pltTable, totTable, truncatedSection, aSection, otherTable, otherVersion, keepIf, keep, tableCounted, sectionIncrements, changes, tableIncrements, mptAfter, stored, tableById, tableRead, longTable}
+use Rattle.isdb_mmt.specs.Decoder.Needs.{tableArea}
 use Rattle.isdb_mmt.specs.declared.decoder.place.Found.{Found}
 use Rattle.isdb_mmt.specs.declared.decoder.place.Found.the-variants.{At, Nothing as notFound}
 use Rattle.isdb_mmt.specs.declared.decoder.section.KeptSection.{KeptSection}
@@ -26,10 +26,10 @@ use Rattle.isdb_mmt.proofs.Views.{keys, entry, FoundAt, found-at, absen
 use Rattle.isdb_mmt.specs.declared.decoder.table_outcome.Recent.{Recent}
 use Rattle.isdb_mmt.specs.declared.decoder.table_outcome.TableAction.the-variants.{Nothing}
 use Rattle.isdb_mmt.specs.declared.decoder.table_outcome.TableOutcome.{TableOutcome}
-use Rattle.isdb_mmt.specs.Placed.{Placed, PlacedAt, AllPlaced, tableBytes}
-use Rattle.isdb_mmt.specs.TableState.{TableState, afterTable, afterTables}
-use Rattle.isdb_mmt.specs.TableOutcome.{keysOf, noSection, outcome, changesTo, bodyOutcome, versionOutcome, sectionOutcome, tableOutcome}
-use Rattle.isdb_mmt.specs.PendingTables.{sectionRead, mptAfter as recentMpt, pltAfter as recentPlt, Logged, logged, placesOf, PendingTables, recent, putAt, pendingAfter, pendingWith, pendingWithAll, bytesAt, committedEntry, committedKept, committedRecent, Areas, committed, VersionOf, Versions}
+use Rattle.isdb_mmt.specs.Pushes.Placed.{Placed, PlacedAt, AllPlaced, tableBytes}
+use Rattle.isdb_mmt.specs.Pushes.TableState.{TableState, afterTable, afterTables}
+use Rattle.isdb_mmt.specs.Pushes.TableOutcome.{keysOf, noSection, outcome, changesTo, bodyOutcome, versionOutcome, sectionOutcome, tableOutcome}
+use Rattle.isdb_mmt.specs.Pushes.PendingTables.{sectionRead, mptAfter as recentMpt, pltAfter as recentPlt, Logged, logged, placesOf, PendingTables, recent, putAt, pendingAfter, pendingWith, pendingWithAll, bytesAt, committedEntry, committedKept, committedRecent, Areas, committed, VersionOf, Versions}
 use Rattle.isdb_mmt.proofs.Placing.{part-located}
 use Rattle.isdb_mmt.proofs.TableOutcomes.{found-within}
 

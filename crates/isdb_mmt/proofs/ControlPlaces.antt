@@ -7,24 +7,24 @@ use native.Mathlib.Nat.{add-zero, mul-le-mul-right, mul-zero, mul-suc}
 use native.Mathlib.Omega.{arith}
 use lib.ListN.{length, getD, length-set, length-append}
 use Rattle.isdb_tlv.specs.Guards.{if_then_else_, _<?_}
-use Rattle.isdb_mmt.specs.Packet.{Bytes, MessagePacket, message}
-use Rattle.isdb_mmt.specs.Lent.{part, namesFrom, placesFrom, foundFrom}
-use Rattle.isdb_mmt.specs.Layout.{controlPlaces, controlSize, sectionPlaces, sectionSize}
-use Rattle.isdb_mmt.specs.Session.{Session, limitsOf, usedOf, controlAt, controlPlaceOf, sectionPlaceOf}
-use Rattle.isdb_mmt.specs.Check.{Sound, lengthsOf, controlsIn, controlSound, mediaIn, sectionsIn}
-use Rattle.isdb_mmt.specs.Leaves.{withSections, keptOver, latestOver, messageIn, messageAt, messageLeaves, packetLeaves, controlPlaceFor, joinedIn, bytesOver, usedFor}
-use Rattle.isdb_mmt.specs.Fragments.{laidBy, areaBy, fragmentOutcome, joinedBy, controlWith}
-use Rattle.isdb_mmt.specs.FragmentPush.{blankPlace, withReassembly, withCounts}
-use Rattle.isdb_mmt.specs.Maps.{put, orElse, isSome}
-use Rattle.isdb_mmt.specs.Reassembly.{idle, reassemblyAfter}
-use Rattle.isdb_mmt.specs.Model.{State, Control as ControlState, controlOf, idleControl, reassemblyOf, pushed, gives}
-use Rattle.isdb_mmt.specs.View.{given, controlStateOf, controlEntry, keptTableAt, viewBy, view, assetEntry, sectionEntry}
-use Rattle.isdb_mmt.specs.Kept.{mptAfterAll}
-use Rattle.isdb_mmt.specs.GivenTables.{tablesGiven}
-use Rattle.isdb_mmt.specs.PlacesOf.{tableLength, controlFor, latestFor}
-use Rattle.isdb_mmt.specs.Needs.{needs, tablesNeed}
-use Rattle.isdb_mmt.specs.Push.{asksOf, QuietPushed}
-use Rattle.isdb_mmt.specs.Opening.{lent}
+use Rattle.isdb_mmt.specs.Decoder.Packet.{Bytes, MessagePacket, message}
+use Rattle.isdb_mmt.specs.Memory.Lent.{part, namesFrom, placesFrom, foundFrom}
+use Rattle.isdb_mmt.specs.Memory.Layout.{controlPlaces, controlSize, sectionPlaces, sectionSize}
+use Rattle.isdb_mmt.specs.Memory.Session.{Session, limitsOf, usedOf, controlAt, controlPlaceOf, sectionPlaceOf}
+use Rattle.isdb_mmt.specs.Memory.Check.{Sound, lengthsOf, controlsIn, controlSound, mediaIn, sectionsIn}
+use Rattle.isdb_mmt.specs.Pushes.Leaves.{withSections, keptOver, latestOver, messageIn, messageAt, messageLeaves, packetLeaves, controlPlaceFor, joinedIn, bytesOver, usedFor}
+use Rattle.isdb_mmt.specs.Pushes.Fragments.{laidBy, areaBy, fragmentOutcome, joinedBy, controlWith}
+use Rattle.isdb_mmt.specs.Pushes.FragmentPush.{blankPlace, withReassembly, withCounts}
+use Rattle.isdb_mmt.specs.Decoder.Maps.{put, orElse, isSome}
+use Rattle.isdb_mmt.specs.Decoder.Reassembly.{idle, reassemblyAfter}
+use Rattle.isdb_mmt.specs.Decoder.Model.{State, Control as ControlState, controlOf, idleControl, reassemblyOf, pushed, gives}
+use Rattle.isdb_mmt.specs.Memory.View.{given, controlStateOf, controlEntry, keptTableAt, viewBy, view, assetEntry, sectionEntry}
+use Rattle.isdb_mmt.specs.Decoder.Kept.{mptAfterAll}
+use Rattle.isdb_mmt.specs.Decoder.GivenTables.{tablesGiven}
+use Rattle.isdb_mmt.specs.Memory.PlacesOf.{tableLength, controlFor, latestFor}
+use Rattle.isdb_mmt.specs.Decoder.Needs.{needs, tablesNeed}
+use Rattle.isdb_mmt.specs.Pushes.Push.{asksOf, QuietPushed}
+use Rattle.isdb_mmt.specs.Memory.Opening.{lent}
 use Rattle.isdb_mmt.specs.declared.decoder.limits.Limits.{Limits}
 use Rattle.isdb_mmt.specs.declared.decoder.control.Control.{Control}
 use Rattle.isdb_mmt.specs.declared.decoder.messages.FragmentOutcome.{FragmentOutcome}

@@ -16,29 +16,29 @@ use Rattle.isdb_tlv.specs.Fields.{written}
 use Rattle.isdb_tlv.specs.Si.{sectionsOf}
 use Rattle.isdb_tlv.specs.declared.si.Section.{Section as Found}
 use Rattle.isdb_tlv.proofs.Guards.{either}
-use Rattle.isdb_mmt.specs.Layout.{mostSections, tableIds, countersPlace, sectionPlaces, sectionSize}
-use Rattle.isdb_mmt.specs.Packet.{Bytes, Packet}
-use Rattle.isdb_mmt.specs.Kept.{Kept, KeptTables, Table, storedAll, countedAll}
-use Rattle.isdb_mmt.specs.GivenTables.{controlTables}
-use Rattle.isdb_mmt.specs.Model.{State, packetCounted, pushed, gives}
-use Rattle.isdb_mmt.specs.Needs.{Needs, needs, tablesNeed}
-use Rattle.isdb_mmt.specs.Records.{rowSize}
-use Rattle.isdb_mmt.specs.Octets.{Octets}
-use Rattle.isdb_mmt.specs.Lent.{part, over}
-use Rattle.isdb_mmt.specs.Session.{Session, limitsOf, usedOf, countersOf, countersFields}
-use Rattle.isdb_mmt.specs.Check.{mediaIn, controlsIn, sectionsIn, packetCounts, tableCounts, lengthsOf, Sound}
-use Rattle.isdb_mmt.specs.View.{assetEntry, controlEntry, sectionEntry, viewBy, view}
-use Rattle.isdb_mmt.specs.Opening.{lent}
-use Rattle.isdb_mmt.specs.MediaPush.{withUsed}
-use Rattle.isdb_mmt.specs.Leaves.{usedFor, sectionRows, stateOfTables, keptOver, controlLeaves, packetLeaves}
-use Rattle.isdb_mmt.specs.Counted.{Countable}
-use Rattle.isdb_mmt.specs.Push.{CanTakePacket, hasPlaces, hasAreas, asksOf, QuietPushed}
-use Rattle.isdb_mmt.specs.TableOutcome.{indexSize, indexOf}
-use Rattle.isdb_mmt.specs.Placed.{tableBytes, placedSections}
-use Rattle.isdb_mmt.specs.TableState.{TableState}
-use Rattle.isdb_mmt.specs.PendingTables.{sectionRead, Logged, withLog, pendingOf, Areas, committed, Versions, Walked, CanWalkSections}
-use Rattle.isdb_mmt.specs.Commit.{putTables, loggedFrom, AllFit, CanStore}
-use Rattle.isdb_mmt.specs.Start.{noRecent, walkStart, tablesAsk, signalOf, countersWith, withSectionsUsed, CanLeave, SectionsLeft}
+use Rattle.isdb_mmt.specs.Memory.Layout.{mostSections, tableIds, countersPlace, sectionPlaces, sectionSize}
+use Rattle.isdb_mmt.specs.Decoder.Packet.{Bytes, Packet}
+use Rattle.isdb_mmt.specs.Decoder.Kept.{Kept, KeptTables, Table, storedAll, countedAll}
+use Rattle.isdb_mmt.specs.Decoder.GivenTables.{controlTables}
+use Rattle.isdb_mmt.specs.Decoder.Model.{State, packetCounted, pushed, gives}
+use Rattle.isdb_mmt.specs.Decoder.Needs.{Needs, needs, tablesNeed}
+use Rattle.isdb_mmt.specs.Pushes.Records.{rowSize}
+use Rattle.isdb_mmt.specs.Memory.Octets.{Octets}
+use Rattle.isdb_mmt.specs.Memory.Lent.{part, over}
+use Rattle.isdb_mmt.specs.Memory.Session.{Session, limitsOf, usedOf, countersOf, countersFields}
+use Rattle.isdb_mmt.specs.Memory.Check.{mediaIn, controlsIn, sectionsIn, packetCounts, tableCounts, lengthsOf, Sound}
+use Rattle.isdb_mmt.specs.Memory.View.{assetEntry, controlEntry, sectionEntry, viewBy, view}
+use Rattle.isdb_mmt.specs.Memory.Opening.{lent}
+use Rattle.isdb_mmt.specs.Pushes.MediaPush.{withUsed}
+use Rattle.isdb_mmt.specs.Pushes.Leaves.{usedFor, sectionRows, stateOfTables, keptOver, controlLeaves, packetLeaves}
+use Rattle.isdb_mmt.specs.Pushes.Counted.{Countable}
+use Rattle.isdb_mmt.specs.Pushes.Push.{CanTakePacket, hasPlaces, hasAreas, asksOf, QuietPushed}
+use Rattle.isdb_mmt.specs.Pushes.TableOutcome.{indexSize, indexOf}
+use Rattle.isdb_mmt.specs.Pushes.Placed.{tableBytes, placedSections}
+use Rattle.isdb_mmt.specs.Pushes.TableState.{TableState}
+use Rattle.isdb_mmt.specs.Pushes.PendingTables.{sectionRead, Logged, withLog, pendingOf, Areas, committed, Versions, Walked, CanWalkSections}
+use Rattle.isdb_mmt.specs.Pushes.Commit.{putTables, loggedFrom, AllFit, CanStore}
+use Rattle.isdb_mmt.specs.Pushes.Start.{noRecent, walkStart, tablesAsk, signalOf, countersWith, withSectionsUsed, CanLeave, SectionsLeft}
 use Rattle.isdb_mmt.specs.declared.decoder.limits.Limits.{Limits}
 use Rattle.isdb_mmt.specs.declared.decoder.counts.Counters.{Counters}
 use Rattle.isdb_mmt.specs.declared.decoder.head.Used.{Used}

@@ -4,13 +4,13 @@ use mathlib.Core.Path.{_≡_, sym, ap, _∙_, subst}
 use mathlib.Core.Bool.{true}
 use mathlib.Core.List.{List}
 use Rattle.isdb_tlv.specs.Fields.{written}
-use Rattle.isdb_mmt.specs.Model.{packetCounted}
-use Rattle.isdb_mmt.specs.Layout.{timePlace, countersPlace}
-use Rattle.isdb_mmt.specs.Lent.{over}
-use Rattle.isdb_mmt.specs.Session.{countersOf, countersFields, timeFields}
-use Rattle.isdb_mmt.specs.Leaves.{withCounters, withTime}
-use Rattle.isdb_mmt.specs.Route.{timeGiven}
-use Rattle.isdb_mmt.specs.Counted.{Countable, StateCountable}
+use Rattle.isdb_mmt.specs.Decoder.Model.{packetCounted}
+use Rattle.isdb_mmt.specs.Memory.Layout.{timePlace, countersPlace}
+use Rattle.isdb_mmt.specs.Memory.Lent.{over}
+use Rattle.isdb_mmt.specs.Memory.Session.{countersOf, countersFields, timeFields}
+use Rattle.isdb_mmt.specs.Pushes.Leaves.{withCounters, withTime}
+use Rattle.isdb_mmt.specs.Pushes.Route.{timeGiven}
+use Rattle.isdb_mmt.specs.Pushes.Counted.{Countable, StateCountable}
 use Rattle.isdb_mmt.specs.declared.maybe.MaybeU64.{MaybeU64}
 use Rattle.isdb_mmt.specs.declared.maybe.MaybeU64.the-variants.{Some as someU64}
 use Rattle.isdb_mmt.specs.declared.decoder.counts.Counters.{Counters}

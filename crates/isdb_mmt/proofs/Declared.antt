@@ -12,17 +12,17 @@ use Rattle.isdb_tlv.specs.Bytes.{be}
 use Rattle.isdb_tlv.specs.Crc.{crcOf}
 use Rattle.isdb_tlv.proofs.Guards.{cond-elim, either}
 use Rattle.isdb_tlv.proofs.Numbers.{be-take}
-use Rattle.isdb_mmt.specs.Packet.{Bytes}
-use Rattle.isdb_mmt.specs.Section.{length12, headerOf, longSectionOf, inSection}
-use Rattle.isdb_mmt.specs.Eit.{eitOf, eitBody}
-use Rattle.isdb_mmt.specs.Sdt.{sdtOf, sdtBody}
-use Rattle.isdb_mmt.specs.Bit.{bitOf, bitBody}
-use Rattle.isdb_mmt.specs.Nit.{nitOf, nitBody}
-use Rattle.isdb_mmt.specs.Amt.{amtOf, amtBody}
-use Rattle.isdb_mmt.specs.Tot.{totOf, totFields}
-use Rattle.isdb_mmt.specs.Mpt.{mptOf, mptTable, declaredLength}
-use Rattle.isdb_mmt.specs.Plt.{pltOf, pltTable}
-use Rattle.isdb_mmt.specs.Kept.{declaredSection, declaredTable, bodyRead}
+use Rattle.isdb_mmt.specs.Decoder.Packet.{Bytes}
+use Rattle.isdb_mmt.specs.Formats.Section.{length12, headerOf, longSectionOf, inSection}
+use Rattle.isdb_mmt.specs.Formats.Eit.{eitOf, eitBody}
+use Rattle.isdb_mmt.specs.Formats.Sdt.{sdtOf, sdtBody}
+use Rattle.isdb_mmt.specs.Formats.Bit.{bitOf, bitBody}
+use Rattle.isdb_mmt.specs.Formats.Nit.{nitOf, nitBody}
+use Rattle.isdb_mmt.specs.Formats.Amt.{amtOf, amtBody}
+use Rattle.isdb_mmt.specs.Formats.Tot.{totOf, totFields}
+use Rattle.isdb_mmt.specs.Formats.Mpt.{mptOf, mptTable, declaredLength}
+use Rattle.isdb_mmt.specs.Formats.Plt.{pltOf, pltTable}
+use Rattle.isdb_mmt.specs.Decoder.Kept.{declaredSection, declaredTable, bodyRead}
 use Rattle.isdb_mmt.specs.declared.table.section.SectionHeader.{SectionHeader}
 use Rattle.isdb_mmt.specs.declared.table.section.SectionError.{SectionError}
 use Rattle.isdb_mmt.specs.declared.table.section.LongSection.{LongSection}

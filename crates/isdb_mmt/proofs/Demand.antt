@@ -1,5 +1,5 @@
--- The claim of specs/Demand.antt, of every list of packets.
-use Rattle.isdb_mmt.specs.Demand.{Theorem, OfBytes, packetsOf}
+-- The claim of specs/Books/Demand.antt, of every list of packets.
+use Rattle.isdb_mmt.specs.Books.Demand.{Theorem, OfBytes, packetsOf}
 use Rattle.isdb_mmt.proofs.BookFacts.{ids}
 use Rattle.isdb_mmt.proofs.Keeping.{keys}
 use Rattle.isdb_mmt.proofs.Smallness.{every-small}

@@ -11,16 +11,16 @@ use borrow.Author.Tests.{ltb-false, le-ltb}
 use Rattle.isdb_tlv.specs.Bytes.{be}
 use Rattle.isdb_tlv.specs.Walk.{turn}
 use Rattle.isdb_tlv.proofs.Guards.{cond-elim, either}
-use Rattle.isdb_mmt.specs.Part.{partOf}
-use Rattle.isdb_mmt.specs.Maps.{isSome}
-use Rattle.isdb_mmt.specs.Timestamp.{timestampAt, unitSize, mpuAt, mpusWhole, headEnd, extendedOf, unitStep}
-use Rattle.isdb_mmt.specs.Desc.{stepAt, Split, item, splitFrom, splitOf, counted as told, accessControl, scrambler, streamIdentifier, serviceText, shortEvent, hevc, extendedIn, extendedTimestamp, descriptorOf, serviceAt, genreAt}
-use Rattle.isdb_mmt.specs.Nit.{tlvStepAt}
-use Rattle.isdb_mmt.specs.Steps.{Stood, atEnd, Found, counted, onward, toEnd, Ends}
-use Rattle.isdb_mmt.specs.WholeDescriptors.{timestampTold, timestampSeen, unitSeen, mpuTold, mpuSeen, wholeExtended, serviceTold, serviceSeen, genreTold, genreSeen, WholeDescriptor, descriptorTold, descriptorSeen, loopIn, tlvTold, tlvSeen}
-use Rattle.isdb_mmt.specs.Kept.{declaredSection}
-use Rattle.isdb_mmt.specs.WholeLists.{wholeRaw}
-use Rattle.isdb_mmt.specs.Walks.{LoopTheorem, TotTheorem, RowsTheorem, ExtendedTheorem, UnitsTheorem}
+use Rattle.isdb_mmt.specs.Formats.Part.{partOf}
+use Rattle.isdb_mmt.specs.Decoder.Maps.{isSome}
+use Rattle.isdb_mmt.specs.Formats.Timestamp.{timestampAt, unitSize, mpuAt, mpusWhole, headEnd, extendedOf, unitStep}
+use Rattle.isdb_mmt.specs.Formats.Desc.{stepAt, Split, item, splitFrom, splitOf, counted as told, accessControl, scrambler, streamIdentifier, serviceText, shortEvent, hevc, extendedIn, extendedTimestamp, descriptorOf, serviceAt, genreAt}
+use Rattle.isdb_mmt.specs.Formats.Nit.{tlvStepAt}
+use Rattle.isdb_mmt.specs.WholeValues.Steps.{Stood, atEnd, Found, counted, onward, toEnd, Ends}
+use Rattle.isdb_mmt.specs.WholeValues.WholeDescriptors.{timestampTold, timestampSeen, unitSeen, mpuTold, mpuSeen, wholeExtended, serviceTold, serviceSeen, genreTold, genreSeen, WholeDescriptor, descriptorTold, descriptorSeen, loopIn, tlvTold, tlvSeen}
+use Rattle.isdb_mmt.specs.Decoder.Kept.{declaredSection}
+use Rattle.isdb_mmt.specs.WholeValues.WholeLists.{wholeRaw}
+use Rattle.isdb_mmt.specs.WholeValues.Walks.{LoopTheorem, TotTheorem, RowsTheorem, ExtendedTheorem, UnitsTheorem}
 use Rattle.isdb_mmt.specs.declared.timestamp.Extended.{Extended}
 use Rattle.isdb_mmt.specs.declared.timestamp.MaybeExtended.{MaybeExtended}
 use Rattle.isdb_mmt.specs.declared.timestamp.MaybeExtended.the-variants.{None as notExtended, Some as extended}

@@ -20,9 +20,9 @@ use Rattle.isdb_tlv.proofs.Walk.{Ahead, walk-at}
 use Rattle.isdb_tlv.proofs.Numbers.{be-whole}
 use Rattle.isdb_tlv.proofs.Guards.{cond-elim, either}
 use Rattle.isdb_mmt.proofs.desc.Descriptor.{the-type}
-use Rattle.isdb_mmt.specs.Part.{partOf}
-use Rattle.isdb_mmt.specs.Maps.{isSome}
-use Rattle.isdb_mmt.specs.Desc.{lengthWidth, bodyAt, stepAt, Split, item, splitFrom, counted, descriptorOf, isOther, orNext, firstOf}
+use Rattle.isdb_mmt.specs.Formats.Part.{partOf}
+use Rattle.isdb_mmt.specs.Decoder.Maps.{isSome}
+use Rattle.isdb_mmt.specs.Formats.Desc.{lengthWidth, bodyAt, stepAt, Split, item, splitFrom, counted, descriptorOf, isOther, orNext, firstOf}
 use Rattle.isdb_mmt.specs.declared.part.Part.{Part}
 use Rattle.isdb_mmt.specs.declared.desc.Step.{Step}
 use Rattle.isdb_mmt.specs.declared.desc.Step.the-variants.{End, Broken, Raw}

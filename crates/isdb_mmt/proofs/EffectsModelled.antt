@@ -7,14 +7,14 @@ use mathlib.Core.List.{List, [], _∷_, _++_, map}
 use native.Mathlib.Omega.{arith}
 use lib.Dec.{leb}
 use lib.ListN.{length, length-append}
-use Rattle.isdb_mmt.specs.Part.{partOf}
-use Rattle.isdb_mmt.specs.Packet.{PayloadUnit, MpuPacket, payloadUnit}
-use Rattle.isdb_mmt.specs.Maps.{isSome}
-use Rattle.isdb_mmt.specs.Objects.{Mfu, Asset, UnitEffect, mostObject, mpuNumber, grown, continued, effectOf, afterUnit, objectOf, unitEffect, afterUnits, deliveredBy, tagged}
-use Rattle.isdb_mmt.specs.Needs.{unitArea, unitsNeed, dataOf}
-use Rattle.isdb_mmt.specs.Records.{objectFor}
-use Rattle.isdb_mmt.specs.MediaPush.{heldFor}
-use Rattle.isdb_mmt.specs.MediaEffect.{unitObject, completeUnit, headUnit, droppedUnit, grownTo, grownUnit, withUnit, withEachUnit}
+use Rattle.isdb_mmt.specs.Formats.Part.{partOf}
+use Rattle.isdb_mmt.specs.Decoder.Packet.{PayloadUnit, MpuPacket, payloadUnit}
+use Rattle.isdb_mmt.specs.Decoder.Maps.{isSome}
+use Rattle.isdb_mmt.specs.Decoder.Objects.{Mfu, Asset, UnitEffect, mostObject, mpuNumber, grown, continued, effectOf, afterUnit, objectOf, unitEffect, afterUnits, deliveredBy, tagged}
+use Rattle.isdb_mmt.specs.Decoder.Needs.{unitArea, unitsNeed, dataOf}
+use Rattle.isdb_mmt.specs.Pushes.Records.{objectFor}
+use Rattle.isdb_mmt.specs.Pushes.MediaPush.{heldFor}
+use Rattle.isdb_mmt.specs.Pushes.MediaEffect.{unitObject, completeUnit, headUnit, droppedUnit, grownTo, grownUnit, withUnit, withEachUnit}
 use Rattle.isdb_mmt.specs.declared.part.Part.{Part}
 use Rattle.isdb_mmt.specs.declared.mpu.FragmentationIndicator.{FragmentationIndicator}
 use Rattle.isdb_mmt.specs.declared.mpu.FragmentationIndicator.the-variants.{Complete, Head, Middle, Last}

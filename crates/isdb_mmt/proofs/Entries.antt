@@ -12,10 +12,10 @@ use borrow.Author.Tests.{ltb-false, leb-true, leb-false}
 use Rattle.isdb_tlv.specs.Walk.{turn}
 use Rattle.isdb_tlv.proofs.Walk.{Ahead, walk-at}
 use Rattle.isdb_tlv.proofs.Guards.{cond-elim}
-use Rattle.isdb_mmt.specs.Part.{partOf}
-use Rattle.isdb_mmt.specs.Maps.{isSome}
-use Rattle.isdb_mmt.specs.Desc.{splitOf, broken, Loop, ended}
-use Rattle.isdb_mmt.specs.Section.{length12, inSection, entryAt, entryAs, entryItem, entriesFrom, entriesTold}
+use Rattle.isdb_mmt.specs.Formats.Part.{partOf}
+use Rattle.isdb_mmt.specs.Decoder.Maps.{isSome}
+use Rattle.isdb_mmt.specs.Formats.Desc.{splitOf, broken, Loop, ended}
+use Rattle.isdb_mmt.specs.Formats.Section.{length12, inSection, entryAt, entryAs, entryItem, entriesFrom, entriesTold}
 use Rattle.isdb_mmt.specs.declared.table.section.SectionHeader.{SectionHeader}
 use Rattle.isdb_mmt.specs.declared.table.section.SectionError.{SectionError}
 use Rattle.isdb_mmt.specs.declared.table.section.LongSection.{LongSection}

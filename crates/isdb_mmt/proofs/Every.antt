@@ -6,8 +6,8 @@ use mathlib.Core.Option.{some}
 use mathlib.Core.List.{List, [], _∷_}
 use lib.Dec.{eqb}
 use borrow.Author.Tests.{eqb-true}
-use Rattle.isdb_mmt.specs.Maps.{find, put, orElse}
-use Rattle.isdb_mmt.specs.Lent.{among, distinct}
+use Rattle.isdb_mmt.specs.Decoder.Maps.{find, put, orElse}
+use Rattle.isdb_mmt.specs.Memory.Lent.{among, distinct}
 use Rattle.isdb_mmt.proofs.Views.{keys}
 use Rattle.isdb_mmt.proofs.Guards.{was-left}
 

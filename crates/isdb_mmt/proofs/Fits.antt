@@ -7,12 +7,12 @@ use native.Mathlib.Omega.{arith}
 use lib.ListN.{length}
 use lib.Dec.{leb}
 use Rattle.isdb_tlv.proofs.Guards.{cond-elim}
-use Rattle.isdb_mmt.specs.Mpu.{follows, lostFrom}
-use Rattle.isdb_mmt.specs.Packet.{PayloadUnit, MpuPacket, readable}
-use Rattle.isdb_mmt.specs.Maps.{one, isSome}
-use Rattle.isdb_mmt.specs.Objects.{Mfu, Asset, fresh, mostObject, gap, lostBy, UnitEffect, grown, continued, effectOf, afterUnit, objectOf, unitEffect, afterUnits, afterHeaders, newMpu, jumped, malformedPayload, assetAfter, mpuIn, completes}
-use Rattle.isdb_mmt.specs.MediaPlace.{StatsWithin}
-use Rattle.isdb_mmt.specs.Needs.{heldLength, unitArea, unitsNeed}
+use Rattle.isdb_mmt.specs.Formats.Mpu.{follows, lostFrom}
+use Rattle.isdb_mmt.specs.Decoder.Packet.{PayloadUnit, MpuPacket, readable}
+use Rattle.isdb_mmt.specs.Decoder.Maps.{one, isSome}
+use Rattle.isdb_mmt.specs.Decoder.Objects.{Mfu, Asset, fresh, mostObject, gap, lostBy, UnitEffect, grown, continued, effectOf, afterUnit, objectOf, unitEffect, afterUnits, afterHeaders, newMpu, jumped, malformedPayload, assetAfter, mpuIn, completes}
+use Rattle.isdb_mmt.specs.Pushes.MediaPlace.{StatsWithin}
+use Rattle.isdb_mmt.specs.Decoder.Needs.{heldLength, unitArea, unitsNeed}
 use Rattle.isdb_mmt.specs.declared.mpu.FragmentationIndicator.{FragmentationIndicator}
 use Rattle.isdb_mmt.specs.declared.mpu.FragmentationIndicator.the-variants.{Complete, Head, Middle, Last}
 

@@ -14,7 +14,7 @@ use lib.Ieee.Fits.{down-pos}
 use lib.Ieee.Exact.{HasValue, round-exact}
 use lib.Ieee.Scale.{round-same}
 use lib.Ieee.Back.{round-whole}
-use Rattle.isdb_mmt.specs.Ntp.{ntpToUnix, epoch, Exact}
+use Rattle.isdb_mmt.specs.Formats.Ntp.{ntpToUnix, epoch, Exact}
 
 pub unit-lit : ofBits binary64 4751297606875873280 ≡ ofInt binary64 (pos (2 ^ 32))
 unfolding ofBits ofFields ofInt round size span climb units odd trailingZeros

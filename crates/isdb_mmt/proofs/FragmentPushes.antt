@@ -14,26 +14,26 @@ use Rattle.isdb_tlv.specs.Guards.{if_then_else_, _<?_}
 use Rattle.isdb_tlv.specs.Fields.{written}
 use Rattle.isdb_tlv.proofs.Fields.{length-written}
 use Rattle.isdb_tlv.proofs.Guards.{either}
-use Rattle.isdb_mmt.specs.Packet.{messagePacket, Bytes, MessagePacket, message}
-use Rattle.isdb_mmt.specs.Lent.{part, over, namesFrom, placeForName}
-use Rattle.isdb_mmt.specs.Layout.{usedPlace, latestPlace, countersPlace, controlPlaces, controlSize, mostControlIds, sectionPlaces, sectionSize}
-use Rattle.isdb_mmt.specs.Session.{Session, limitsOf, usedOf, usedFields, latestOf, latestFields, countersOf, countersFields, controlFields, controlAt}
-use Rattle.isdb_mmt.specs.Check.{PlacesThere, packetCounts, tableCounts, Sound, lengthsOf}
-use Rattle.isdb_mmt.specs.Leaves.{controlPlaceFor, usedFor, withControl, withSections, withLatest, withCounters, stateOfTables, bytesOver, keptOver, latestOver, messageIn, messageAt, messageLeaves, packetLeaves}
-use Rattle.isdb_mmt.specs.Fragments.{laidBy, areaBy, fragmentCounted, CanCount, fragmentOutcome, completes, joinedBy, controlWith, faultsOf}
-use Rattle.isdb_mmt.specs.FragmentPush.{blankPlace, placeIn, PlaceForThere, normalLatest, withMore, withReassembly, withCounts, placeNext, stateNext, CanStoreReassembly, CanJoinAt, JoinedAt, CanJoin, lengthIf, receivedFragment}
-use Rattle.isdb_mmt.specs.Maps.{isSome, one}
-use Rattle.isdb_mmt.specs.Reassembly.{PartialMessage, cutOfAll, short, messageCompleted}
-use Rattle.isdb_mmt.specs.Model.{State, Control as ControlState, controlOf, reassemblyOf, pushed, packetCounted, messageCounted, reassemblyCounted, gives}
-use Rattle.isdb_mmt.specs.View.{keptTableAt, viewBy, view, given}
-use Rattle.isdb_mmt.specs.Kept.{Table, tableRead, storedAll, mptAfterAll, KeptTables, countedAll}
-use Rattle.isdb_mmt.specs.GivenTables.{tablesGiven}
-use Rattle.isdb_mmt.specs.PlacesOf.{tableLength, controlFor, latestFor}
-use Rattle.isdb_mmt.specs.Needs.{needs, tablesNeed}
-use Rattle.isdb_mmt.specs.Octets.{Octets}
-use Rattle.isdb_mmt.specs.Opening.{lent}
-use Rattle.isdb_mmt.specs.MediaPush.{withUsed}
-use Rattle.isdb_mmt.specs.Push.{asksOf, QuietPushed}
+use Rattle.isdb_mmt.specs.Decoder.Packet.{messagePacket, Bytes, MessagePacket, message}
+use Rattle.isdb_mmt.specs.Memory.Lent.{part, over, namesFrom, placeForName}
+use Rattle.isdb_mmt.specs.Memory.Layout.{usedPlace, latestPlace, countersPlace, controlPlaces, controlSize, mostControlIds, sectionPlaces, sectionSize}
+use Rattle.isdb_mmt.specs.Memory.Session.{Session, limitsOf, usedOf, usedFields, latestOf, latestFields, countersOf, countersFields, controlFields, controlAt}
+use Rattle.isdb_mmt.specs.Memory.Check.{PlacesThere, packetCounts, tableCounts, Sound, lengthsOf}
+use Rattle.isdb_mmt.specs.Pushes.Leaves.{controlPlaceFor, usedFor, withControl, withSections, withLatest, withCounters, stateOfTables, bytesOver, keptOver, latestOver, messageIn, messageAt, messageLeaves, packetLeaves}
+use Rattle.isdb_mmt.specs.Pushes.Fragments.{laidBy, areaBy, fragmentCounted, CanCount, fragmentOutcome, completes, joinedBy, controlWith, faultsOf}
+use Rattle.isdb_mmt.specs.Pushes.FragmentPush.{blankPlace, placeIn, PlaceForThere, normalLatest, withMore, withReassembly, withCounts, placeNext, stateNext, CanStoreReassembly, CanJoinAt, JoinedAt, CanJoin, lengthIf, receivedFragment}
+use Rattle.isdb_mmt.specs.Decoder.Maps.{isSome, one}
+use Rattle.isdb_mmt.specs.Decoder.Reassembly.{PartialMessage, cutOfAll, short, messageCompleted}
+use Rattle.isdb_mmt.specs.Decoder.Model.{State, Control as ControlState, controlOf, reassemblyOf, pushed, packetCounted, messageCounted, reassemblyCounted, gives}
+use Rattle.isdb_mmt.specs.Memory.View.{keptTableAt, viewBy, view, given}
+use Rattle.isdb_mmt.specs.Decoder.Kept.{Table, tableRead, storedAll, mptAfterAll, KeptTables, countedAll}
+use Rattle.isdb_mmt.specs.Decoder.GivenTables.{tablesGiven}
+use Rattle.isdb_mmt.specs.Memory.PlacesOf.{tableLength, controlFor, latestFor}
+use Rattle.isdb_mmt.specs.Decoder.Needs.{needs, tablesNeed}
+use Rattle.isdb_mmt.specs.Memory.Octets.{Octets}
+use Rattle.isdb_mmt.specs.Memory.Opening.{lent}
+use Rattle.isdb_mmt.specs.Pushes.MediaPush.{withUsed}
+use Rattle.isdb_mmt.specs.Pushes.Push.{asksOf, QuietPushed}
 use Rattle.isdb_mmt.specs.declared.decoder.counts.Counters.{Counters}
 use Rattle.isdb_mmt.specs.declared.decoder.limits.Limits.{Limits}
 use Rattle.isdb_mmt.specs.declared.decoder.head.Used.{Used}

@@ -9,16 +9,16 @@ use lib.Dec.{ltb, leb}
 use lib.ListN.{length, take, drop, length-append, length-drop, take-append-drop}
 use borrow.Author.Tests.{le-ltb, le-leb, lt-leb, ltb-true, ltb-false, not-true, not-false}
 use Rattle.isdb_tlv.proofs.Guards.{cond-elim}
-use Rattle.isdb_mmt.specs.Packet.{Bytes, MessagePacket}
-use Rattle.isdb_mmt.specs.Maps.{isSome}
-use Rattle.isdb_mmt.specs.Objects.{gap}
-use Rattle.isdb_mmt.specs.Reassembly.{PartialMessage, Reassembly, short, flagsOf, partBefore, joinedOn, partAfter, wholeOf, reassemblyAfter, messageCompleted, continues, orphan, oversize, mostMessage}
-use Rattle.isdb_mmt.specs.Needs.{partialLength, fragmentArea, reassemblyNeeds}
-use Rattle.isdb_mmt.specs.Lent.{part, over}
-use Rattle.isdb_mmt.specs.View.{given, controlStateOf}
-use Rattle.isdb_mmt.specs.MediaPlace.{gapAfter}
-use Rattle.isdb_mmt.specs.Leaves.{joinedIn, bytesOver}
-use Rattle.isdb_mmt.specs.Fragments.{inSequence, grownLength, continued, byDivision, flagsIn, fragmentOutcome, joinedWith, noneJoined, joinedBy, joinedAs, laidBy, areaBy, wholeBy, completes, faultsOf}
+use Rattle.isdb_mmt.specs.Decoder.Packet.{Bytes, MessagePacket}
+use Rattle.isdb_mmt.specs.Decoder.Maps.{isSome}
+use Rattle.isdb_mmt.specs.Decoder.Objects.{gap}
+use Rattle.isdb_mmt.specs.Decoder.Reassembly.{PartialMessage, Reassembly, short, flagsOf, partBefore, joinedOn, partAfter, wholeOf, reassemblyAfter, messageCompleted, continues, orphan, oversize, mostMessage}
+use Rattle.isdb_mmt.specs.Decoder.Needs.{partialLength, fragmentArea, reassemblyNeeds}
+use Rattle.isdb_mmt.specs.Memory.Lent.{part, over}
+use Rattle.isdb_mmt.specs.Memory.View.{given, controlStateOf}
+use Rattle.isdb_mmt.specs.Pushes.MediaPlace.{gapAfter}
+use Rattle.isdb_mmt.specs.Pushes.Leaves.{joinedIn, bytesOver}
+use Rattle.isdb_mmt.specs.Pushes.Fragments.{inSequence, grownLength, continued, byDivision, flagsIn, fragmentOutcome, joinedWith, noneJoined, joinedBy, joinedAs, laidBy, areaBy, wholeBy, completes, faultsOf}
 use Rattle.isdb_mmt.specs.declared.message.Division.{Division}
 use Rattle.isdb_mmt.specs.declared.message.Division.the-variants.{Undivided as undivided, First as first, Middle as middle, Last as last}
 use Rattle.isdb_mmt.specs.declared.message.Fragment.{Fragment}

@@ -10,18 +10,18 @@ use mir.Syntax.{w32, w64}
 use lib.ListN.{length}
 use borrow.Rule.Slice.PartMut.{putMid}
 use Rattle.isdb_tlv.specs.Fields.{written}
-use Rattle.isdb_mmt.specs.Part.{partOf}
-use Rattle.isdb_mmt.specs.Packet.{Bytes, MpuPacket, payloadUnit}
-use Rattle.isdb_mmt.specs.Maps.{isSome}
+use Rattle.isdb_mmt.specs.Formats.Part.{partOf}
+use Rattle.isdb_mmt.specs.Decoder.Packet.{Bytes, MpuPacket, payloadUnit}
+use Rattle.isdb_mmt.specs.Decoder.Maps.{isSome}
 use Rattle.isdb_tlv.specs.Walk.{also}
-use Rattle.isdb_mmt.specs.Mpu.{unitStep, unitsFrom, unitsOf}
-use Rattle.isdb_mmt.specs.Objects.{Rec, Asset, mpuNumber, effectOf, unitEffect, afterUnit, objectOf, deliveredBy, tagged}
-use Rattle.isdb_mmt.specs.Needs.{dataOf}
-use Rattle.isdb_mmt.specs.Lent.{over}
-use Rattle.isdb_mmt.specs.Records.{rowFields, rowOf, rowsFrom, dataFrom}
-use Rattle.isdb_mmt.specs.MediaEffect.{unitObject}
-use Rattle.isdb_mmt.specs.MediaCommit.{OneFits, OnePut}
-use Rattle.isdb_mmt.specs.Giving.{unitRec, unitRecs, Outputs, Gave}
+use Rattle.isdb_mmt.specs.Formats.Mpu.{unitStep, unitsFrom, unitsOf}
+use Rattle.isdb_mmt.specs.Decoder.Objects.{Rec, Asset, mpuNumber, effectOf, unitEffect, afterUnit, objectOf, deliveredBy, tagged}
+use Rattle.isdb_mmt.specs.Decoder.Needs.{dataOf}
+use Rattle.isdb_mmt.specs.Memory.Lent.{over}
+use Rattle.isdb_mmt.specs.Pushes.Records.{rowFields, rowOf, rowsFrom, dataFrom}
+use Rattle.isdb_mmt.specs.Pushes.MediaEffect.{unitObject}
+use Rattle.isdb_mmt.specs.Pushes.MediaCommit.{OneFits, OnePut}
+use Rattle.isdb_mmt.specs.Pushes.Giving.{unitRec, unitRecs, Outputs, Gave}
 use Rattle.isdb_mmt.specs.declared.mpu.FragmentationIndicator.the-variants.{Complete}
 use Rattle.isdb_mmt.specs.declared.mpu.PayloadHeader.{PayloadHeader}
 use Rattle.isdb_mmt.specs.declared.mpu.Unit.{Unit as DataUnit}

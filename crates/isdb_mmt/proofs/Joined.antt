@@ -12,13 +12,13 @@ use mir.Val.{Fits}
 use borrow.Author.Tests.{ltb-true, ltb-false}
 use Rattle.isdb_tlv.specs.Bytes.{be}
 use Rattle.isdb_tlv.proofs.Guards.{either}
-use Rattle.isdb_mmt.specs.Layout.{mostMessageArea}
-use Rattle.isdb_mmt.specs.Packet.{Bytes}
-use Rattle.isdb_mmt.specs.Part.{partOf}
-use Rattle.isdb_mmt.specs.Lent.{over}
-use Rattle.isdb_mmt.specs.Kept.{tableRead}
-use Rattle.isdb_mmt.specs.Placed.{behind}
-use Rattle.isdb_mmt.specs.TableOutcome.{tableOutcome, CanDecide}
+use Rattle.isdb_mmt.specs.Memory.Layout.{mostMessageArea}
+use Rattle.isdb_mmt.specs.Decoder.Packet.{Bytes}
+use Rattle.isdb_mmt.specs.Formats.Part.{partOf}
+use Rattle.isdb_mmt.specs.Memory.Lent.{over}
+use Rattle.isdb_mmt.specs.Decoder.Kept.{tableRead}
+use Rattle.isdb_mmt.specs.Pushes.Placed.{behind}
+use Rattle.isdb_mmt.specs.Pushes.TableOutcome.{tableOutcome, CanDecide}
 use Rattle.isdb_mmt.specs.declared.part.Part.{Part}
 use Rattle.isdb_mmt.specs.declared.decoder.section.KeptSection.{KeptSection}
 use Rattle.isdb_mmt.specs.declared.decoder.table_outcome.Recent.{Recent}

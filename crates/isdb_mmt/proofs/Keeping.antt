@@ -7,14 +7,14 @@ use mathlib.Core.Option.{Option, none, some}
 use mathlib.Core.List.{List, [], _∷_, _++_, map, append-nil, append-assoc}
 use lib.Dec.{eqb}
 use mir.Facts.{eqb-no}
-use Rattle.isdb_mmt.specs.Packet.{Bytes, MessagePacket, Packet, ipError, ntp, nonMmtp, media, message, control, other}
-use Rattle.isdb_mmt.specs.Maps.{orElse, find, put}
-use Rattle.isdb_mmt.specs.Reassembly.{Reassembly, reassemblyAfter}
-use Rattle.isdb_mmt.specs.Kept.{Section, sectionOf, Kept, KeptTables, otherVersion, keepIf, keep, keepAll, Table, emptyTable, mptTable, pltTable, totTable, truncatedSection, aSection, otherTable, stored, storedAll}
-use Rattle.isdb_mmt.specs.GivenTables.{tablesGiven, controlTables}
-use Rattle.isdb_mmt.specs.Model.{State, opened, idleControl, controlOf, reassemblyOf, pushed}
-use Rattle.isdb_mmt.specs.Book.{wellFormedIn, sectionsAmong, Reassemblies, allIdle, reassembliesAfter, sectionsFrom, reaching, wellFormed, AllOf, LastDiffers, FirstOfLastRun}
-use Rattle.isdb_mmt.specs.Demand.{pushAll, Keeps, never, keeps}
+use Rattle.isdb_mmt.specs.Decoder.Packet.{Bytes, MessagePacket, Packet, ipError, ntp, nonMmtp, media, message, control, other}
+use Rattle.isdb_mmt.specs.Decoder.Maps.{orElse, find, put}
+use Rattle.isdb_mmt.specs.Decoder.Reassembly.{Reassembly, reassemblyAfter}
+use Rattle.isdb_mmt.specs.Decoder.Kept.{Section, sectionOf, Kept, KeptTables, otherVersion, keepIf, keep, keepAll, Table, emptyTable, mptTable, pltTable, totTable, truncatedSection, aSection, otherTable, stored, storedAll}
+use Rattle.isdb_mmt.specs.Decoder.GivenTables.{tablesGiven, controlTables}
+use Rattle.isdb_mmt.specs.Decoder.Model.{State, opened, idleControl, controlOf, reassemblyOf, pushed}
+use Rattle.isdb_mmt.specs.Books.Book.{wellFormedIn, sectionsAmong, Reassemblies, allIdle, reassembliesAfter, sectionsFrom, reaching, wellFormed, AllOf, LastDiffers, FirstOfLastRun}
+use Rattle.isdb_mmt.specs.Books.Demand.{pushAll, Keeps, never, keeps}
 use Rattle.isdb_mmt.proofs.Maps.{eqb-true, find-put, find-put-other}
 
 abbrev keptOf : Section → Kept

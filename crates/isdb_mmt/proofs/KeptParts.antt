@@ -9,21 +9,21 @@ use mir.Syntax.{w64}
 use mir.Val.{Fits}
 use borrow.Author.Tests.{not-true, not-false}
 use Rattle.isdb_tlv.specs.Guards.{if_then_else_}
-use Rattle.isdb_mmt.specs.Packet.{Bytes}
-use Rattle.isdb_mmt.specs.Part.{partOf}
-use Rattle.isdb_mmt.specs.Layout.{mostSections, controlPlaces, controlSize, sectionPlaces, sectionSize}
-use Rattle.isdb_mmt.specs.Lent.{namesFrom, foundFrom}
-use Rattle.isdb_mmt.specs.Session.{Session, limitsOf, usedOf, latestOf, controlAt, sectionAt}
-use Rattle.isdb_mmt.specs.Check.{sound, lengthsOf, Sound}
-use Rattle.isdb_mmt.specs.Section.{longSectionOf}
-use Rattle.isdb_mmt.specs.Kept.{bodyRead, parsesAs, mptParses, pltParses, totParses}
-use Rattle.isdb_mmt.specs.Mpt.{mptOf}
-use Rattle.isdb_mmt.specs.Plt.{pltOf}
-use Rattle.isdb_mmt.specs.Tot.{totOf}
-use Rattle.isdb_mmt.specs.TableOutcome.{bodyFrom}
-use Rattle.isdb_mmt.specs.Readings.{areaPart, sectionFound, sectionPart, controlFound, mptAt, mptPart, pltPart, totPart, tableRead, tableIdOf, sectionRead, mptRead, pltRead, totRead}
-use Rattle.isdb_mmt.specs.Opening.{lent}
-use Rattle.isdb_mmt.specs.KeptParts.{partGiven, stateOnly, Reachable, AnArea, MptReachable}
+use Rattle.isdb_mmt.specs.Decoder.Packet.{Bytes}
+use Rattle.isdb_mmt.specs.Formats.Part.{partOf}
+use Rattle.isdb_mmt.specs.Memory.Layout.{mostSections, controlPlaces, controlSize, sectionPlaces, sectionSize}
+use Rattle.isdb_mmt.specs.Memory.Lent.{namesFrom, foundFrom}
+use Rattle.isdb_mmt.specs.Memory.Session.{Session, limitsOf, usedOf, latestOf, controlAt, sectionAt}
+use Rattle.isdb_mmt.specs.Memory.Check.{sound, lengthsOf, Sound}
+use Rattle.isdb_mmt.specs.Formats.Section.{longSectionOf}
+use Rattle.isdb_mmt.specs.Decoder.Kept.{bodyRead, parsesAs, mptParses, pltParses, totParses}
+use Rattle.isdb_mmt.specs.Formats.Mpt.{mptOf}
+use Rattle.isdb_mmt.specs.Formats.Plt.{pltOf}
+use Rattle.isdb_mmt.specs.Formats.Tot.{totOf}
+use Rattle.isdb_mmt.specs.Pushes.TableOutcome.{bodyFrom}
+use Rattle.isdb_mmt.specs.Answers.Readings.{areaPart, sectionFound, sectionPart, controlFound, mptAt, mptPart, pltPart, totPart, tableRead, tableIdOf, sectionRead, mptRead, pltRead, totRead}
+use Rattle.isdb_mmt.specs.Memory.Opening.{lent}
+use Rattle.isdb_mmt.specs.Answers.KeptParts.{partGiven, stateOnly, Reachable, AnArea, MptReachable}
 use Rattle.isdb_mmt.specs.declared.part.Part.{Part}
 use Rattle.isdb_mmt.specs.declared.decoder.readings.TableReading.{TableReading}
 use Rattle.isdb_mmt.specs.declared.decoder.readings.TableReading.the-variants.{Refused as tableRefused, Nothing as noTable, Bytes as theBytes}

@@ -12,22 +12,22 @@ use lib.ListN.{length}
 use Rattle.isdb_tlv.specs.Fields.{written, Fit}
 use Rattle.isdb_tlv.proofs.Fields.{length-written}
 use Rattle.isdb_mmt.specs.declared.decoder.counts.Counters.{Counters}
-use Rattle.isdb_mmt.specs.Packet.{Bytes, MessagePacket, Packet, ipError, ntp, nonMmtp, media, message, control, other}
-use Rattle.isdb_mmt.specs.Maps.{put, isSome}
-use Rattle.isdb_mmt.specs.Objects.{Mfu, Asset}
-use Rattle.isdb_mmt.specs.Kept.{Kept}
-use Rattle.isdb_mmt.specs.Model.{State, Control as ControlState, controlOf, pushed}
-use Rattle.isdb_mmt.specs.Needs.{heldLength}
-use Rattle.isdb_mmt.specs.Layout.{latestPlace, timePlace, countersPlace, mediaPlaces}
-use Rattle.isdb_mmt.specs.Lent.{over}
-use Rattle.isdb_mmt.specs.Session.{Session, limitsOf, usedOf, latestOf, timeFields, countersFields, mediaFields}
-use Rattle.isdb_mmt.specs.Check.{mediaIn, controlsIn, sectionsIn, lengthsOf, sound, Sound}
-use Rattle.isdb_mmt.specs.View.{view}
-use Rattle.isdb_mmt.specs.Opening.{lent}
-use Rattle.isdb_mmt.specs.PlacesOf.{tableLength, placeFor, heldFor, controlFor, latestFor}
-use Rattle.isdb_mmt.specs.MediaPush.{heldOver, mediaPlaceFor, leavesAt, assetNext, mediaLeaves}
-use Rattle.isdb_mmt.specs.Leaves.{keptPlace, withTime, withCounters, controlLeaves, messageIn, controlPlaceFor, messageAt, messageLeaves, packetLeaves, joinedIn}
-use Rattle.isdb_mmt.specs.Push.{Fits}
+use Rattle.isdb_mmt.specs.Decoder.Packet.{Bytes, MessagePacket, Packet, ipError, ntp, nonMmtp, media, message, control, other}
+use Rattle.isdb_mmt.specs.Decoder.Maps.{put, isSome}
+use Rattle.isdb_mmt.specs.Decoder.Objects.{Mfu, Asset}
+use Rattle.isdb_mmt.specs.Decoder.Kept.{Kept}
+use Rattle.isdb_mmt.specs.Decoder.Model.{State, Control as ControlState, controlOf, pushed}
+use Rattle.isdb_mmt.specs.Decoder.Needs.{heldLength}
+use Rattle.isdb_mmt.specs.Memory.Layout.{latestPlace, timePlace, countersPlace, mediaPlaces}
+use Rattle.isdb_mmt.specs.Memory.Lent.{over}
+use Rattle.isdb_mmt.specs.Memory.Session.{Session, limitsOf, usedOf, latestOf, timeFields, countersFields, mediaFields}
+use Rattle.isdb_mmt.specs.Memory.Check.{mediaIn, controlsIn, sectionsIn, lengthsOf, sound, Sound}
+use Rattle.isdb_mmt.specs.Memory.View.{view}
+use Rattle.isdb_mmt.specs.Memory.Opening.{lent}
+use Rattle.isdb_mmt.specs.Memory.PlacesOf.{tableLength, placeFor, heldFor, controlFor, latestFor}
+use Rattle.isdb_mmt.specs.Pushes.MediaPush.{heldOver, mediaPlaceFor, leavesAt, assetNext, mediaLeaves}
+use Rattle.isdb_mmt.specs.Pushes.Leaves.{keptPlace, withTime, withCounters, controlLeaves, messageIn, controlPlaceFor, messageAt, messageLeaves, packetLeaves, joinedIn}
+use Rattle.isdb_mmt.specs.Pushes.Push.{Fits}
 use Rattle.isdb_mmt.specs.declared.decoder.place.PlaceFor.{PlaceFor}
 use Rattle.isdb_mmt.specs.declared.decoder.place.PlaceFor.the-variants.{Own, Free, NoneFree}
 use Rattle.isdb_mmt.specs.declared.decoder.limits.Limits.{Limits}

@@ -12,9 +12,9 @@ use borrow.Author.Tests.{lt-ltb, le-ltb, le-leb, lt-leb, eq-eqb, ltb-true, ltb-f
 use Rattle.isdb_tlv.specs.Bytes.{be}
 use Rattle.isdb_tlv.specs.Guards.{if_then_else_, _<?_, _≤?_}
 use Rattle.isdb_tlv.proofs.Guards.{either}
-use Rattle.isdb_mmt.specs.Lent.{namesFrom, among, distinct}
-use Rattle.isdb_mmt.specs.Readings.{lesser, leastFrom, mostName, thenAbove, ascendingFrom, ascending}
-use Rattle.isdb_mmt.specs.ReadingLaws.{rises, InOrder, Least}
+use Rattle.isdb_mmt.specs.Memory.Lent.{namesFrom, among, distinct}
+use Rattle.isdb_mmt.specs.Answers.Readings.{lesser, leastFrom, mostName, thenAbove, ascendingFrom, ascending}
+use Rattle.isdb_mmt.specs.Answers.ReadingLaws.{rises, InOrder, Least}
 use Rattle.isdb_mmt.specs.declared.maybe.MaybeU32.{MaybeU32}
 use Rattle.isdb_mmt.specs.declared.maybe.MaybeU32.the-variants.{None as noU32, Some as someU32}
 use Rattle.isdb_mmt.proofs.Names.{true-not-false, next, end}

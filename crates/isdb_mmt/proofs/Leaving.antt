@@ -12,18 +12,18 @@ use borrow.Author.Tests.{eqb-false}
 use Rattle.isdb_tlv.specs.Bytes.{be}
 use Rattle.isdb_tlv.specs.Fields.{bytesOf, written}
 use Rattle.isdb_tlv.proofs.Guards.{either}
-use Rattle.isdb_mmt.specs.Layout.{sectionSize}
-use Rattle.isdb_mmt.specs.Packet.{Bytes}
-use Rattle.isdb_mmt.specs.Octets.{Octets}
-use Rattle.isdb_mmt.specs.Lent.{part, placesFrom, indexed}
-use Rattle.isdb_mmt.specs.Session.{sectionPlaceOf, sectionFields}
-use Rattle.isdb_mmt.specs.PlacesOf.{tableLength}
-use Rattle.isdb_mmt.specs.Leaves.{sectionRows}
-use Rattle.isdb_mmt.specs.TableOutcome.{indexOf}
-use Rattle.isdb_mmt.specs.PendingTables.{Logged, withLog, placesOf, bytesAt, committedEntry, committedRecent, pendingOf, committedCounters}
-use Rattle.isdb_mmt.specs.Commit.{EntryFits, AllFit}
-use Rattle.isdb_mmt.specs.Start.{recentLength, countersWith}
-use Rattle.isdb_mmt.specs.Maps.{isSome}
+use Rattle.isdb_mmt.specs.Memory.Layout.{sectionSize}
+use Rattle.isdb_mmt.specs.Decoder.Packet.{Bytes}
+use Rattle.isdb_mmt.specs.Memory.Octets.{Octets}
+use Rattle.isdb_mmt.specs.Memory.Lent.{part, placesFrom, indexed}
+use Rattle.isdb_mmt.specs.Memory.Session.{sectionPlaceOf, sectionFields}
+use Rattle.isdb_mmt.specs.Memory.PlacesOf.{tableLength}
+use Rattle.isdb_mmt.specs.Pushes.Leaves.{sectionRows}
+use Rattle.isdb_mmt.specs.Pushes.TableOutcome.{indexOf}
+use Rattle.isdb_mmt.specs.Pushes.PendingTables.{Logged, withLog, placesOf, bytesAt, committedEntry, committedRecent, pendingOf, committedCounters}
+use Rattle.isdb_mmt.specs.Pushes.Commit.{EntryFits, AllFit}
+use Rattle.isdb_mmt.specs.Pushes.Start.{recentLength, countersWith}
+use Rattle.isdb_mmt.specs.Decoder.Maps.{isSome}
 use Rattle.isdb_mmt.specs.declared.decoder.section.KeptSection.{KeptSection}
 use Rattle.isdb_mmt.specs.declared.decoder.table_outcome.Recent.{Recent}
 use Rattle.isdb_mmt.specs.declared.decoder.walk.WalkState.{WalkState}

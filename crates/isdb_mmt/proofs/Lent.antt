@@ -14,7 +14,7 @@ use Rattle.isdb_tlv.specs.Bytes.{be, putBe}
 use Rattle.isdb_tlv.specs.Fields.{bytesOf, Field, written, puts}
 use Rattle.isdb_tlv.proofs.Numbers.{be-ext, be-drop, be-take, length-putBe}
 use Rattle.isdb_tlv.proofs.Fields.{length-bytesOf, length-written, size}
-use Rattle.isdb_mmt.specs.Lent.{part, over, placesFrom, namesFrom}
+use Rattle.isdb_mmt.specs.Memory.Lent.{part, over, placesFrom, namesFrom}
 
 -- ---- one write
 

@@ -9,8 +9,8 @@ use mir.Val.{Fits}
 use mir.Syntax.{w64}
 use borrow.Author.Tests.{ltb-false, leb-true}
 use Rattle.isdb_tlv.specs.Guards.{_<?_}
-use Rattle.isdb_mmt.specs.Layout.{mostMediaIds, mostControlIds, mostSections, mostMfuArea, mostMessageArea, mostTableArea, mostPackets, stateSize}
-use Rattle.isdb_mmt.specs.Limits.{inRange, placesInRange, areasInRange, packetsInRange, lengthsFor, longEnough, neededOf, needNumber, asked, Agreement}
+use Rattle.isdb_mmt.specs.Memory.Layout.{mostMediaIds, mostControlIds, mostSections, mostMfuArea, mostMessageArea, mostTableArea, mostPackets, stateSize}
+use Rattle.isdb_mmt.specs.Memory.Limits.{inRange, placesInRange, areasInRange, packetsInRange, lengthsFor, longEnough, neededOf, needNumber, asked, Agreement}
 use Rattle.isdb_mmt.specs.declared.decoder.limits.Limits.{Limits}
 use Rattle.isdb_mmt.specs.declared.decoder.limits.Lengths.{Lengths}
 use Rattle.isdb_mmt.specs.declared.decoder.limits.Need.{Need}

@@ -8,16 +8,16 @@ use native.Mathlib.Nat.{add-zero}
 use lib.ListN.{length, getD, take, drop, replicate}
 use lib.Seq.{drop-drop}
 use borrow.Author.Tests.{leb-true}
-use Rattle.isdb_mmt.specs.Layout.{mostSections, sectionPlaces, sectionSize}
-use Rattle.isdb_mmt.specs.Packet.{Bytes}
-use Rattle.isdb_mmt.specs.Kept.{Kept}
-use Rattle.isdb_mmt.specs.Lent.{part, placesFrom, indexed, every}
-use Rattle.isdb_mmt.specs.Session.{Session, limitsOf, usedOf, latestOf, sectionPlaceOf}
-use Rattle.isdb_mmt.specs.Check.{sectionsIn, sectionSound, lengthsOf, Sound}
-use Rattle.isdb_mmt.specs.View.{given, sectionEntry, viewBy, view}
-use Rattle.isdb_mmt.specs.TableOutcome.{indexSize, indexOf}
-use Rattle.isdb_mmt.specs.PendingTables.{logged, withLog, PendingTables, pendingOf, committedEntry, committedKept, committedRecent, Areas, committed, VersionOf, Versions}
-use Rattle.isdb_mmt.specs.Start.{recentAt, pltAt, totAt, walkStart, CanGo}
+use Rattle.isdb_mmt.specs.Memory.Layout.{mostSections, sectionPlaces, sectionSize}
+use Rattle.isdb_mmt.specs.Decoder.Packet.{Bytes}
+use Rattle.isdb_mmt.specs.Decoder.Kept.{Kept}
+use Rattle.isdb_mmt.specs.Memory.Lent.{part, placesFrom, indexed, every}
+use Rattle.isdb_mmt.specs.Memory.Session.{Session, limitsOf, usedOf, latestOf, sectionPlaceOf}
+use Rattle.isdb_mmt.specs.Memory.Check.{sectionsIn, sectionSound, lengthsOf, Sound}
+use Rattle.isdb_mmt.specs.Memory.View.{given, sectionEntry, viewBy, view}
+use Rattle.isdb_mmt.specs.Pushes.TableOutcome.{indexSize, indexOf}
+use Rattle.isdb_mmt.specs.Pushes.PendingTables.{logged, withLog, PendingTables, pendingOf, committedEntry, committedKept, committedRecent, Areas, committed, VersionOf, Versions}
+use Rattle.isdb_mmt.specs.Pushes.Start.{recentAt, pltAt, totAt, walkStart, CanGo}
 use Rattle.isdb_mmt.specs.declared.decoder.limits.Limits.{Limits}
 use Rattle.isdb_mmt.specs.declared.decoder.counts.Counters.{Counters}
 use Rattle.isdb_mmt.specs.declared.decoder.section.KeptSection.{KeptSection}

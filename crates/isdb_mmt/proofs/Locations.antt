@@ -6,7 +6,7 @@ use lib.Dec.{ltb, eqb}
 use lib.ListN.{length, getD}
 use borrow.Author.Tests.{ltb-false}
 use Rattle.isdb_tlv.proofs.Guards.{cond-elim}
-use Rattle.isdb_mmt.specs.Location.{sized, urlOf, locationOf}
+use Rattle.isdb_mmt.specs.Formats.Location.{sized, urlOf, locationOf}
 use Rattle.isdb_mmt.specs.declared.location.Location.{Location}
 use Rattle.isdb_mmt.specs.declared.location.Located.{Located}
 use Rattle.isdb_mmt.specs.declared.location.Located.the-variants.{None, Some}

@@ -8,9 +8,9 @@ use lib.Dec.{ltb}
 use lib.ListN.{length, getD, set}
 use Rattle.isdb_tlv.specs.Guards.{_=?_}
 use Rattle.isdb_tlv.proofs.Guards.{cond-elim}
-use Rattle.isdb_mmt.specs.Packet.{Bytes}
-use Rattle.isdb_mmt.specs.Lent.{part, foundFrom}
-use Rattle.isdb_mmt.specs.Kept.{Section, Table, emptyTable, mptTable, pltTable, totTable, truncatedSection, aSection, otherTable}
+use Rattle.isdb_mmt.specs.Decoder.Packet.{Bytes}
+use Rattle.isdb_mmt.specs.Memory.Lent.{part, foundFrom}
+use Rattle.isdb_mmt.specs.Decoder.Kept.{Section, Table, emptyTable, mptTable, pltTable, totTable, truncatedSection, aSection, otherTable}
 use Rattle.isdb_mmt.specs.declared.decoder.place.Found.{Found}
 use Rattle.isdb_mmt.specs.declared.decoder.place.Found.the-variants.{At, Nothing as notFound}
 use Rattle.isdb_mmt.specs.declared.decoder.section.KeptSection.{KeptSection}
@@ -18,10 +18,10 @@ use Rattle.isdb_mmt.specs.declared.decoder.table_outcome.Recent.{Recent}
 use Rattle.isdb_mmt.specs.declared.decoder.table_outcome.TableAction.{TableAction}
 use Rattle.isdb_mmt.specs.declared.decoder.table_outcome.TableAction.the-variants.{Nothing, Other, Mpt, Plt, Tot, Put}
 use Rattle.isdb_mmt.specs.declared.decoder.table_outcome.TableOutcome.{TableOutcome}
-use Rattle.isdb_mmt.specs.Placed.{Placed, PlacedAt, AllPlaced}
-use Rattle.isdb_mmt.specs.TableOutcome.{keysOf, noSection, bodyOutcome, versionOutcome, sectionOutcome, tableOutcome}
-use Rattle.isdb_mmt.specs.PendingTables.{Logged, logged, placesOf, PendingTables, recent, indexAfter, mptAfter, pltAfter, totAfter, keptLength, pendingWith, pendingWithAll}
-use Rattle.isdb_mmt.specs.Commit.{AllFit}
+use Rattle.isdb_mmt.specs.Pushes.Placed.{Placed, PlacedAt, AllPlaced}
+use Rattle.isdb_mmt.specs.Pushes.TableOutcome.{keysOf, noSection, bodyOutcome, versionOutcome, sectionOutcome, tableOutcome}
+use Rattle.isdb_mmt.specs.Pushes.PendingTables.{Logged, logged, placesOf, PendingTables, recent, indexAfter, mptAfter, pltAfter, totAfter, keptLength, pendingWith, pendingWithAll}
+use Rattle.isdb_mmt.specs.Pushes.Commit.{AllFit}
 use Rattle.isdb_mmt.proofs.Committed.{TableAt, ReadPlaced}
 
 module _ (m : Bytes) where

@@ -8,7 +8,7 @@ use mathlib.Core.List.{List, [], _∷_}
 use lib.Dec.{eqb}
 use borrow.Author.Tests.{eq-eqb}
 pub use borrow.Author.Tests.{eqb-true}
-use Rattle.isdb_mmt.specs.Maps.{find, put}
+use Rattle.isdb_mmt.specs.Decoder.Maps.{find, put}
 
 pub eqb-self : (n : ℕ) → eqb n n ≡ true
 eqb-self n = eq-eqb n n refl

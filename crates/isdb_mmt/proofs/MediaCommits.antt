@@ -15,21 +15,21 @@ use lib.Seq.{take-all, length-take-le}
 use Rattle.isdb_tlv.specs.Bytes.{be}
 use Rattle.isdb_tlv.specs.Fields.{written}
 use Rattle.isdb_tlv.specs.declared.mmtp.Header.{Header}
-use Rattle.isdb_mmt.specs.Part.{partOf, partAt}
-use Rattle.isdb_mmt.specs.Packet.{Bytes, PayloadUnit, MpuPacket, headerIn, payloadUnit, payloadUnits, unitsFor, unitsRead, mediaOf, clear, readable}
-use Rattle.isdb_mmt.specs.Maps.{isSome}
-use Rattle.isdb_mmt.specs.Mpu.{payloadHeaderFields, payloadHeader, declaredOf, unitsOf}
-use Rattle.isdb_mmt.specs.Objects.{Mfu, Asset, Rec, grown, mpuNumber, gap, afterUnits, deliveredBy, afterHeaders, assetAfter, tagged, passes, mediaGives}
-use Rattle.isdb_mmt.specs.Needs.{heldLength, unitsNeed}
-use Rattle.isdb_mmt.specs.Lent.{part, over}
-use Rattle.isdb_mmt.specs.View.{given, mfuOf, assetOfPlace}
-use Rattle.isdb_mmt.specs.Records.{noHeader, objectFor, rowSize, rowFields, rowOf, rowsFrom, dataFrom}
-use Rattle.isdb_mmt.specs.MediaPush.{noObject, heldFor, heldOver}
-use Rattle.isdb_mmt.specs.MediaEffect.{unitObject, withLength, withEachUnit, unitsEffect}
-use Rattle.isdb_mmt.specs.MediaPlace.{gapIn, normalObject, begun, startOf}
-use Rattle.isdb_mmt.specs.MediaOutcome.{outcomeWith, outcomeOfUnits, unitsOutcome, outcomeBy, mediaOutcome}
-use Rattle.isdb_mmt.specs.Giving.{unitRecs, Outputs, Gave}
-use Rattle.isdb_mmt.specs.MediaCommit.{OneFits, OnePut, dataIn, unitsData, CanAppend, startsFrom, givesFrom, CanCommit, CanTake, Committed, CanEnd, passedUnit, CanPass, passesOn}
+use Rattle.isdb_mmt.specs.Formats.Part.{partOf, partAt}
+use Rattle.isdb_mmt.specs.Decoder.Packet.{Bytes, PayloadUnit, MpuPacket, headerIn, payloadUnit, payloadUnits, unitsFor, unitsRead, mediaOf, clear, readable}
+use Rattle.isdb_mmt.specs.Decoder.Maps.{isSome}
+use Rattle.isdb_mmt.specs.Formats.Mpu.{payloadHeaderFields, payloadHeader, declaredOf, unitsOf}
+use Rattle.isdb_mmt.specs.Decoder.Objects.{Mfu, Asset, Rec, grown, mpuNumber, gap, afterUnits, deliveredBy, afterHeaders, assetAfter, tagged, passes, mediaGives}
+use Rattle.isdb_mmt.specs.Decoder.Needs.{heldLength, unitsNeed}
+use Rattle.isdb_mmt.specs.Memory.Lent.{part, over}
+use Rattle.isdb_mmt.specs.Memory.View.{given, mfuOf, assetOfPlace}
+use Rattle.isdb_mmt.specs.Pushes.Records.{noHeader, objectFor, rowSize, rowFields, rowOf, rowsFrom, dataFrom}
+use Rattle.isdb_mmt.specs.Pushes.MediaPush.{noObject, heldFor, heldOver}
+use Rattle.isdb_mmt.specs.Pushes.MediaEffect.{unitObject, withLength, withEachUnit, unitsEffect}
+use Rattle.isdb_mmt.specs.Pushes.MediaPlace.{gapIn, normalObject, begun, startOf}
+use Rattle.isdb_mmt.specs.Pushes.MediaOutcome.{outcomeWith, outcomeOfUnits, unitsOutcome, outcomeBy, mediaOutcome}
+use Rattle.isdb_mmt.specs.Pushes.Giving.{unitRecs, Outputs, Gave}
+use Rattle.isdb_mmt.specs.Pushes.MediaCommit.{OneFits, OnePut, dataIn, unitsData, CanAppend, startsFrom, givesFrom, CanCommit, CanTake, Committed, CanEnd, passedUnit, CanPass, passesOn}
 use Rattle.isdb_mmt.specs.declared.mpu.FragmentType.{FragmentType}
 use Rattle.isdb_mmt.specs.declared.mpu.FragmentType.the-variants.{MpuMetadata, MovieFragmentMetadata, Mfu as mfuType, Reserved}
 use Rattle.isdb_mmt.specs.declared.mpu.FragmentationIndicator.{FragmentationIndicator}

@@ -10,12 +10,12 @@ use mir.Syntax.{w64}
 use lib.Dec.{leb}
 use lib.ListN.{length, drop, length-take}
 use Rattle.isdb_tlv.proofs.Guards.{cond-elim}
-use Rattle.isdb_mmt.specs.Part.{partOf}
-use Rattle.isdb_mmt.specs.Maps.{one}
+use Rattle.isdb_mmt.specs.Formats.Part.{partOf}
+use Rattle.isdb_mmt.specs.Decoder.Maps.{one}
 use Rattle.isdb_tlv.specs.Walk.{also}
-use Rattle.isdb_mmt.specs.Mpu.{unitStep, unitsFrom, unitsOf}
-use Rattle.isdb_mmt.specs.Objects.{mostObject}
-use Rattle.isdb_mmt.specs.MediaEffect.{unitObject, completeUnit, headUnit, droppedUnit, grownTo, grownUnit, withUnit, withEachUnit, unitsEffect, Roomy, Light, Ready}
+use Rattle.isdb_mmt.specs.Formats.Mpu.{unitStep, unitsFrom, unitsOf}
+use Rattle.isdb_mmt.specs.Decoder.Objects.{mostObject}
+use Rattle.isdb_mmt.specs.Pushes.MediaEffect.{unitObject, completeUnit, headUnit, droppedUnit, grownTo, grownUnit, withUnit, withEachUnit, unitsEffect, Roomy, Light, Ready}
 use Rattle.isdb_mmt.specs.declared.part.Part.{Part}
 use Rattle.isdb_mmt.specs.declared.mpu.FragmentationIndicator.{FragmentationIndicator}
 use Rattle.isdb_mmt.specs.declared.mpu.FragmentationIndicator.the-variants.{Complete, Head, Middle, Last}

@@ -14,18 +14,18 @@ use Rattle.isdb_tlv.specs.Bytes.{be}
 use Rattle.isdb_tlv.specs.Fields.{field, written, Fit}
 use Rattle.isdb_tlv.proofs.Fields.{length-written}
 use Rattle.isdb_tlv.proofs.Guards.{either}
-use Rattle.isdb_mmt.specs.Packet.{MpuPacket, media as mediaPacket, Bytes, PayloadUnit, readable}
-use Rattle.isdb_mmt.specs.Maps.{find, put, orElse, isSome}
-use Rattle.isdb_mmt.specs.Objects.{newMpu, mpuAfter, rangeAfter, mpuIn, Mfu, Asset, fresh, assetAfter, mostObject, grown, continued, effectOf, unitEffect, afterUnit, objectOf, afterUnits, gap, afterHeaders}
-use Rattle.isdb_mmt.specs.Model.{assetOf, pushed, packetCounted}
-use Rattle.isdb_mmt.specs.Needs.{heldLength, unitArea, unitsNeed, needs}
-use Rattle.isdb_mmt.specs.Lent.{part, over, namesFrom, foundFrom, indexed}
-use Rattle.isdb_mmt.specs.Session.{Session, limitsOf, usedOf, usedFields, latestOf, timeOf, countersOf, mediaFields}
-use Rattle.isdb_mmt.specs.Check.{mediaIn, controlsIn, sectionsIn, mediaSound, packetCounts, lengthsOf, Sound}
-use Rattle.isdb_mmt.specs.View.{given, headerGiven, itemGiven, mfuOf, assetOfPlace, assetEntry, controlEntry, sectionEntry, keptTableAt, viewBy, view}
-use Rattle.isdb_mmt.specs.Opening.{lent}
-use Rattle.isdb_mmt.specs.Records.{headerOr, hasHeader, itemOr, hasItem}
-use Rattle.isdb_mmt.specs.MediaPush.{placeFor, heldFor, firstIn, heldOver, withPlace, oneMore, withUsed, withPackets, mediaPlaceFor, leavesAt, assetNext, mediaLeaves}
+use Rattle.isdb_mmt.specs.Decoder.Packet.{MpuPacket, media as mediaPacket, Bytes, PayloadUnit, readable}
+use Rattle.isdb_mmt.specs.Decoder.Maps.{find, put, orElse, isSome}
+use Rattle.isdb_mmt.specs.Decoder.Objects.{newMpu, mpuAfter, rangeAfter, mpuIn, Mfu, Asset, fresh, assetAfter, mostObject, grown, continued, effectOf, unitEffect, afterUnit, objectOf, afterUnits, gap, afterHeaders}
+use Rattle.isdb_mmt.specs.Decoder.Model.{assetOf, pushed, packetCounted}
+use Rattle.isdb_mmt.specs.Decoder.Needs.{heldLength, unitArea, unitsNeed, needs}
+use Rattle.isdb_mmt.specs.Memory.Lent.{part, over, namesFrom, foundFrom, indexed}
+use Rattle.isdb_mmt.specs.Memory.Session.{Session, limitsOf, usedOf, usedFields, latestOf, timeOf, countersOf, mediaFields}
+use Rattle.isdb_mmt.specs.Memory.Check.{mediaIn, controlsIn, sectionsIn, mediaSound, packetCounts, lengthsOf, Sound}
+use Rattle.isdb_mmt.specs.Memory.View.{given, headerGiven, itemGiven, mfuOf, assetOfPlace, assetEntry, controlEntry, sectionEntry, keptTableAt, viewBy, view}
+use Rattle.isdb_mmt.specs.Memory.Opening.{lent}
+use Rattle.isdb_mmt.specs.Pushes.Records.{headerOr, hasHeader, itemOr, hasItem}
+use Rattle.isdb_mmt.specs.Pushes.MediaPush.{placeFor, heldFor, firstIn, heldOver, withPlace, oneMore, withUsed, withPackets, mediaPlaceFor, leavesAt, assetNext, mediaLeaves}
 use Rattle.isdb_mmt.specs.declared.maybe.MaybeU32.{MaybeU32}
 use Rattle.isdb_mmt.specs.declared.maybe.MaybeU32.the-variants.{None as noU32, Some as someU32}
 use Rattle.isdb_mmt.specs.declared.mpu.MaybeMfu.{MaybeMfu}

@@ -10,17 +10,17 @@ use mir.Syntax.{w64}
 use lib.ListN.{length, length-take}
 use Rattle.isdb_tlv.specs.Bytes.{be}
 use Rattle.isdb_tlv.specs.declared.mmtp.Header.{Header}
-use Rattle.isdb_mmt.specs.Packet.{Bytes, PayloadUnit, MpuPacket, headerIn, payloadUnits, unitsFor, unitsRead, mediaOf, clear, readable}
-use Rattle.isdb_mmt.specs.Maps.{one, isSome}
-use Rattle.isdb_mmt.specs.Mpu.{payloadHeader, declaredOf, unitsOf, lostFrom}
-use Rattle.isdb_mmt.specs.Objects.{Asset, mostObject, malformedPayload, afterHeaders, assetAfter}
-use Rattle.isdb_mmt.specs.Layout.{mostCount}
-use Rattle.isdb_mmt.specs.View.{assetOfPlace}
-use Rattle.isdb_mmt.specs.MediaPush.{noObject, heldFor, placeFor}
-use Rattle.isdb_mmt.specs.MediaEffect.{withEachUnit, unitsEffect, Roomy, Ready}
-use Rattle.isdb_mmt.specs.MediaPlace.{gapIn, lostIn, normalObject, begun, startOf, newIn, jumpIn, completesIn, addsOf, placeAfter, StatsWithin}
-use Rattle.isdb_mmt.specs.MediaOutcome.{outcomeWith, outcomeOfUnits, unitsOutcome, outcomeBy, mediaOutcome, CanReadUnits}
-use Rattle.isdb_mmt.specs.MediaCommit.{Small}
+use Rattle.isdb_mmt.specs.Decoder.Packet.{Bytes, PayloadUnit, MpuPacket, headerIn, payloadUnits, unitsFor, unitsRead, mediaOf, clear, readable}
+use Rattle.isdb_mmt.specs.Decoder.Maps.{one, isSome}
+use Rattle.isdb_mmt.specs.Formats.Mpu.{payloadHeader, declaredOf, unitsOf, lostFrom}
+use Rattle.isdb_mmt.specs.Decoder.Objects.{Asset, mostObject, malformedPayload, afterHeaders, assetAfter}
+use Rattle.isdb_mmt.specs.Memory.Layout.{mostCount}
+use Rattle.isdb_mmt.specs.Memory.View.{assetOfPlace}
+use Rattle.isdb_mmt.specs.Pushes.MediaPush.{noObject, heldFor, placeFor}
+use Rattle.isdb_mmt.specs.Pushes.MediaEffect.{withEachUnit, unitsEffect, Roomy, Ready}
+use Rattle.isdb_mmt.specs.Pushes.MediaPlace.{gapIn, lostIn, normalObject, begun, startOf, newIn, jumpIn, completesIn, addsOf, placeAfter, StatsWithin}
+use Rattle.isdb_mmt.specs.Pushes.MediaOutcome.{outcomeWith, outcomeOfUnits, unitsOutcome, outcomeBy, mediaOutcome, CanReadUnits}
+use Rattle.isdb_mmt.specs.Pushes.MediaCommit.{Small}
 use Rattle.isdb_mmt.specs.declared.mpu.FragmentType.{FragmentType}
 use Rattle.isdb_mmt.specs.declared.mpu.FragmentType.the-variants.{MpuMetadata, MovieFragmentMetadata, Mfu, Reserved}
 use Rattle.isdb_mmt.specs.declared.mpu.PayloadHeader.{PayloadHeader}

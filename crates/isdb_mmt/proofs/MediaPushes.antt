@@ -14,23 +14,23 @@ use lib.Seq.{length-take-le}
 use borrow.Author.Tests.{ltb-false, eqb-true, eq-eqb, ne-eqb}
 use Rattle.isdb_tlv.specs.Guards.{_<?_}
 use Rattle.isdb_tlv.specs.declared.mmtp.Header.{Header}
-use Rattle.isdb_mmt.specs.Packet.{Bytes, MpuPacket, media, mediaOf, readable}
-use Rattle.isdb_mmt.specs.Maps.{orElse, one}
-use Rattle.isdb_mmt.specs.Mpu.{payloadHeader}
-use Rattle.isdb_mmt.specs.Objects.{Asset, Rec, fresh, afterHeaders, assetAfter, passes, mediaGives}
-use Rattle.isdb_mmt.specs.Model.{assetOf, gives}
-use Rattle.isdb_mmt.specs.Needs.{dataOf, needs}
-use Rattle.isdb_mmt.specs.Layout.{mostCount, mostMediaIds, mostMfuArea, mediaPlaces, mediaSize}
-use Rattle.isdb_mmt.specs.Lent.{part, over, placesFrom, namesFrom, foundFrom, every}
-use Rattle.isdb_mmt.specs.Session.{Session, limitsOf, usedOf, countersOf, mediaPlaceOf, mediaAt}
-use Rattle.isdb_mmt.specs.Check.{mediaIn, mediaSound, countFits, statsCounts, packetCounts, lengthsOf, Sound}
-use Rattle.isdb_mmt.specs.View.{assetOfPlace, assetEntry, viewBy, view}
-use Rattle.isdb_mmt.specs.Opening.{lent}
-use Rattle.isdb_mmt.specs.Records.{rowSize, rowsFrom, dataFrom}
-use Rattle.isdb_mmt.specs.MediaPush.{placeFor, heldOver, mediaPlaceFor, assetNext, leavesAt, mediaLeaves, mediaAsks, MediaPushed}
-use Rattle.isdb_mmt.specs.MediaPlace.{startOf, placeAfter, StatsWithin}
-use Rattle.isdb_mmt.specs.MediaOutcome.{mediaOutcome, CanReadUnits}
-use Rattle.isdb_mmt.specs.MediaCommit.{CanTakePlace, blank, placeIn, indexOf, passesOn, recordsHanded, bytesHanded, fitsNumber, numberOf, refused, accepted, answerBy, answerOf, Small, startsFrom, givesFrom, CanCommit, Committed, stateAfter, CanCommitAll, CommittedAll, CanPushMedia}
+use Rattle.isdb_mmt.specs.Decoder.Packet.{Bytes, MpuPacket, media, mediaOf, readable}
+use Rattle.isdb_mmt.specs.Decoder.Maps.{orElse, one}
+use Rattle.isdb_mmt.specs.Formats.Mpu.{payloadHeader}
+use Rattle.isdb_mmt.specs.Decoder.Objects.{Asset, Rec, fresh, afterHeaders, assetAfter, passes, mediaGives}
+use Rattle.isdb_mmt.specs.Decoder.Model.{assetOf, gives}
+use Rattle.isdb_mmt.specs.Decoder.Needs.{dataOf, needs}
+use Rattle.isdb_mmt.specs.Memory.Layout.{mostCount, mostMediaIds, mostMfuArea, mediaPlaces, mediaSize}
+use Rattle.isdb_mmt.specs.Memory.Lent.{part, over, placesFrom, namesFrom, foundFrom, every}
+use Rattle.isdb_mmt.specs.Memory.Session.{Session, limitsOf, usedOf, countersOf, mediaPlaceOf, mediaAt}
+use Rattle.isdb_mmt.specs.Memory.Check.{mediaIn, mediaSound, countFits, statsCounts, packetCounts, lengthsOf, Sound}
+use Rattle.isdb_mmt.specs.Memory.View.{assetOfPlace, assetEntry, viewBy, view}
+use Rattle.isdb_mmt.specs.Memory.Opening.{lent}
+use Rattle.isdb_mmt.specs.Pushes.Records.{rowSize, rowsFrom, dataFrom}
+use Rattle.isdb_mmt.specs.Pushes.MediaPush.{placeFor, heldOver, mediaPlaceFor, assetNext, leavesAt, mediaLeaves, mediaAsks, MediaPushed}
+use Rattle.isdb_mmt.specs.Pushes.MediaPlace.{startOf, placeAfter, StatsWithin}
+use Rattle.isdb_mmt.specs.Pushes.MediaOutcome.{mediaOutcome, CanReadUnits}
+use Rattle.isdb_mmt.specs.Pushes.MediaCommit.{CanTakePlace, blank, placeIn, indexOf, passesOn, recordsHanded, bytesHanded, fitsNumber, numberOf, refused, accepted, answerBy, answerOf, Small, startsFrom, givesFrom, CanCommit, Committed, stateAfter, CanCommitAll, CommittedAll, CanPushMedia}
 use Rattle.isdb_mmt.specs.declared.decoder.place.Found.the-variants.{At, Nothing}
 use Rattle.isdb_mmt.specs.declared.decoder.place.PlaceFor.{PlaceFor}
 use Rattle.isdb_mmt.specs.declared.decoder.place.PlaceFor.the-variants.{Own, Free, NoneFree}

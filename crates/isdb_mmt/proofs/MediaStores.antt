@@ -7,10 +7,10 @@ use lib.ListN.{length}
 use Rattle.isdb_tlv.specs.Bytes.{putBe}
 use Rattle.isdb_tlv.specs.Fields.{field, written}
 use Rattle.isdb_tlv.proofs.Fields.{length-written}
-use Rattle.isdb_mmt.specs.Lent.{over}
-use Rattle.isdb_mmt.specs.Session.{mediaFields, usedFields}
-use Rattle.isdb_mmt.specs.Layout.{mostMediaIds, usedPlace, countersPlace, mediaPlaces, mediaSize, stateSize}
-use Rattle.isdb_mmt.specs.MediaPush.{withUsed, withPackets}
+use Rattle.isdb_mmt.specs.Memory.Lent.{over}
+use Rattle.isdb_mmt.specs.Memory.Session.{mediaFields, usedFields}
+use Rattle.isdb_mmt.specs.Memory.Layout.{mostMediaIds, usedPlace, countersPlace, mediaPlaces, mediaSize, stateSize}
+use Rattle.isdb_mmt.specs.Pushes.MediaPush.{withUsed, withPackets}
 use Rattle.isdb_mmt.specs.declared.decoder.head.Used.{Used}
 use Rattle.isdb_mmt.specs.declared.decoder.media.Media.{Media}
 use Rattle.isdb_mmt.proofs.Lent.{length-over}

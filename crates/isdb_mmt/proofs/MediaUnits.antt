@@ -8,15 +8,15 @@ use native.Mathlib.Omega.{arith}
 use lib.Dec.{leb}
 use borrow.Author.Tests.{leb-true}
 use lib.ListN.{length}
-use Rattle.isdb_mmt.specs.Part.{partOf}
-use Rattle.isdb_mmt.specs.Packet.{Bytes, PayloadUnit, MpuPacket}
-use Rattle.isdb_mmt.specs.Maps.{isSome}
-use Rattle.isdb_mmt.specs.Objects.{Mfu, Asset, UnitEffect, mostObject, grown, continued, effectOf, unitEffect, afterUnit, objectOf, afterUnits, deliveredBy}
-use Rattle.isdb_mmt.specs.Needs.{heldLength, unitArea, unitsNeed}
-use Rattle.isdb_mmt.specs.Lent.{over}
-use Rattle.isdb_mmt.specs.MediaPush.{heldFor, heldOver}
-use Rattle.isdb_mmt.specs.MediaEffect.{withUnit, withEachUnit, headUnit, grownTo, droppedUnit}
-use Rattle.isdb_mmt.specs.MediaCommit.{dataIn}
+use Rattle.isdb_mmt.specs.Formats.Part.{partOf}
+use Rattle.isdb_mmt.specs.Decoder.Packet.{Bytes, PayloadUnit, MpuPacket}
+use Rattle.isdb_mmt.specs.Decoder.Maps.{isSome}
+use Rattle.isdb_mmt.specs.Decoder.Objects.{Mfu, Asset, UnitEffect, mostObject, grown, continued, effectOf, unitEffect, afterUnit, objectOf, afterUnits, deliveredBy}
+use Rattle.isdb_mmt.specs.Decoder.Needs.{heldLength, unitArea, unitsNeed}
+use Rattle.isdb_mmt.specs.Memory.Lent.{over}
+use Rattle.isdb_mmt.specs.Pushes.MediaPush.{heldFor, heldOver}
+use Rattle.isdb_mmt.specs.Pushes.MediaEffect.{withUnit, withEachUnit, headUnit, grownTo, droppedUnit}
+use Rattle.isdb_mmt.specs.Pushes.MediaCommit.{dataIn}
 use Rattle.isdb_mmt.specs.declared.mpu.FragmentationIndicator.{FragmentationIndicator}
 use Rattle.isdb_mmt.specs.declared.mpu.FragmentationIndicator.the-variants.{Complete, Head, Middle, Last}
 use Rattle.isdb_mmt.specs.declared.mpu.Unit.{Unit as DataUnit}

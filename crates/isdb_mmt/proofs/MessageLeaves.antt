@@ -12,21 +12,21 @@ use Rattle.isdb_tlv.specs.Bytes.{be}
 use Rattle.isdb_tlv.specs.Fields.{written, Fit}
 use Rattle.isdb_tlv.proofs.Fields.{length-written}
 use Rattle.isdb_tlv.proofs.Guards.{either}
-use Rattle.isdb_mmt.specs.Packet.{Bytes}
-use Rattle.isdb_mmt.specs.Maps.{put, isSome}
-use Rattle.isdb_mmt.specs.Objects.{Asset}
-use Rattle.isdb_mmt.specs.Reassembly.{PartialMessage}
-use Rattle.isdb_mmt.specs.Model.{State, Control as ControlState, idleControl}
-use Rattle.isdb_mmt.specs.Needs.{partialLength}
-use Rattle.isdb_mmt.specs.Layout.{controlPlaces, controlSize, mediaPlaces, mostMediaIds, mostControlIds, mostSections, stateSize, sectionPlaces, sectionSize}
-use Rattle.isdb_mmt.specs.Lent.{part, placesFrom, namesFrom, foundFrom, indexed}
-use Rattle.isdb_mmt.specs.Session.{Session, limitsOf, usedOf, latestOf, timeOf, countersOf, controlPlaceOf, sectionPlaceOf, controlFields}
-use Rattle.isdb_mmt.specs.Check.{mediaIn, controlsIn, sectionsIn, controlSound, lengthsOf, Sound}
-use Rattle.isdb_mmt.specs.View.{given, controlStateOf, assetEntry, controlEntry, sectionEntry, keptTableAt, viewBy, view}
-use Rattle.isdb_mmt.specs.Opening.{lent}
-use Rattle.isdb_mmt.specs.MediaPush.{withUsed}
-use Rattle.isdb_mmt.specs.PlacesOf.{tableLength, longIn, aggregatedIn, controlFor, latestFor}
-use Rattle.isdb_mmt.specs.Leaves.{joinedIn, keptPlace, usedFor, withControl, withLatest, stateOfTables, bytesOver, keptOver, controlPlaceFor}
+use Rattle.isdb_mmt.specs.Decoder.Packet.{Bytes}
+use Rattle.isdb_mmt.specs.Decoder.Maps.{put, isSome}
+use Rattle.isdb_mmt.specs.Decoder.Objects.{Asset}
+use Rattle.isdb_mmt.specs.Decoder.Reassembly.{PartialMessage}
+use Rattle.isdb_mmt.specs.Decoder.Model.{State, Control as ControlState, idleControl}
+use Rattle.isdb_mmt.specs.Decoder.Needs.{partialLength}
+use Rattle.isdb_mmt.specs.Memory.Layout.{controlPlaces, controlSize, mediaPlaces, mostMediaIds, mostControlIds, mostSections, stateSize, sectionPlaces, sectionSize}
+use Rattle.isdb_mmt.specs.Memory.Lent.{part, placesFrom, namesFrom, foundFrom, indexed}
+use Rattle.isdb_mmt.specs.Memory.Session.{Session, limitsOf, usedOf, latestOf, timeOf, countersOf, controlPlaceOf, sectionPlaceOf, controlFields}
+use Rattle.isdb_mmt.specs.Memory.Check.{mediaIn, controlsIn, sectionsIn, controlSound, lengthsOf, Sound}
+use Rattle.isdb_mmt.specs.Memory.View.{given, controlStateOf, assetEntry, controlEntry, sectionEntry, keptTableAt, viewBy, view}
+use Rattle.isdb_mmt.specs.Memory.Opening.{lent}
+use Rattle.isdb_mmt.specs.Pushes.MediaPush.{withUsed}
+use Rattle.isdb_mmt.specs.Memory.PlacesOf.{tableLength, longIn, aggregatedIn, controlFor, latestFor}
+use Rattle.isdb_mmt.specs.Pushes.Leaves.{joinedIn, keptPlace, usedFor, withControl, withLatest, stateOfTables, bytesOver, keptOver, controlPlaceFor}
 use Rattle.isdb_mmt.specs.declared.decoder.place.Found.the-variants.{At, Nothing}
 use Rattle.isdb_mmt.specs.declared.decoder.place.PlaceFor.the-variants.{Own, Free}
 use Rattle.isdb_mmt.specs.declared.decoder.limits.Limits.{Limits}

@@ -8,25 +8,25 @@ use native.Mathlib.Omega.{arith}
 use native.Mathlib.Nat.{zero-add, mul-le-mul-right}
 use lib.ListN.{length, take, drop, replicate, length-replicate, length-drop}
 use lib.Seq.{length-take-le}
-use Rattle.isdb_mmt.specs.Layout.{mostSections, mostMessageArea, mostTableArea, mostCount, tableIds, sectionPlaces, sectionSize}
-use Rattle.isdb_mmt.specs.Packet.{Bytes}
-use Rattle.isdb_mmt.specs.Maps.{isSome}
-use Rattle.isdb_mmt.specs.Reassembly.{PartialMessage, cutOf}
-use Rattle.isdb_mmt.specs.Kept.{KeptTables, Table, tableRead, mptAfterAll, storedAll, countedAll}
-use Rattle.isdb_mmt.specs.Needs.{tablesNeed}
-use Rattle.isdb_mmt.specs.Octets.{Octets}
-use Rattle.isdb_mmt.specs.Lent.{part}
-use Rattle.isdb_mmt.specs.Session.{Session, limitsOf, usedOf, latestOf}
-use Rattle.isdb_mmt.specs.Check.{lengthsOf, Sound}
-use Rattle.isdb_mmt.specs.View.{given, view}
-use Rattle.isdb_mmt.specs.PlacesOf.{tableLength, latestFor}
-use Rattle.isdb_mmt.specs.Leaves.{sectionRows, bytesOver, keptOver, latestOver}
-use Rattle.isdb_mmt.specs.TableOutcome.{indexSize, indexOf}
-use Rattle.isdb_mmt.specs.Placed.{tableBytes, placedCut}
-use Rattle.isdb_mmt.specs.TableState.{TableState}
-use Rattle.isdb_mmt.specs.PendingTables.{Logged, withLog, PendingTables, pendingOf, committedRecent, Areas, committed, Versions, Walked, CanWalk}
-use Rattle.isdb_mmt.specs.Commit.{putTables, putRecent, putAreas, loggedFrom, AllFit, CanStoreAreas}
-use Rattle.isdb_mmt.specs.Start.{recentAt, pltAt, totAt, walkStart, recentLength, latestWith, countersWith, malformedMore, CountsFit}
+use Rattle.isdb_mmt.specs.Memory.Layout.{mostSections, mostMessageArea, mostTableArea, mostCount, tableIds, sectionPlaces, sectionSize}
+use Rattle.isdb_mmt.specs.Decoder.Packet.{Bytes}
+use Rattle.isdb_mmt.specs.Decoder.Maps.{isSome}
+use Rattle.isdb_mmt.specs.Decoder.Reassembly.{PartialMessage, cutOf}
+use Rattle.isdb_mmt.specs.Decoder.Kept.{KeptTables, Table, tableRead, mptAfterAll, storedAll, countedAll}
+use Rattle.isdb_mmt.specs.Decoder.Needs.{tablesNeed}
+use Rattle.isdb_mmt.specs.Memory.Octets.{Octets}
+use Rattle.isdb_mmt.specs.Memory.Lent.{part}
+use Rattle.isdb_mmt.specs.Memory.Session.{Session, limitsOf, usedOf, latestOf}
+use Rattle.isdb_mmt.specs.Memory.Check.{lengthsOf, Sound}
+use Rattle.isdb_mmt.specs.Memory.View.{given, view}
+use Rattle.isdb_mmt.specs.Memory.PlacesOf.{tableLength, latestFor}
+use Rattle.isdb_mmt.specs.Pushes.Leaves.{sectionRows, bytesOver, keptOver, latestOver}
+use Rattle.isdb_mmt.specs.Pushes.TableOutcome.{indexSize, indexOf}
+use Rattle.isdb_mmt.specs.Pushes.Placed.{tableBytes, placedCut}
+use Rattle.isdb_mmt.specs.Pushes.TableState.{TableState}
+use Rattle.isdb_mmt.specs.Pushes.PendingTables.{Logged, withLog, PendingTables, pendingOf, committedRecent, Areas, committed, Versions, Walked, CanWalk}
+use Rattle.isdb_mmt.specs.Pushes.Commit.{putTables, putRecent, putAreas, loggedFrom, AllFit, CanStoreAreas}
+use Rattle.isdb_mmt.specs.Pushes.Start.{recentAt, pltAt, totAt, walkStart, recentLength, latestWith, countersWith, malformedMore, CountsFit}
 use Rattle.isdb_mmt.specs.declared.decoder.limits.Limits.{Limits}
 use Rattle.isdb_mmt.specs.declared.decoder.table_outcome.Recent.{Recent}
 use Rattle.isdb_mmt.specs.declared.decoder.walk.WalkState.{WalkState}

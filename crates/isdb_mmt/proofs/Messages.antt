@@ -17,12 +17,12 @@ use Rattle.isdb_tlv.specs.Bytes.{be}
 use Rattle.isdb_tlv.specs.Walk.{turn}
 use Rattle.isdb_tlv.proofs.Guards.{either, cond-elim}
 use Rattle.isdb_tlv.proofs.Numbers.{be-lt}
-use Rattle.isdb_mmt.specs.Layout.{mostMessageArea, mostTableArea, mostCount}
-use Rattle.isdb_mmt.specs.Packet.{Bytes}
-use Rattle.isdb_mmt.specs.Part.{partOf}
-use Rattle.isdb_mmt.specs.Message.{Aggregated, prefixWidth, aggregatedAt, aggregatedItem, aggregatedFrom, contentOf, paTables, sectionTable, bodyPart, tableAt, tableItem, tablesFrom}
-use Rattle.isdb_mmt.specs.Reassembly.{messagesOf, partsOf, tablesIn, tablesOf, tablesOfAll, cutOf}
-use Rattle.isdb_mmt.specs.Kept.{tableRead}
+use Rattle.isdb_mmt.specs.Memory.Layout.{mostMessageArea, mostTableArea, mostCount}
+use Rattle.isdb_mmt.specs.Decoder.Packet.{Bytes}
+use Rattle.isdb_mmt.specs.Formats.Part.{partOf}
+use Rattle.isdb_mmt.specs.Formats.Message.{Aggregated, prefixWidth, aggregatedAt, aggregatedItem, aggregatedFrom, contentOf, paTables, sectionTable, bodyPart, tableAt, tableItem, tablesFrom}
+use Rattle.isdb_mmt.specs.Decoder.Reassembly.{messagesOf, partsOf, tablesIn, tablesOf, tablesOfAll, cutOf}
+use Rattle.isdb_mmt.specs.Decoder.Kept.{tableRead}
 use Rattle.isdb_mmt.specs.declared.part.Part.{Part}
 use Rattle.isdb_mmt.specs.declared.message.Content.{Content}
 use Rattle.isdb_mmt.specs.declared.message.Content.the-variants.{Malformed as badMessage, Nothing as nothing, Table as oneTable, Tables}
@@ -32,9 +32,9 @@ use Rattle.isdb_mmt.specs.declared.message.TableStep.{TableStep}
 use Rattle.isdb_mmt.specs.declared.message.TableStep.the-variants.{End as noMore, Malformed as badTable, Table as tableStep}
 use Rattle.isdb_mmt.specs.declared.decoder.table_outcome.TableOutcome.{TableOutcome}
 use Rattle.isdb_mmt.specs.declared.decoder.walk.WalkState.{WalkState}
-use Rattle.isdb_mmt.specs.Placed.{joinOf, placed, placedIn, placedOf, placedOfAll, placedFrom, malformedFrom, placedCut, behind}
-use Rattle.isdb_mmt.specs.TableOutcome.{indexOf, tableOutcome, CanDecide}
-use Rattle.isdb_mmt.specs.PendingTables.{mostAdded, mostBefore, Room, CanApply, cutShort, Applied, Walked, CanTake, CanWalk, inBody}
+use Rattle.isdb_mmt.specs.Pushes.Placed.{joinOf, placed, placedIn, placedOf, placedOfAll, placedFrom, malformedFrom, placedCut, behind}
+use Rattle.isdb_mmt.specs.Pushes.TableOutcome.{indexOf, tableOutcome, CanDecide}
+use Rattle.isdb_mmt.specs.Pushes.PendingTables.{mostAdded, mostBefore, Room, CanApply, cutShort, Applied, Walked, CanTake, CanWalk, inBody}
 use Rattle.isdb_mmt.proofs.Places.{Lies}
 use Rattle.isdb_mmt.proofs.AggregatedMessages.{width-ge, piece-lies, pieces-at, table-lies, tables-at}
 use Rattle.isdb_mmt.proofs.TableOutcomes.{length-index}

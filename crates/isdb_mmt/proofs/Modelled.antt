@@ -7,24 +7,24 @@ use native.Mathlib.Omega.{arith}
 use native.Mathlib.Nat.{zero-add}
 use lib.ListN.{length, take}
 use Rattle.isdb_mmt.specs.declared.decoder.counts.Counters.{Counters}
-use Rattle.isdb_mmt.specs.Layout.{mostSections, sectionSize}
-use Rattle.isdb_mmt.specs.Packet.{Bytes}
-use Rattle.isdb_mmt.specs.Lent.{indexed}
-use Rattle.isdb_mmt.specs.Kept.{KeptTables, Table, mptAfterAll, storedAll, countedAll}
-use Rattle.isdb_mmt.specs.Needs.{tablesNeed}
+use Rattle.isdb_mmt.specs.Memory.Layout.{mostSections, sectionSize}
+use Rattle.isdb_mmt.specs.Decoder.Packet.{Bytes}
+use Rattle.isdb_mmt.specs.Memory.Lent.{indexed}
+use Rattle.isdb_mmt.specs.Decoder.Kept.{KeptTables, Table, mptAfterAll, storedAll, countedAll}
+use Rattle.isdb_mmt.specs.Decoder.Needs.{tablesNeed}
 use Rattle.isdb_mmt.specs.declared.decoder.walk.WalkState.{WalkState}
-use Rattle.isdb_mmt.specs.Placed.{Placed, tableBytes, AllPlaced}
-use Rattle.isdb_mmt.specs.TableState.{TableState, afterTables}
-use Rattle.isdb_mmt.specs.TableOutcome.{indexOf}
-use Rattle.isdb_mmt.specs.PendingTables.{Logged, withLog, PendingTables, pendingOf, pendingWithAll, Walked, Areas, committedEntry, committed, Versions}
-use Rattle.isdb_mmt.specs.Commit.{putTables, AllFit}
-use Rattle.isdb_mmt.specs.Leaves.{sectionRows, keptOver}
+use Rattle.isdb_mmt.specs.Pushes.Placed.{Placed, tableBytes, AllPlaced}
+use Rattle.isdb_mmt.specs.Pushes.TableState.{TableState, afterTables}
+use Rattle.isdb_mmt.specs.Pushes.TableOutcome.{indexOf}
+use Rattle.isdb_mmt.specs.Pushes.PendingTables.{Logged, withLog, PendingTables, pendingOf, pendingWithAll, Walked, Areas, committedEntry, committed, Versions}
+use Rattle.isdb_mmt.specs.Pushes.Commit.{putTables, AllFit}
+use Rattle.isdb_mmt.specs.Pushes.Leaves.{sectionRows, keptOver}
 use Rattle.isdb_mmt.proofs.TableOutcomes.{length-index}
 use Rattle.isdb_mmt.proofs.Applied.{log-length}
 use Rattle.isdb_mmt.proofs.TableStates.{mpt-all, store-all, counters-all, longest-all}
 use Rattle.isdb_mmt.proofs.Committed.{ReadPlaced, all-tables}
 use Rattle.isdb_mmt.proofs.Logging.{AllHeld, held-all, all-fit}
-use Rattle.isdb_mmt.specs.Octets.{Octets}
+use Rattle.isdb_mmt.specs.Memory.Octets.{Octets}
 use Rattle.isdb_mmt.proofs.Commits.{put-is}
 use Rattle.isdb_mmt.proofs.Walking.{mono}
 use Rattle.isdb_mmt.proofs.Leaving.{rows-are}

@@ -14,7 +14,7 @@ use borrow.Author.Tests.{eq-eqb, ne-eqb, eqb-true, eqb-false, lt-ltb, le-ltb}
 use Rattle.isdb_tlv.specs.Bytes.{be, withBit}
 use Rattle.isdb_tlv.proofs.Messages.{bit-set}
 use Rattle.isdb_tlv.proofs.Guards.{either, cond-same}
-use Rattle.isdb_mmt.specs.Lent.{namesFrom, among, amongMarked, distinct, cellOf, foundFrom, placeForName}
+use Rattle.isdb_mmt.specs.Memory.Lent.{namesFrom, among, amongMarked, distinct, cellOf, foundFrom, placeForName}
 use Rattle.isdb_mmt.specs.declared.decoder.place.Found.{Found}
 use Rattle.isdb_mmt.specs.declared.decoder.place.Found.the-variants.{At, Nothing}
 use Rattle.isdb_mmt.specs.declared.decoder.place.PlaceFor.the-variants.{Own, Free, NoneFree}

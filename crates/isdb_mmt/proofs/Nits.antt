@@ -8,7 +8,7 @@ use native.Mathlib.Omega.{arith}
 use lib.Dec.{ltb}
 use borrow.Author.Tests.{ltb-false, lt-ltb, le-ltb}
 use Rattle.isdb_tlv.proofs.Guards.{cond-elim}
-use Rattle.isdb_mmt.specs.Nit.{digit, withDigit, bcdFrom}
+use Rattle.isdb_mmt.specs.Formats.Nit.{digit, withDigit, bcdFrom}
 use Rattle.isdb_mmt.specs.declared.maybe.MaybeU64.{MaybeU64}
 use Rattle.isdb_mmt.specs.declared.maybe.MaybeU64.the-variants.{None as noU64, Some as someU64}
 

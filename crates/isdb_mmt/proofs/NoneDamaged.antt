@@ -7,16 +7,16 @@ use mathlib.Core.List.{List, [], _∷_}
 use lib.Dec.{eqb}
 use borrow.Author.Tests.{eqb-true}
 use Rattle.isdb_tlv.proofs.Guards.{either}
-use Rattle.isdb_mmt.specs.Packet.{Bytes}
-use Rattle.isdb_mmt.specs.Maps.{find}
-use Rattle.isdb_mmt.specs.Kept.{Kept, parsesAs}
-use Rattle.isdb_mmt.specs.Model.{State, Control}
-use Rattle.isdb_mmt.specs.Session.{Session}
-use Rattle.isdb_mmt.specs.Check.{sound}
-use Rattle.isdb_mmt.specs.View.{view}
-use Rattle.isdb_mmt.specs.Octets.{Lent}
-use Rattle.isdb_mmt.specs.Readings.{tableIdOf, assetRead}
-use Rattle.isdb_mmt.specs.TableReadingLaws.{saysOf, handsOut, sectionBytes, mptBytes, saysAsset, AnswerIs, Damaged, AsKept}
+use Rattle.isdb_mmt.specs.Decoder.Packet.{Bytes}
+use Rattle.isdb_mmt.specs.Decoder.Maps.{find}
+use Rattle.isdb_mmt.specs.Decoder.Kept.{Kept, parsesAs}
+use Rattle.isdb_mmt.specs.Decoder.Model.{State, Control}
+use Rattle.isdb_mmt.specs.Memory.Session.{Session}
+use Rattle.isdb_mmt.specs.Memory.Check.{sound}
+use Rattle.isdb_mmt.specs.Memory.View.{view}
+use Rattle.isdb_mmt.specs.Memory.Octets.{Lent}
+use Rattle.isdb_mmt.specs.Answers.Readings.{tableIdOf, assetRead}
+use Rattle.isdb_mmt.specs.Answers.TableReadingLaws.{saysOf, handsOut, sectionBytes, mptBytes, saysAsset, AnswerIs, Damaged, AsKept}
 use Rattle.isdb_mmt.specs.declared.decoder.limits.Limits.{Limits}
 use Rattle.isdb_mmt.specs.declared.decoder.readings.AssetReading.{AssetReading}
 use Rattle.isdb_mmt.specs.declared.decoder.readings.AssetReading.the-variants.{Refused as assetRefused}

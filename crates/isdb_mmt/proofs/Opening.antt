@@ -12,15 +12,15 @@ use borrow.Author.Tests.{le-leb}
 use Rattle.isdb_tlv.specs.Bytes.{be}
 use Rattle.isdb_tlv.specs.Fields.{written, Fit}
 use Rattle.isdb_tlv.proofs.Fields.{length-written, be-behind, be-before}
-use Rattle.isdb_mmt.specs.Lent.{over, flag, flagByte, placesFrom, namesFrom, distinct, every, indexed}
-use Rattle.isdb_mmt.specs.Layout.{tableIds, usedPlace, latestPlace, timePlace, countersPlace, stateSize}
-use Rattle.isdb_mmt.specs.Limits.{asked}
-use Rattle.isdb_mmt.specs.Session.{Session, limitsFields, limitsOf, usedOf, latestOf, timeOf, countersOf}
-use Rattle.isdb_mmt.specs.Check.{lengthsOf, countFits, sound, soundIn, headSound, placesSound, namesSound, usedSound, latestSound, countersSound, mediaIn, controlsIn, sectionsIn}
-use Rattle.isdb_mmt.specs.View.{view, viewBy, Opening}
-use Rattle.isdb_mmt.specs.Kept.{zeros as noCounters}
-use Rattle.isdb_mmt.specs.Model.{opened}
-use Rattle.isdb_mmt.specs.Opening.{lent, openedState, openedSession, Opened}
+use Rattle.isdb_mmt.specs.Memory.Lent.{over, flag, flagByte, placesFrom, namesFrom, distinct, every, indexed}
+use Rattle.isdb_mmt.specs.Memory.Layout.{tableIds, usedPlace, latestPlace, timePlace, countersPlace, stateSize}
+use Rattle.isdb_mmt.specs.Memory.Limits.{asked}
+use Rattle.isdb_mmt.specs.Memory.Session.{Session, limitsFields, limitsOf, usedOf, latestOf, timeOf, countersOf}
+use Rattle.isdb_mmt.specs.Memory.Check.{lengthsOf, countFits, sound, soundIn, headSound, placesSound, namesSound, usedSound, latestSound, countersSound, mediaIn, controlsIn, sectionsIn}
+use Rattle.isdb_mmt.specs.Memory.View.{view, viewBy, Opening}
+use Rattle.isdb_mmt.specs.Decoder.Kept.{zeros as noCounters}
+use Rattle.isdb_mmt.specs.Decoder.Model.{opened}
+use Rattle.isdb_mmt.specs.Memory.Opening.{lent, openedState, openedSession, Opened}
 use Rattle.isdb_mmt.specs.declared.decoder.limits.Limits.{Limits}
 use Rattle.isdb_mmt.specs.declared.decoder.limits.Lengths.{Lengths}
 use Rattle.isdb_mmt.specs.declared.decoder.head.Used.{Used}

@@ -30,16 +30,16 @@ use Rattle.isdb_tlv.specs.declared.mmtp.Header.{Header}
 use Rattle.isdb_tlv.specs.declared.mmtp.Parsed.{Parsed}
 use Rattle.isdb_tlv.specs.declared.mmtp.Parsed.the-variants.{None as notMmtp, Some as someMmtp}
 use Rattle.isdb_tlv.proofs.Guards.{cond-elim}
-use Rattle.isdb_mmt.specs.Mpu.{payloadHeader, declaredOf, unitsOf, unitsFrom, unitStep, unitAt, unitIn, item}
-use Rattle.isdb_mmt.specs.Packet.{Bytes, PayloadUnit, MpuPacket, Packet, ipError, ntp, nonMmtp, media, message, control, other, headerIn, payloadUnit, payloadUnits, unitsFor, unitsRead, mediaOf, byType, mmtpIn, toPort, inFlow, datagramIn, byKind, classify, clear, readable}
-use Rattle.isdb_mmt.specs.Maps.{isSome}
-use Rattle.isdb_mmt.specs.Objects.{Mfu, Asset, Rec, UnitEffect, gap, mostObject, grown, continued, effectOf, objectOf, unitEffect, afterUnit, afterUnits, deliveredBy, afterHeaders, mpuNumber, tagged, passes, mediaGives}
-use Rattle.isdb_mmt.specs.Needs.{heldLength, longestOf, unitArea, unitsNeed}
-use Rattle.isdb_mmt.specs.Octets.{Octets}
-use Rattle.isdb_mmt.specs.Lent.{flagByte}
-use Rattle.isdb_mmt.specs.Layout.{mostMfuArea}
-use Rattle.isdb_mmt.specs.Session.{objectFields}
-use Rattle.isdb_mmt.specs.Records.{rowFlags, objectFor, headerOr, itemOr, hasHeader, hasItem}
+use Rattle.isdb_mmt.specs.Formats.Mpu.{payloadHeader, declaredOf, unitsOf, unitsFrom, unitStep, unitAt, unitIn, item}
+use Rattle.isdb_mmt.specs.Decoder.Packet.{Bytes, PayloadUnit, MpuPacket, Packet, ipError, ntp, nonMmtp, media, message, control, other, headerIn, payloadUnit, payloadUnits, unitsFor, unitsRead, mediaOf, byType, mmtpIn, toPort, inFlow, datagramIn, byKind, classify, clear, readable}
+use Rattle.isdb_mmt.specs.Decoder.Maps.{isSome}
+use Rattle.isdb_mmt.specs.Decoder.Objects.{Mfu, Asset, Rec, UnitEffect, gap, mostObject, grown, continued, effectOf, objectOf, unitEffect, afterUnit, afterUnits, deliveredBy, afterHeaders, mpuNumber, tagged, passes, mediaGives}
+use Rattle.isdb_mmt.specs.Decoder.Needs.{heldLength, longestOf, unitArea, unitsNeed}
+use Rattle.isdb_mmt.specs.Memory.Octets.{Octets}
+use Rattle.isdb_mmt.specs.Memory.Lent.{flagByte}
+use Rattle.isdb_mmt.specs.Memory.Layout.{mostMfuArea}
+use Rattle.isdb_mmt.specs.Memory.Session.{objectFields}
+use Rattle.isdb_mmt.specs.Pushes.Records.{rowFlags, objectFor, headerOr, itemOr, hasHeader, hasItem}
 use Rattle.isdb_mmt.specs.declared.maybe.MaybeU32.{MaybeU32}
 use Rattle.isdb_mmt.specs.declared.maybe.MaybeU32.the-variants.{None as noU32, Some as someU32}
 use Rattle.isdb_mmt.specs.declared.mpu.FragmentType.{FragmentType}

@@ -12,8 +12,8 @@ use mir.Val.{Fits}
 use mir.Syntax.{w8}
 use Rattle.isdb_tlv.proofs.Guards.{cond-elim}
 use Rattle.isdb_tlv.proofs.Walk.{run-stop, run-more}
-use Rattle.isdb_mmt.specs.Maps.{isSome}
-use Rattle.isdb_mmt.specs.Plt.{packageAt, behindPackage, packagesEnd, deliverySize, deliveryAt, deliveryItem, deliveriesWhole}
+use Rattle.isdb_mmt.specs.Decoder.Maps.{isSome}
+use Rattle.isdb_mmt.specs.Formats.Plt.{packageAt, behindPackage, packagesEnd, deliverySize, deliveryAt, deliveryItem, deliveriesWhole}
 use Rattle.isdb_mmt.proofs.Steps.{all-stop, all-more}
 use Rattle.isdb_mmt.specs.declared.maybe.MaybeUsize.{MaybeUsize}
 use Rattle.isdb_mmt.specs.declared.maybe.MaybeUsize.the-variants.{None as nowhere, Some as At}

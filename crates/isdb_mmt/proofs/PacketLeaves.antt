@@ -12,22 +12,22 @@ use lib.ListN.{length, length-append}
 use borrow.Author.Tests.{ltb-true, leb-true}
 use Rattle.isdb_tlv.specs.Fields.{written, Fit}
 use Rattle.isdb_tlv.proofs.Fields.{length-written}
-use Rattle.isdb_mmt.specs.Packet.{Bytes, MessagePacket, Packet, ipError, ntp, nonMmtp, media, message, control, other}
-use Rattle.isdb_mmt.specs.Maps.{put, orElse}
-use Rattle.isdb_mmt.specs.Kept.{KeptTables, aSection, sectionOf, stored, storedAll}
-use Rattle.isdb_mmt.specs.Model.{State, Control as ControlState, controlOf, pushed, timeAfter}
-use Rattle.isdb_mmt.specs.GivenTables.{controlTables}
-use Rattle.isdb_mmt.specs.Needs.{partialLength, needs}
-use Rattle.isdb_mmt.specs.Layout.{controlPlaces, controlSize, timePlace, countersPlace, stateSize, latestPlace, mediaPlaces}
-use Rattle.isdb_mmt.specs.Lent.{namesFrom, foundFrom, indexed}
-use Rattle.isdb_mmt.specs.Session.{Session, limitsOf, usedOf, latestOf, timeOf, timeFields, countersOf, countersFields, controlFields, mediaFields}
-use Rattle.isdb_mmt.specs.Check.{mediaIn, controlsIn, sectionsIn, lengthsOf, sound, Sound}
-use Rattle.isdb_mmt.specs.View.{given, assetEntry, controlEntry, sectionEntry, keptTableAt, viewBy, view}
-use Rattle.isdb_mmt.specs.Opening.{lent}
-use Rattle.isdb_mmt.specs.MediaPush.{placeFor, assetNext}
-use Rattle.isdb_mmt.specs.PlacesOf.{tableLength, controlFor}
-use Rattle.isdb_mmt.specs.Leaves.{withTime, withCounters, countedIn, timeLeaves, controlLeaves, messageIn, controlPlaceFor, messageAt, messageLeaves, packetLeaves}
-use Rattle.isdb_mmt.specs.Push.{Input, packetOf, hasPlaces, hasAreas, hasOutputs, asksOf, asks, Fits, Taken}
+use Rattle.isdb_mmt.specs.Decoder.Packet.{Bytes, MessagePacket, Packet, ipError, ntp, nonMmtp, media, message, control, other}
+use Rattle.isdb_mmt.specs.Decoder.Maps.{put, orElse}
+use Rattle.isdb_mmt.specs.Decoder.Kept.{KeptTables, aSection, sectionOf, stored, storedAll}
+use Rattle.isdb_mmt.specs.Decoder.Model.{State, Control as ControlState, controlOf, pushed, timeAfter}
+use Rattle.isdb_mmt.specs.Decoder.GivenTables.{controlTables}
+use Rattle.isdb_mmt.specs.Decoder.Needs.{partialLength, needs}
+use Rattle.isdb_mmt.specs.Memory.Layout.{controlPlaces, controlSize, timePlace, countersPlace, stateSize, latestPlace, mediaPlaces}
+use Rattle.isdb_mmt.specs.Memory.Lent.{namesFrom, foundFrom, indexed}
+use Rattle.isdb_mmt.specs.Memory.Session.{Session, limitsOf, usedOf, latestOf, timeOf, timeFields, countersOf, countersFields, controlFields, mediaFields}
+use Rattle.isdb_mmt.specs.Memory.Check.{mediaIn, controlsIn, sectionsIn, lengthsOf, sound, Sound}
+use Rattle.isdb_mmt.specs.Memory.View.{given, assetEntry, controlEntry, sectionEntry, keptTableAt, viewBy, view}
+use Rattle.isdb_mmt.specs.Memory.Opening.{lent}
+use Rattle.isdb_mmt.specs.Pushes.MediaPush.{placeFor, assetNext}
+use Rattle.isdb_mmt.specs.Memory.PlacesOf.{tableLength, controlFor}
+use Rattle.isdb_mmt.specs.Pushes.Leaves.{withTime, withCounters, countedIn, timeLeaves, controlLeaves, messageIn, controlPlaceFor, messageAt, messageLeaves, packetLeaves}
+use Rattle.isdb_mmt.specs.Pushes.Push.{Input, packetOf, hasPlaces, hasAreas, hasOutputs, asksOf, asks, Fits, Taken}
 use Rattle.isdb_mmt.specs.declared.decoder.place.Found.the-variants.{At, Nothing}
 use Rattle.isdb_mmt.specs.declared.decoder.place.PlaceFor.{PlaceFor}
 use Rattle.isdb_mmt.specs.declared.decoder.place.PlaceFor.the-variants.{Own, Free, NoneFree}

@@ -13,19 +13,19 @@ use Rattle.isdb_tlv.specs.Crc.{crcOf}
 use Rattle.isdb_tlv.specs.Fields.{Field, Fit}
 use Rattle.isdb_tlv.proofs.Guards.{cond-elim}
 use Rattle.isdb_mmt.specs.declared.decoder.counts.Counters.{Counters}
-use Rattle.isdb_mmt.specs.Packet.{Bytes, PayloadUnit, MpuPacket, readable}
-use Rattle.isdb_mmt.specs.Maps.{find, orElse}
-use Rattle.isdb_mmt.specs.Objects.{Mfu, Asset, fresh, gap, afterUnit, unitEffect, afterUnits, afterHeaders, mpuIn, mpuNumber, mpuAfter, lastIn, rangeAfter, newMpu, assetAfter}
-use Rattle.isdb_mmt.specs.Section.{length12, longSectionOf}
-use Rattle.isdb_mmt.specs.Reassembly.{PartialMessage, idle}
-use Rattle.isdb_mmt.specs.Kept.{Section, sectionOf, keyOf, versionIn, Kept, otherVersion, keepIf, keep, KeptTables, Table, emptyTable, mptTable, pltTable, totTable, truncatedSection, aSection, otherTable, longTable, tableById, tableRead, latest, mptAfter, mptAfterAll, stored, storedAll}
-use Rattle.isdb_mmt.specs.GivenTables.{controlTables}
-use Rattle.isdb_mmt.specs.Model.{Control, idleControl}
-use Rattle.isdb_mmt.specs.Needs.{heldLength, partialLength, unitsNeed, tableArea, tablesNeed}
-use Rattle.isdb_mmt.specs.Layout.{mostMfuArea, mostMessageArea, mostTableArea}
-use Rattle.isdb_mmt.specs.Session.{numberFields, objectFields, statsFields, mediaFields, controlFields, sectionFields, countersFields}
-use Rattle.isdb_mmt.specs.Octets.{Octets}
-use Rattle.isdb_mmt.specs.PlacesOf.{noObject, heldFor, firstIn, placeFor, tableLength, controlFor, sectionFor}
+use Rattle.isdb_mmt.specs.Decoder.Packet.{Bytes, PayloadUnit, MpuPacket, readable}
+use Rattle.isdb_mmt.specs.Decoder.Maps.{find, orElse}
+use Rattle.isdb_mmt.specs.Decoder.Objects.{Mfu, Asset, fresh, gap, afterUnit, unitEffect, afterUnits, afterHeaders, mpuIn, mpuNumber, mpuAfter, lastIn, rangeAfter, newMpu, assetAfter}
+use Rattle.isdb_mmt.specs.Formats.Section.{length12, longSectionOf}
+use Rattle.isdb_mmt.specs.Decoder.Reassembly.{PartialMessage, idle}
+use Rattle.isdb_mmt.specs.Decoder.Kept.{Section, sectionOf, keyOf, versionIn, Kept, otherVersion, keepIf, keep, KeptTables, Table, emptyTable, mptTable, pltTable, totTable, truncatedSection, aSection, otherTable, longTable, tableById, tableRead, latest, mptAfter, mptAfterAll, stored, storedAll}
+use Rattle.isdb_mmt.specs.Decoder.GivenTables.{controlTables}
+use Rattle.isdb_mmt.specs.Decoder.Model.{Control, idleControl}
+use Rattle.isdb_mmt.specs.Decoder.Needs.{heldLength, partialLength, unitsNeed, tableArea, tablesNeed}
+use Rattle.isdb_mmt.specs.Memory.Layout.{mostMfuArea, mostMessageArea, mostTableArea}
+use Rattle.isdb_mmt.specs.Memory.Session.{numberFields, objectFields, statsFields, mediaFields, controlFields, sectionFields, countersFields}
+use Rattle.isdb_mmt.specs.Memory.Octets.{Octets}
+use Rattle.isdb_mmt.specs.Memory.PlacesOf.{noObject, heldFor, firstIn, placeFor, tableLength, controlFor, sectionFor}
 use Rattle.isdb_mmt.specs.declared.mpu.PayloadHeader.{PayloadHeader}
 use Rattle.isdb_mmt.specs.declared.table.section.LongSection.{LongSection}
 use Rattle.isdb_mmt.proofs.Every.{Every, every-put}

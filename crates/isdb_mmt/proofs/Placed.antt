@@ -8,14 +8,14 @@ use native.Mathlib.Omega.{arith}
 use lib.Dec.{eqb}
 use lib.ListN.{length}
 use Rattle.isdb_tlv.proofs.Guards.{either}
-use Rattle.isdb_mmt.specs.Packet.{Bytes, PayloadUnit, MpuPacket, headerIn, readable}
-use Rattle.isdb_mmt.specs.Maps.{one, isSome, orElse}
-use Rattle.isdb_mmt.specs.Mpu.{follows}
-use Rattle.isdb_mmt.specs.Objects.{Mfu, Asset, afterUnit, unitEffect, afterUnits, gap, lostBy, mpuIn, newMpu, jumped, mpuAfter, rangeAfter, completes, malformedPayload, afterHeaders, assetAfter}
-use Rattle.isdb_mmt.specs.View.{given, headerGiven, itemGiven, mfuOf, assetOfPlace}
-use Rattle.isdb_mmt.specs.Records.{hasHeader, headerOr, hasItem, itemOr, objectFor}
-use Rattle.isdb_mmt.specs.MediaPush.{noObject, heldFor, firstIn, placeFor}
-use Rattle.isdb_mmt.specs.MediaPlace.{gapIn, lostIn, headerIf, itemIf, normalObject, begun, startOf, newIn, jumpIn, seenMpu, lastMpu, firstMpu, completesIn, addsOf, summed, statsAfter, placeAfter}
+use Rattle.isdb_mmt.specs.Decoder.Packet.{Bytes, PayloadUnit, MpuPacket, headerIn, readable}
+use Rattle.isdb_mmt.specs.Decoder.Maps.{one, isSome, orElse}
+use Rattle.isdb_mmt.specs.Formats.Mpu.{follows}
+use Rattle.isdb_mmt.specs.Decoder.Objects.{Mfu, Asset, afterUnit, unitEffect, afterUnits, gap, lostBy, mpuIn, newMpu, jumped, mpuAfter, rangeAfter, completes, malformedPayload, afterHeaders, assetAfter}
+use Rattle.isdb_mmt.specs.Memory.View.{given, headerGiven, itemGiven, mfuOf, assetOfPlace}
+use Rattle.isdb_mmt.specs.Pushes.Records.{hasHeader, headerOr, hasItem, itemOr, objectFor}
+use Rattle.isdb_mmt.specs.Pushes.MediaPush.{noObject, heldFor, firstIn, placeFor}
+use Rattle.isdb_mmt.specs.Pushes.MediaPlace.{gapIn, lostIn, headerIf, itemIf, normalObject, begun, startOf, newIn, jumpIn, seenMpu, lastMpu, firstMpu, completesIn, addsOf, summed, statsAfter, placeAfter}
 use Rattle.isdb_mmt.specs.declared.mpu.MfuHeader.{MfuHeader}
 use Rattle.isdb_mmt.specs.declared.mpu.PayloadHeader.{PayloadHeader}
 use Rattle.isdb_mmt.specs.declared.mpu.MaybeHeader.{MaybeHeader}

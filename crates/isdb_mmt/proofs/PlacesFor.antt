@@ -11,12 +11,12 @@ use lib.ListN.{length, getD, set}
 use borrow.Author.Tests.{ltb-true, ltb-false}
 use Rattle.isdb_tlv.specs.Bytes.{be}
 use Rattle.isdb_tlv.proofs.Guards.{either}
-use Rattle.isdb_mmt.specs.Objects.{Asset}
-use Rattle.isdb_mmt.specs.Lent.{placesFrom, namesFrom, foundFrom, placeForFound, placeForName, every, indexed}
-use Rattle.isdb_mmt.specs.Layout.{mediaPlaces, mediaSize}
-use Rattle.isdb_mmt.specs.Session.{Session, limitsOf, usedOf, mediaPlaceOf}
-use Rattle.isdb_mmt.specs.Check.{mediaIn}
-use Rattle.isdb_mmt.specs.View.{assetEntry}
+use Rattle.isdb_mmt.specs.Decoder.Objects.{Asset}
+use Rattle.isdb_mmt.specs.Memory.Lent.{placesFrom, namesFrom, foundFrom, placeForFound, placeForName, every, indexed}
+use Rattle.isdb_mmt.specs.Memory.Layout.{mediaPlaces, mediaSize}
+use Rattle.isdb_mmt.specs.Memory.Session.{Session, limitsOf, usedOf, mediaPlaceOf}
+use Rattle.isdb_mmt.specs.Memory.Check.{mediaIn}
+use Rattle.isdb_mmt.specs.Memory.View.{assetEntry}
 use Rattle.isdb_mmt.specs.declared.decoder.place.Found.{Found}
 use Rattle.isdb_mmt.specs.declared.decoder.place.Found.the-variants.{At, Nothing}
 use Rattle.isdb_mmt.specs.declared.decoder.place.PlaceFor.the-variants.{Own, Free, NoneFree}

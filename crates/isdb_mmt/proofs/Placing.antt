@@ -11,15 +11,15 @@ use Rattle.isdb_tlv.specs.declared.si.Section.{Section}
 use Rattle.isdb_tlv.proofs.Guards.{either}
 use lib.ListN.{length, getD, take, drop, length-take, length-drop}
 use lib.Seq.{ext-getD, getD-take, getD-drop, take-all}
-use Rattle.isdb_mmt.specs.Part.{partOf}
-use Rattle.isdb_mmt.specs.Lent.{part}
-use Rattle.isdb_mmt.specs.Packet.{Bytes}
-use Rattle.isdb_mmt.specs.Message.{contentOf, tablesFrom}
-use Rattle.isdb_mmt.specs.Reassembly.{PartialMessage, messagesOf, tablesIn, tablesOf, tablesOfAll, partsOf, cutOf}
+use Rattle.isdb_mmt.specs.Formats.Part.{partOf}
+use Rattle.isdb_mmt.specs.Memory.Lent.{part}
+use Rattle.isdb_mmt.specs.Decoder.Packet.{Bytes}
+use Rattle.isdb_mmt.specs.Formats.Message.{contentOf, tablesFrom}
+use Rattle.isdb_mmt.specs.Decoder.Reassembly.{PartialMessage, messagesOf, tablesIn, tablesOf, tablesOfAll, partsOf, cutOf}
 use Rattle.isdb_mmt.specs.declared.part.Part.{Part}
 use Rattle.isdb_mmt.specs.declared.message.Content.{Content}
 use Rattle.isdb_mmt.specs.declared.message.Content.the-variants.{Malformed as badMessage, Nothing, Table as oneTable, Tables}
-use Rattle.isdb_mmt.specs.Placed.{Placed, placed, tableBytes, placedIn, placedOf, placedOfAll, placedCut, placedSections, PlacedAt, AllPlaced}
+use Rattle.isdb_mmt.specs.Pushes.Placed.{Placed, placed, tableBytes, placedIn, placedOf, placedOfAll, placedCut, placedSections, PlacedAt, AllPlaced}
 
 -- ---- the bytes
 

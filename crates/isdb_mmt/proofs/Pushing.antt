@@ -6,14 +6,14 @@ use native.Mathlib.Omega.{arith}
 use lib.ListN.{length}
 use borrow.Author.Tests.{le-leb, lt-leb}
 use Rattle.isdb_tlv.specs.Guards.{_<?_}
-use Rattle.isdb_mmt.specs.Packet.{Bytes, classify}
-use Rattle.isdb_mmt.specs.Needs.{needs}
-use Rattle.isdb_mmt.specs.Layout.{tableIds}
-use Rattle.isdb_mmt.specs.Session.{Session, limitsOf, countersOf}
-use Rattle.isdb_mmt.specs.Check.{lengthsOf, soundIn, sound}
-use Rattle.isdb_mmt.specs.View.{view}
-use Rattle.isdb_mmt.specs.Octets.{Octets}
-use Rattle.isdb_mmt.specs.Push.{Input, packetOf, mostBytes, asksOf, asks, CanTakePacket, PacketPushed, Pushed}
+use Rattle.isdb_mmt.specs.Decoder.Packet.{Bytes, classify}
+use Rattle.isdb_mmt.specs.Decoder.Needs.{needs}
+use Rattle.isdb_mmt.specs.Memory.Layout.{tableIds}
+use Rattle.isdb_mmt.specs.Memory.Session.{Session, limitsOf, countersOf}
+use Rattle.isdb_mmt.specs.Memory.Check.{lengthsOf, soundIn, sound}
+use Rattle.isdb_mmt.specs.Memory.View.{view}
+use Rattle.isdb_mmt.specs.Memory.Octets.{Octets}
+use Rattle.isdb_mmt.specs.Pushes.Push.{Input, packetOf, mostBytes, asksOf, asks, CanTakePacket, PacketPushed, Pushed}
 use Rattle.isdb_mmt.specs.declared.decoder.records.Answer.{Answer}
 use Rattle.isdb_mmt.proofs.Checks.{sound-session}
 use Rattle.isdb_mmt.proofs.Accepted.{push-moved}

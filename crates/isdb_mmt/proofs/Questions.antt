@@ -8,15 +8,15 @@ use lib.Dec.{leb, ltb}
 use lib.ListN.{length}
 use borrow.Author.Tests.{le-leb, lt-leb, ltb-true, ltb-false}
 use Rattle.isdb_tlv.proofs.Guards.{either}
-use Rattle.isdb_mmt.specs.Packet.{Bytes, MpuPacket, Packet, media, message}
-use Rattle.isdb_mmt.specs.Model.{pushed, gives}
-use Rattle.isdb_mmt.specs.Needs.{Needs, needs}
-use Rattle.isdb_mmt.specs.Session.{Session, limitsOf, usedOf}
-use Rattle.isdb_mmt.specs.Check.{lengthsOf, Sound}
-use Rattle.isdb_mmt.specs.View.{view}
-use Rattle.isdb_mmt.specs.Records.{rowSize, rowsFrom, dataFrom}
-use Rattle.isdb_mmt.specs.MediaPush.{mediaAsks}
-use Rattle.isdb_mmt.specs.Push.{hasPlaces, hasAreas, hasOutputs, asksOf, Fits, PacketPushed, QuietPushed}
+use Rattle.isdb_mmt.specs.Decoder.Packet.{Bytes, MpuPacket, Packet, media, message}
+use Rattle.isdb_mmt.specs.Decoder.Model.{pushed, gives}
+use Rattle.isdb_mmt.specs.Decoder.Needs.{Needs, needs}
+use Rattle.isdb_mmt.specs.Memory.Session.{Session, limitsOf, usedOf}
+use Rattle.isdb_mmt.specs.Memory.Check.{lengthsOf, Sound}
+use Rattle.isdb_mmt.specs.Memory.View.{view}
+use Rattle.isdb_mmt.specs.Pushes.Records.{rowSize, rowsFrom, dataFrom}
+use Rattle.isdb_mmt.specs.Pushes.MediaPush.{mediaAsks}
+use Rattle.isdb_mmt.specs.Pushes.Push.{hasPlaces, hasAreas, hasOutputs, asksOf, Fits, PacketPushed, QuietPushed}
 use Rattle.isdb_mmt.specs.declared.decoder.limits.Limits.{Limits}
 use Rattle.isdb_mmt.proofs.Lent.{over-none}
 

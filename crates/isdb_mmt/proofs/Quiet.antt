@@ -7,10 +7,10 @@ use lib.Dec.{ltb, leb}
 use borrow.Author.Tests.{le-ltb, le-leb, lt-leb, ltb-true, ltb-false}
 use Rattle.isdb_tlv.specs.Guards.{if_then_else_, _<?_}
 use Rattle.isdb_tlv.proofs.Guards.{either}
-use Rattle.isdb_mmt.specs.Packet.{message}
-use Rattle.isdb_mmt.specs.Needs.{Needs}
-use Rattle.isdb_mmt.specs.Records.{rowSize}
-use Rattle.isdb_mmt.specs.Push.{hasPlaces, hasAreas, hasOutputs}
+use Rattle.isdb_mmt.specs.Decoder.Packet.{message}
+use Rattle.isdb_mmt.specs.Decoder.Needs.{Needs}
+use Rattle.isdb_mmt.specs.Pushes.Records.{rowSize}
+use Rattle.isdb_mmt.specs.Pushes.Push.{hasPlaces, hasAreas, hasOutputs}
 use Rattle.isdb_mmt.specs.declared.decoder.limits.Limits.{Limits}
 use Rattle.isdb_mmt.specs.declared.decoder.head.Used.{Used}
 

@@ -11,12 +11,12 @@ use Rattle.isdb_tlv.specs.Guards.{if_then_else_}
 use Rattle.isdb_tlv.proofs.Guards.{either}
 use mir.Syntax.{w64}
 use mir.Val.{Fits}
-use Rattle.isdb_mmt.specs.Lent.{namesFrom, foundFrom}
-use Rattle.isdb_mmt.specs.Layout.{mostMediaIds, mostControlIds, mostSections, mostMfuArea, mediaPlaces, mediaSize, controlPlaces, controlSize, sectionPlaces, sectionSize}
-use Rattle.isdb_mmt.specs.Session.{Session, limitsOf, usedOf}
-use Rattle.isdb_mmt.specs.Check.{lengthsOf, sound, PlacesThere}
-use Rattle.isdb_mmt.specs.View.{itemGiven}
-use Rattle.isdb_mmt.specs.Readings.{mediaNames, controlNames, mediaFound, controlFound, u32If, mediaRead, heldRead, controlRead}
+use Rattle.isdb_mmt.specs.Memory.Lent.{namesFrom, foundFrom}
+use Rattle.isdb_mmt.specs.Memory.Layout.{mostMediaIds, mostControlIds, mostSections, mostMfuArea, mediaPlaces, mediaSize, controlPlaces, controlSize, sectionPlaces, sectionSize}
+use Rattle.isdb_mmt.specs.Memory.Session.{Session, limitsOf, usedOf}
+use Rattle.isdb_mmt.specs.Memory.Check.{lengthsOf, sound, PlacesThere}
+use Rattle.isdb_mmt.specs.Memory.View.{itemGiven}
+use Rattle.isdb_mmt.specs.Answers.Readings.{mediaNames, controlNames, mediaFound, controlFound, u32If, mediaRead, heldRead, controlRead}
 use Rattle.isdb_mmt.specs.declared.decoder.limits.Limits.{Limits}
 use Rattle.isdb_mmt.specs.declared.decoder.readings.MediaReading.the-variants.{Nothing as noMedia}
 use Rattle.isdb_mmt.specs.declared.decoder.readings.HeldReading.the-variants.{NoId}

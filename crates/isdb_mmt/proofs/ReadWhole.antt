@@ -4,18 +4,18 @@ use mathlib.Core.Path.{_≡_, refl, _∙_}
 use mathlib.Core.Bool.{Bool, true, false, _&&_}
 use mathlib.Core.Option.{Option, none, some}
 use Rattle.isdb_tlv.proofs.Guards.{cond-elim}
-use Rattle.isdb_mmt.specs.Packet.{Bytes}
-use Rattle.isdb_mmt.specs.Part.{partOf}
-use Rattle.isdb_mmt.specs.Section.{longSectionOf}
-use Rattle.isdb_mmt.specs.Mpt.{mptOf}
-use Rattle.isdb_mmt.specs.Plt.{pltOf}
-use Rattle.isdb_mmt.specs.Tot.{totOf}
-use Rattle.isdb_mmt.specs.Kept.{headIsOk, bodyRead, parsesAs, mptParses, pltParses, totParses}
-use Rattle.isdb_mmt.specs.Session.{Session}
-use Rattle.isdb_mmt.specs.Check.{sound}
-use Rattle.isdb_mmt.specs.Readings.{controlFound, sectionFound, mptPart, pltPart, totPart, sectionPart, tableIf, tableRead, tableIdOf, sectionRead, mptRead, pltRead, totRead}
-use Rattle.isdb_mmt.specs.WholeLists.{sectionWhole}
-use Rattle.isdb_mmt.specs.ReadWhole.{ReadTheorem}
+use Rattle.isdb_mmt.specs.Decoder.Packet.{Bytes}
+use Rattle.isdb_mmt.specs.Formats.Part.{partOf}
+use Rattle.isdb_mmt.specs.Formats.Section.{longSectionOf}
+use Rattle.isdb_mmt.specs.Formats.Mpt.{mptOf}
+use Rattle.isdb_mmt.specs.Formats.Plt.{pltOf}
+use Rattle.isdb_mmt.specs.Formats.Tot.{totOf}
+use Rattle.isdb_mmt.specs.Decoder.Kept.{headIsOk, bodyRead, parsesAs, mptParses, pltParses, totParses}
+use Rattle.isdb_mmt.specs.Memory.Session.{Session}
+use Rattle.isdb_mmt.specs.Memory.Check.{sound}
+use Rattle.isdb_mmt.specs.Answers.Readings.{controlFound, sectionFound, mptPart, pltPart, totPart, sectionPart, tableIf, tableRead, tableIdOf, sectionRead, mptRead, pltRead, totRead}
+use Rattle.isdb_mmt.specs.WholeValues.WholeLists.{sectionWhole}
+use Rattle.isdb_mmt.specs.WholeValues.ReadWhole.{ReadTheorem}
 use Rattle.isdb_mmt.specs.declared.part.Part.{Part}
 use Rattle.isdb_mmt.specs.declared.decoder.readings.TableReading.{TableReading}
 use Rattle.isdb_mmt.specs.declared.decoder.readings.TableReading.the-variants.{Refused as tableRefused, Nothing as noTable, Bytes as theBytes}

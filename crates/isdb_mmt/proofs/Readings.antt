@@ -11,18 +11,18 @@ use borrow.Author.Tests.{eqb-true}
 use Rattle.isdb_tlv.specs.Bytes.{be}
 use Rattle.isdb_tlv.proofs.Guards.{either}
 use Rattle.isdb_tlv.proofs.Numbers.{be-lt}
-use Rattle.isdb_mmt.specs.Packet.{Bytes}
-use Rattle.isdb_mmt.specs.Maps.{find}
-use Rattle.isdb_mmt.specs.Objects.{Mfu}
-use Rattle.isdb_mmt.specs.Reassembly.{PartialMessage}
-use Rattle.isdb_mmt.specs.Lent.{part, placesFrom, namesFrom, among, foundFrom, indexed}
-use Rattle.isdb_mmt.specs.Octets.{Octets}
-use Rattle.isdb_mmt.specs.Layout.{mediaPlaces, mediaSize, controlPlaces, controlSize, sectionPlaces, sectionSize}
-use Rattle.isdb_mmt.specs.Session.{Session, limitsOf, usedOf, timeOf, mediaPlaceOf, controlPlaceOf, sectionPlaceOf, mediaAt, controlAt}
-use Rattle.isdb_mmt.specs.Check.{lengthsOf, sound, Sound, mediaIn, controlsIn, sectionsIn, mediaSound, controlSound}
-use Rattle.isdb_mmt.specs.View.{given, mfuOf, assetOfPlace, controlStateOf, assetEntry, controlEntry, sectionEntry, keptTableAt, viewBy, view}
-use Rattle.isdb_mmt.specs.Readings.{mediaNames, controlNames, keysIn, mediaFound, controlFound, countersRead, timeAt, timeRead, countRead, leastFrom, nameTold, nameRead, mostName, nextMediaRead, nextControlRead, nextKeyRead, u32If, rangeIf, mediaState, mediaIf, mediaRead, heldObject, heldAt, heldIf, heldRead, controlState, controlIf, controlRead}
-use Rattle.isdb_mmt.specs.ReadingLaws.{timeTold, CountsAreTold, u32Told, rangeTold, objectLength, joinedLength, mediaTold, HeldTold, controlTold, IdsAreTold, Least, NextTold, NamesAreTold}
+use Rattle.isdb_mmt.specs.Decoder.Packet.{Bytes}
+use Rattle.isdb_mmt.specs.Decoder.Maps.{find}
+use Rattle.isdb_mmt.specs.Decoder.Objects.{Mfu}
+use Rattle.isdb_mmt.specs.Decoder.Reassembly.{PartialMessage}
+use Rattle.isdb_mmt.specs.Memory.Lent.{part, placesFrom, namesFrom, among, foundFrom, indexed}
+use Rattle.isdb_mmt.specs.Memory.Octets.{Octets}
+use Rattle.isdb_mmt.specs.Memory.Layout.{mediaPlaces, mediaSize, controlPlaces, controlSize, sectionPlaces, sectionSize}
+use Rattle.isdb_mmt.specs.Memory.Session.{Session, limitsOf, usedOf, timeOf, mediaPlaceOf, controlPlaceOf, sectionPlaceOf, mediaAt, controlAt}
+use Rattle.isdb_mmt.specs.Memory.Check.{lengthsOf, sound, Sound, mediaIn, controlsIn, sectionsIn, mediaSound, controlSound}
+use Rattle.isdb_mmt.specs.Memory.View.{given, mfuOf, assetOfPlace, controlStateOf, assetEntry, controlEntry, sectionEntry, keptTableAt, viewBy, view}
+use Rattle.isdb_mmt.specs.Answers.Readings.{mediaNames, controlNames, keysIn, mediaFound, controlFound, countersRead, timeAt, timeRead, countRead, leastFrom, nameTold, nameRead, mostName, nextMediaRead, nextControlRead, nextKeyRead, u32If, rangeIf, mediaState, mediaIf, mediaRead, heldObject, heldAt, heldIf, heldRead, controlState, controlIf, controlRead}
+use Rattle.isdb_mmt.specs.Answers.ReadingLaws.{timeTold, CountsAreTold, u32Told, rangeTold, objectLength, joinedLength, mediaTold, HeldTold, controlTold, IdsAreTold, Least, NextTold, NamesAreTold}
 use Rattle.isdb_mmt.specs.declared.maybe.MaybeU32.{MaybeU32}
 use Rattle.isdb_mmt.specs.declared.maybe.MaybeU32.the-variants.{None as noU32, Some as someU32}
 use Rattle.isdb_mmt.specs.declared.decoder.place.Found.{Found}

@@ -10,17 +10,17 @@ use lib.Dec.{leb}
 use borrow.Author.Tests.{leb-true}
 use Rattle.isdb_tlv.proofs.Guards.{cond-elim}
 use Rattle.isdb_mmt.specs.declared.decoder.counts.Counters.{Counters}
-use Rattle.isdb_mmt.specs.Part.{partOf}
-use Rattle.isdb_mmt.specs.Packet.{Bytes, MpuPacket, MessagePacket, Packet, ipError, ntp, nonMmtp, media, message, control, other, readable}
-use Rattle.isdb_mmt.specs.Message.{tablesFrom, aggregatedFrom, contentOf}
-use Rattle.isdb_mmt.specs.Objects.{fresh, gap}
-use Rattle.isdb_mmt.specs.Reassembly.{PartialMessage, Reassembly, idle, mostMessage, short, flagsOf, partBefore, joinedOn, partAfter, wholeOf, reassemblyAfter, messageCompleted, orphan, oversize, TablesFound, partsOf, tablesIn, tablesOf, tablesOfAll, messagesOf, cutOf, cutOfAll}
-use Rattle.isdb_mmt.specs.Kept.{zeros, tableRead}
-use Rattle.isdb_mmt.specs.GivenTables.{tablesGiven, controlTables}
-use Rattle.isdb_mmt.specs.Model.{Control, idleControl, State, opened, assetOf, controlOf, reassemblyOf, packetCounted, messageCounted, reassemblyCounted, pushed}
-use Rattle.isdb_mmt.specs.Needs.{needs, partialLength, fragmentArea, reassemblyNeeds}
-use Rattle.isdb_mmt.specs.Lent.{distinct}
-use Rattle.isdb_mmt.specs.Octets.{Octets}
+use Rattle.isdb_mmt.specs.Formats.Part.{partOf}
+use Rattle.isdb_mmt.specs.Decoder.Packet.{Bytes, MpuPacket, MessagePacket, Packet, ipError, ntp, nonMmtp, media, message, control, other, readable}
+use Rattle.isdb_mmt.specs.Formats.Message.{tablesFrom, aggregatedFrom, contentOf}
+use Rattle.isdb_mmt.specs.Decoder.Objects.{fresh, gap}
+use Rattle.isdb_mmt.specs.Decoder.Reassembly.{PartialMessage, Reassembly, idle, mostMessage, short, flagsOf, partBefore, joinedOn, partAfter, wholeOf, reassemblyAfter, messageCompleted, orphan, oversize, TablesFound, partsOf, tablesIn, tablesOf, tablesOfAll, messagesOf, cutOf, cutOfAll}
+use Rattle.isdb_mmt.specs.Decoder.Kept.{zeros, tableRead}
+use Rattle.isdb_mmt.specs.Decoder.GivenTables.{tablesGiven, controlTables}
+use Rattle.isdb_mmt.specs.Decoder.Model.{Control, idleControl, State, opened, assetOf, controlOf, reassemblyOf, packetCounted, messageCounted, reassemblyCounted, pushed}
+use Rattle.isdb_mmt.specs.Decoder.Needs.{needs, partialLength, fragmentArea, reassemblyNeeds}
+use Rattle.isdb_mmt.specs.Memory.Lent.{distinct}
+use Rattle.isdb_mmt.specs.Memory.Octets.{Octets}
 use Rattle.isdb_mmt.specs.declared.part.Part.{Part}
 use Rattle.isdb_mmt.specs.declared.message.Content.{Content}
 use Rattle.isdb_mmt.specs.declared.message.Content.the-variants.{Malformed as badMessage, Nothing, Table as oneTable, Tables}

@@ -9,11 +9,11 @@ use lib.Seq.{take-append-seam, drop-append-seam, take-at}
 use Rattle.isdb_tlv.specs.Bytes.{be}
 use Rattle.isdb_tlv.specs.Fields.{Fit}
 use Rattle.isdb_tlv.proofs.Fields.{length-written}
-use Rattle.isdb_mmt.specs.Lent.{part, over, flagByte, placesFrom}
-use Rattle.isdb_mmt.specs.Objects.{Rec}
-use Rattle.isdb_mmt.specs.Needs.{dataOf}
-use Rattle.isdb_mmt.specs.View.{headerGiven, itemGiven}
-use Rattle.isdb_mmt.specs.Records.{objectFor, headerOr, hasHeader, itemOr, hasItem, rowFields, rowOf, rowsFrom, dataFrom, bitOf, readRow, readRows}
+use Rattle.isdb_mmt.specs.Memory.Lent.{part, over, flagByte, placesFrom}
+use Rattle.isdb_mmt.specs.Decoder.Objects.{Rec}
+use Rattle.isdb_mmt.specs.Decoder.Needs.{dataOf}
+use Rattle.isdb_mmt.specs.Memory.View.{headerGiven, itemGiven}
+use Rattle.isdb_mmt.specs.Pushes.Records.{objectFor, headerOr, hasHeader, itemOr, hasItem, rowFields, rowOf, rowsFrom, dataFrom, bitOf, readRow, readRows}
 use Rattle.isdb_mmt.specs.declared.maybe.MaybeU32.{MaybeU32}
 use Rattle.isdb_mmt.specs.declared.maybe.MaybeU32.the-variants.{None as noU32, Some as someU32}
 use Rattle.isdb_mmt.specs.declared.mpu.MaybeMfu.{MaybeMfu}

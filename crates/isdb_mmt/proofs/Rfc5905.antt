@@ -6,7 +6,7 @@ use Rattle.isdb_tlv.specs.Bytes.{be}
 use Rattle.isdb_tlv.specs.Fields.{Field, field}
 use Rattle.isdb_tlv.proofs.Numbers.{be-add}
 use Rattle.isdb_tlv.proofs.Fields.{read}
-use Rattle.isdb_mmt.specs.Rfc5905.{Timestamp, sent, Conforming, ticks, Theorem}
+use Rattle.isdb_mmt.specs.Standards.Rfc5905.{Timestamp, sent, Conforming, ticks, Theorem}
 use Rattle.isdb_mmt.proofs.Floats as Floats
 
 module _ (t : Timestamp) (c : Conforming t) where

@@ -7,9 +7,9 @@ use mathlib.Core.List.{List, [], _∷_, _++_, map}
 use native.Mathlib.Omega.{arith}
 use lib.ListN.{length}
 use lib.Dec.{eqb, leb}
-use Rattle.isdb_mmt.specs.Packet.{Bytes, PayloadUnit, MpuPacket, payloadUnit}
-use Rattle.isdb_mmt.specs.Maps.{find, put, one, isSome}
-use Rattle.isdb_mmt.specs.Objects.{Mfu, Asset, UnitEffect, mostObject, grown, continued, objectOf, effectOf, unitEffect, afterUnit, deliveredBy}
+use Rattle.isdb_mmt.specs.Decoder.Packet.{Bytes, PayloadUnit, MpuPacket, payloadUnit}
+use Rattle.isdb_mmt.specs.Decoder.Maps.{find, put, one, isSome}
+use Rattle.isdb_mmt.specs.Decoder.Objects.{Mfu, Asset, UnitEffect, mostObject, grown, continued, objectOf, effectOf, unitEffect, afterUnit, deliveredBy}
 use Rattle.isdb_mmt.specs.declared.mpu.PayloadHeader.{PayloadHeader}
 use Rattle.isdb_mmt.specs.declared.mpu.Unit.{Unit as DataUnit}
 use Rattle.isdb_mmt.specs.declared.mpu.FragmentationIndicator.{FragmentationIndicator}

@@ -18,8 +18,8 @@ use Rattle.isdb_tlv.specs.declared.ip.Flow.{Flow}
 use Rattle.isdb_tlv.specs.declared.ip.Datagram.{Datagram}
 use Rattle.isdb_tlv.specs.declared.ip.IpResult.{IpResult}
 use Rattle.isdb_tlv.specs.declared.ip.IpResult.the-variants.{Ok, Err}
-use Rattle.isdb_mmt.specs.Packet.{Bytes, ntp, inFlow, datagramIn, byKind, classify}
-use Rattle.isdb_mmt.specs.Route.{flowRoute, ipRoute, routeOf, timeIn, timeGiven, routed}
+use Rattle.isdb_mmt.specs.Decoder.Packet.{Bytes, ntp, inFlow, datagramIn, byKind, classify}
+use Rattle.isdb_mmt.specs.Pushes.Route.{flowRoute, ipRoute, routeOf, timeIn, timeGiven, routed}
 use Rattle.isdb_mmt.specs.declared.maybe.MaybeU64.the-variants.{None as noU64, Some as someU64}
 use Rattle.isdb_mmt.specs.declared.decoder.route.Route.{Route}
 use Rattle.isdb_mmt.specs.declared.decoder.route.Route.the-variants as Route

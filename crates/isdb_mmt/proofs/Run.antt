@@ -10,13 +10,13 @@ use lib.ListN.{length}
 use lib.Dec.{eqb, leb}
 use Rattle.isdb_tlv.proofs.Guards.{cond-elim}
 use Rattle.isdb_mmt.proofs.Maps.{eqb-true, find-put, find-put-other}
-use Rattle.isdb_mmt.specs.Mpu.{follows, lostFrom}
-use Rattle.isdb_mmt.specs.Packet.{Bytes, PayloadUnit, MpuPacket, Packet, ipError, ntp, nonMmtp, media, message, control, other, readable}
-use Rattle.isdb_mmt.specs.Maps.{one, isSome, find, put, orElse}
-use Rattle.isdb_mmt.specs.Objects.{Mfu, Rec, Asset, mostObject, grown, fresh, gap, lostBy, continued, effectOf, afterUnit, unitEffect, objectOf, afterUnits, deliveredBy, afterHeaders, assetAfter, tagged, passes, mediaGives}
-use Rattle.isdb_mmt.specs.Model.{State, assetOf, pushed, gives}
-use Rattle.isdb_mmt.specs.Book.{LogEntry, packetNumber, unitReceived, unitsReceived, logEntries, receptionLog, Book, dropCounted, inOrder, missing, follower, continuedBy, entered, enteredAll, deliveredOf}
-use Rattle.isdb_mmt.specs.Demand.{pushAll, giveAll, heldBytes}
+use Rattle.isdb_mmt.specs.Formats.Mpu.{follows, lostFrom}
+use Rattle.isdb_mmt.specs.Decoder.Packet.{Bytes, PayloadUnit, MpuPacket, Packet, ipError, ntp, nonMmtp, media, message, control, other, readable}
+use Rattle.isdb_mmt.specs.Decoder.Maps.{one, isSome, find, put, orElse}
+use Rattle.isdb_mmt.specs.Decoder.Objects.{Mfu, Rec, Asset, mostObject, grown, fresh, gap, lostBy, continued, effectOf, afterUnit, unitEffect, objectOf, afterUnits, deliveredBy, afterHeaders, assetAfter, tagged, passes, mediaGives}
+use Rattle.isdb_mmt.specs.Decoder.Model.{State, assetOf, pushed, gives}
+use Rattle.isdb_mmt.specs.Books.Book.{LogEntry, packetNumber, unitReceived, unitsReceived, logEntries, receptionLog, Book, dropCounted, inOrder, missing, follower, continuedBy, entered, enteredAll, deliveredOf}
+use Rattle.isdb_mmt.specs.Books.Demand.{pushAll, giveAll, heldBytes}
 use Rattle.isdb_mmt.specs.declared.mpu.FragmentationIndicator.{FragmentationIndicator}
 use Rattle.isdb_mmt.specs.declared.mpu.FragmentationIndicator.the-variants.{Complete, Head, Middle, Last}
 

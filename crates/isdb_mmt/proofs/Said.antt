@@ -7,19 +7,19 @@ use mathlib.Core.List.{List, [], map}
 use native.Mathlib.Omega.{arith}
 use lib.ListN.{length}
 use Rattle.isdb_tlv.specs.Bytes.{be}
-use Rattle.isdb_mmt.specs.Packet.{Bytes}
-use Rattle.isdb_mmt.specs.Maps.{find, orElse}
-use Rattle.isdb_mmt.specs.Objects.{Mfu, Asset, fresh}
-use Rattle.isdb_mmt.specs.Kept.{Kept}
-use Rattle.isdb_mmt.specs.Model.{Control as ControlState, assetOf}
-use Rattle.isdb_mmt.specs.Demand.{heldBytes, heldOf, droppedOf, lostOf}
-use Rattle.isdb_mmt.specs.Lent.{part, placesFrom, namesFrom, foundFrom, indexed}
-use Rattle.isdb_mmt.specs.Layout.{mediaPlaces, mediaSize, controlPlaces, controlSize, sectionPlaces, sectionSize}
-use Rattle.isdb_mmt.specs.Session.{Session, limitsOf, usedOf, mediaPlaceOf, controlPlaceOf, sectionPlaceOf}
-use Rattle.isdb_mmt.specs.Check.{mediaIn, controlsIn, sectionsIn}
-use Rattle.isdb_mmt.specs.View.{given, mfuOf, assetOfPlace, assetEntry, controlEntry, sectionEntry, viewBy, view}
-use Rattle.isdb_mmt.specs.Readings.{mediaFound, controlFound, sectionFound}
-use Rattle.isdb_mmt.specs.Calls.{droppedAt, lostAt, heldAt, keptAt, droppedIn, lostIn, heldIn, keptIn}
+use Rattle.isdb_mmt.specs.Decoder.Packet.{Bytes}
+use Rattle.isdb_mmt.specs.Decoder.Maps.{find, orElse}
+use Rattle.isdb_mmt.specs.Decoder.Objects.{Mfu, Asset, fresh}
+use Rattle.isdb_mmt.specs.Decoder.Kept.{Kept}
+use Rattle.isdb_mmt.specs.Decoder.Model.{Control as ControlState, assetOf}
+use Rattle.isdb_mmt.specs.Books.Demand.{heldBytes, heldOf, droppedOf, lostOf}
+use Rattle.isdb_mmt.specs.Memory.Lent.{part, placesFrom, namesFrom, foundFrom, indexed}
+use Rattle.isdb_mmt.specs.Memory.Layout.{mediaPlaces, mediaSize, controlPlaces, controlSize, sectionPlaces, sectionSize}
+use Rattle.isdb_mmt.specs.Memory.Session.{Session, limitsOf, usedOf, mediaPlaceOf, controlPlaceOf, sectionPlaceOf}
+use Rattle.isdb_mmt.specs.Memory.Check.{mediaIn, controlsIn, sectionsIn}
+use Rattle.isdb_mmt.specs.Memory.View.{given, mfuOf, assetOfPlace, assetEntry, controlEntry, sectionEntry, viewBy, view}
+use Rattle.isdb_mmt.specs.Answers.Readings.{mediaFound, controlFound, sectionFound}
+use Rattle.isdb_mmt.specs.Theorems.Calls.{droppedAt, lostAt, heldAt, keptAt, droppedIn, lostIn, heldIn, keptIn}
 use Rattle.isdb_mmt.specs.declared.decoder.place.Found.{Found}
 use Rattle.isdb_mmt.specs.declared.decoder.place.Found.the-variants.{At, Nothing}
 use Rattle.isdb_mmt.specs.declared.decoder.limits.Limits.{Limits}

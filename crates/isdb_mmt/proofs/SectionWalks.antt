@@ -11,18 +11,18 @@ use lib.ListN.{length, length-map}
 use Rattle.isdb_tlv.specs.Bytes.{be}
 use Rattle.isdb_tlv.specs.Walk.{turn}
 use Rattle.isdb_tlv.proofs.Guards.{cond-elim, either}
-use Rattle.isdb_mmt.specs.Part.{partOf}
-use Rattle.isdb_mmt.specs.Maps.{isSome}
-use Rattle.isdb_mmt.specs.Desc.{Loop}
-use Rattle.isdb_mmt.specs.Section.{length12, longSectionOf, entryAt, entryAs, entryItem, entriesFrom}
-use Rattle.isdb_mmt.specs.Amt.{serviceAt, serviceItem, servicesFrom, servicesWhole, amtBody, amtOf}
-use Rattle.isdb_mmt.specs.Eit.{told as eitRefused, eventOf, eventStep, eitBody, eitOf}
-use Rattle.isdb_mmt.specs.Sdt.{told as sdtRefused, serviceOf, serviceStep, sdtBody, sdtOf}
-use Rattle.isdb_mmt.specs.Bit.{told as bitRefused, broadcasterOf, broadcasterStep, bitBody, bitOf}
-use Rattle.isdb_mmt.specs.Nit.{streamsPart, streamOf, streamStep, nitBody, nitOf}
-use Rattle.isdb_mmt.specs.Steps.{Stood, atEnd, malformed, element, Found, counted, onward, toEnd, AllOf}
-use Rattle.isdb_mmt.specs.WholeSections.{described, flowTold, flowSeen, eventTold, eventSeen, serviceTold, serviceSeen, broadcasterTold, broadcasterSeen, WholeStream, wholeStream, streamTold, streamSeen}
-use Rattle.isdb_mmt.specs.Walks.{FlowsWalk, EventsWalk, ServicesWalk, BroadcastersWalk, StreamsWalk, AmtTheorem, EitTheorem, SdtTheorem, BitTheorem, NitTheorem}
+use Rattle.isdb_mmt.specs.Formats.Part.{partOf}
+use Rattle.isdb_mmt.specs.Decoder.Maps.{isSome}
+use Rattle.isdb_mmt.specs.Formats.Desc.{Loop}
+use Rattle.isdb_mmt.specs.Formats.Section.{length12, longSectionOf, entryAt, entryAs, entryItem, entriesFrom}
+use Rattle.isdb_mmt.specs.Formats.Amt.{serviceAt, serviceItem, servicesFrom, servicesWhole, amtBody, amtOf}
+use Rattle.isdb_mmt.specs.Formats.Eit.{told as eitRefused, eventOf, eventStep, eitBody, eitOf}
+use Rattle.isdb_mmt.specs.Formats.Sdt.{told as sdtRefused, serviceOf, serviceStep, sdtBody, sdtOf}
+use Rattle.isdb_mmt.specs.Formats.Bit.{told as bitRefused, broadcasterOf, broadcasterStep, bitBody, bitOf}
+use Rattle.isdb_mmt.specs.Formats.Nit.{streamsPart, streamOf, streamStep, nitBody, nitOf}
+use Rattle.isdb_mmt.specs.WholeValues.Steps.{Stood, atEnd, malformed, element, Found, counted, onward, toEnd, AllOf}
+use Rattle.isdb_mmt.specs.WholeValues.WholeSections.{described, flowTold, flowSeen, eventTold, eventSeen, serviceTold, serviceSeen, broadcasterTold, broadcasterSeen, WholeStream, wholeStream, streamTold, streamSeen}
+use Rattle.isdb_mmt.specs.WholeValues.Walks.{FlowsWalk, EventsWalk, ServicesWalk, BroadcastersWalk, StreamsWalk, AmtTheorem, EitTheorem, SdtTheorem, BitTheorem, NitTheorem}
 use Rattle.isdb_mmt.specs.declared.table.section.SectionHeader.{SectionHeader}
 use Rattle.isdb_mmt.specs.declared.table.section.Entry.{Entry}
 use Rattle.isdb_mmt.specs.declared.table.section.EntryStep.{EntryStep}

@@ -4,8 +4,8 @@ use mathlib.Core.Path.{_≡_, refl}
 use mathlib.Core.Bool.{Bool, true, false}
 use mathlib.Core.List.{List}
 use native.Mathlib.Omega.{arith}
-use Rattle.isdb_mmt.specs.Maps.{isSome}
-use Rattle.isdb_mmt.specs.Amt.{addressSize, serviceAt, serviceItem, servicesWhole}
+use Rattle.isdb_mmt.specs.Decoder.Maps.{isSome}
+use Rattle.isdb_mmt.specs.Formats.Amt.{addressSize, serviceAt, serviceItem, servicesWhole}
 use Rattle.isdb_mmt.proofs.Steps.{all-stop, all-more}
 use Rattle.isdb_mmt.specs.declared.table.amt.AmtService.{AmtService}
 use Rattle.isdb_mmt.specs.declared.table.amt.AmtStep.the-variants.{Malformed as broken, Service as service}

@@ -9,10 +9,10 @@ use native.Mathlib.Nat.{mul-le-mul-left}
 use lib.ListN.{length, set}
 use Rattle.isdb_tlv.specs.Fields.{Field, written, Fit}
 use Rattle.isdb_tlv.proofs.Fields.{size, length-written}
-use Rattle.isdb_mmt.specs.Lent.{part, over, placesFrom}
-use Rattle.isdb_mmt.specs.Session.{usedOf, usedFields, mediaPlaceOf, mediaFields, controlPlaceOf, controlFields, sectionPlaceOf, sectionFields}
-use Rattle.isdb_mmt.specs.Layout.{mostMediaIds, mostControlIds, mostSections, usedPlace, latestPlace, mediaSize, mediaPlaces, controlSize, controlPlaces, sectionSize, sectionPlaces, stateSize}
-use Rattle.isdb_mmt.specs.Check.{mediaIn, controlsIn, sectionsIn}
+use Rattle.isdb_mmt.specs.Memory.Lent.{part, over, placesFrom}
+use Rattle.isdb_mmt.specs.Memory.Session.{usedOf, usedFields, mediaPlaceOf, mediaFields, controlPlaceOf, controlFields, sectionPlaceOf, sectionFields}
+use Rattle.isdb_mmt.specs.Memory.Layout.{mostMediaIds, mostControlIds, mostSections, usedPlace, latestPlace, mediaSize, mediaPlaces, controlSize, controlPlaces, sectionSize, sectionPlaces, stateSize}
+use Rattle.isdb_mmt.specs.Memory.Check.{mediaIn, controlsIn, sectionsIn}
 use Rattle.isdb_mmt.specs.declared.decoder.head.Used.{Used}
 use Rattle.isdb_mmt.specs.declared.decoder.media.Media.{Media}
 use Rattle.isdb_mmt.specs.declared.decoder.control.Control.{Control}

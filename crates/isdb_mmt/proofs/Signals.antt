@@ -11,15 +11,15 @@ use Rattle.isdb_tlv.specs.declared.si.Section.{Section}
 use Rattle.isdb_tlv.specs.declared.si.MaybeSection.{MaybeSection}
 use Rattle.isdb_tlv.specs.declared.si.MaybeSection.the-variants.{None, Some}
 use Rattle.isdb_tlv.proofs.Sections.{Lies, Found, sections-step, next-lies}
-use Rattle.isdb_mmt.specs.Layout.{mostCount}
-use Rattle.isdb_mmt.specs.Packet.{Bytes}
-use Rattle.isdb_mmt.specs.Lent.{part}
-use Rattle.isdb_mmt.specs.Kept.{sectionOf}
+use Rattle.isdb_mmt.specs.Memory.Layout.{mostCount}
+use Rattle.isdb_mmt.specs.Decoder.Packet.{Bytes}
+use Rattle.isdb_mmt.specs.Memory.Lent.{part}
+use Rattle.isdb_mmt.specs.Decoder.Kept.{sectionOf}
 use Rattle.isdb_mmt.specs.declared.decoder.table_outcome.TableOutcome.{TableOutcome}
 use Rattle.isdb_mmt.specs.declared.decoder.walk.WalkState.{WalkState}
-use Rattle.isdb_mmt.specs.Placed.{Placed, placedSections}
-use Rattle.isdb_mmt.specs.TableOutcome.{indexOf, sectionOutcome, tableOutcome}
-use Rattle.isdb_mmt.specs.PendingTables.{mostAdded, mostBefore, sectionRead, CanApply, Applied, Walked, at, CanTakeSection, CanWalkSections}
+use Rattle.isdb_mmt.specs.Pushes.Placed.{Placed, placedSections}
+use Rattle.isdb_mmt.specs.Pushes.TableOutcome.{indexOf, sectionOutcome, tableOutcome}
+use Rattle.isdb_mmt.specs.Pushes.PendingTables.{mostAdded, mostBefore, sectionRead, CanApply, Applied, Walked, at, CanTakeSection, CanWalkSections}
 use Rattle.isdb_mmt.proofs.TableOutcomes.{length-index}
 use Rattle.isdb_mmt.proofs.Breaks.{small-section-told}
 use Rattle.isdb_mmt.proofs.Walking.{room-more, one-walked, Goes, goes-start, in-sequence, goes-end}

@@ -21,13 +21,13 @@ use Rattle.isdb_tlv.specs.declared.mmtp.PayloadType.the-variants.{Mpu, GenericO
 use Rattle.isdb_tlv.specs.declared.mmtp.Header.{Header}
 use Rattle.isdb_tlv.specs.declared.mmtp.Parsed.{Parsed}
 use Rattle.isdb_tlv.specs.declared.mmtp.Parsed.the-variants.{None as notMmtp, Some as someMmtp}
-use Rattle.isdb_mmt.specs.Mpu.{payloadHeader, declaredOf, unitsOf}
+use Rattle.isdb_mmt.specs.Formats.Mpu.{payloadHeader, declaredOf, unitsOf}
 use Rattle.isdb_mmt.specs.declared.mpu.FragmentType.{FragmentType}
 use Rattle.isdb_mmt.specs.declared.mpu.FragmentType.the-variants.{MpuMetadata, MovieFragmentMetadata, Mfu, Reserved as reservedType}
 use Rattle.isdb_mmt.specs.declared.mpu.PayloadHeader.{PayloadHeader}
 use Rattle.isdb_mmt.specs.declared.mpu.Unit.{Unit as DataUnit}
-use Rattle.isdb_mmt.specs.Packet.{Bytes, ntp, headerIn, payloadUnit, payloadUnits, unitsFor, unitsRead, mediaOf, clear, readable, byType, mmtpIn, toPort, inFlow, datagramIn, byKind, classify}
-use Rattle.isdb_mmt.specs.Demand.{AllSmall, Small, EverySmall, Feed, packetsOf, AllFit}
+use Rattle.isdb_mmt.specs.Decoder.Packet.{Bytes, ntp, headerIn, payloadUnit, payloadUnits, unitsFor, unitsRead, mediaOf, clear, readable, byType, mmtpIn, toPort, inFlow, datagramIn, byKind, classify}
+use Rattle.isdb_mmt.specs.Books.Demand.{AllSmall, Small, EverySmall, Feed, packetsOf, AllFit}
 
 take-small : (n : ℕ) (b : Bytes) → length b < 65536 → length (take n b) < 65536
 take-small n b l = omega (arith, length-take n b)

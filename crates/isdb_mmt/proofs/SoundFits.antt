@@ -5,18 +5,18 @@ use mathlib.Core.Path.{_≡_}
 use native.Mathlib.Omega.{arith}
 use lib.ListN.{length}
 use Rattle.isdb_tlv.specs.Fields.{Fit}
-use Rattle.isdb_mmt.specs.Packet.{Bytes, MpuPacket, Packet, ipError, ntp, nonMmtp, media, message, control, other, classify}
-use Rattle.isdb_mmt.specs.Objects.{assetAfter}
-use Rattle.isdb_mmt.specs.Model.{State, assetOf, pushed, gives}
-use Rattle.isdb_mmt.specs.Needs.{needs}
-use Rattle.isdb_mmt.specs.Lent.{over}
-use Rattle.isdb_mmt.specs.Layout.{mostCount, mostMfuArea}
-use Rattle.isdb_mmt.specs.Session.{Session, limitsOf, countersFields, mediaFields}
-use Rattle.isdb_mmt.specs.Check.{Sound, lengthsOf}
-use Rattle.isdb_mmt.specs.View.{view}
-use Rattle.isdb_mmt.specs.Octets.{Octets, Lent}
-use Rattle.isdb_mmt.specs.PlacesOf.{placeFor}
-use Rattle.isdb_mmt.specs.Records.{rowsFrom, dataFrom, readRows}
+use Rattle.isdb_mmt.specs.Decoder.Packet.{Bytes, MpuPacket, Packet, ipError, ntp, nonMmtp, media, message, control, other, classify}
+use Rattle.isdb_mmt.specs.Decoder.Objects.{assetAfter}
+use Rattle.isdb_mmt.specs.Decoder.Model.{State, assetOf, pushed, gives}
+use Rattle.isdb_mmt.specs.Decoder.Needs.{needs}
+use Rattle.isdb_mmt.specs.Memory.Lent.{over}
+use Rattle.isdb_mmt.specs.Memory.Layout.{mostCount, mostMfuArea}
+use Rattle.isdb_mmt.specs.Memory.Session.{Session, limitsOf, countersFields, mediaFields}
+use Rattle.isdb_mmt.specs.Memory.Check.{Sound, lengthsOf}
+use Rattle.isdb_mmt.specs.Memory.View.{view}
+use Rattle.isdb_mmt.specs.Memory.Octets.{Octets, Lent}
+use Rattle.isdb_mmt.specs.Memory.PlacesOf.{placeFor}
+use Rattle.isdb_mmt.specs.Pushes.Records.{rowsFrom, dataFrom, readRows}
 use Rattle.isdb_mmt.specs.declared.decoder.limits.Limits.{Limits}
 use Rattle.isdb_mmt.proofs.Limits.{Passed, passed}
 use Rattle.isdb_mmt.proofs.Brief.{Plain, plain-of}

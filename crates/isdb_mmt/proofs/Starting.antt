@@ -7,14 +7,14 @@ use native.Mathlib.Omega.{arith}
 use native.Mathlib.Nat.{zero-add, mul-le-mul-right}
 use lib.ListN.{length, getD, set, take, drop, length-drop}
 use lib.Seq.{length-take-le}
-use Rattle.isdb_mmt.specs.Layout.{sectionPlaces, stateSize}
-use Rattle.isdb_mmt.specs.Lent.{part, over}
-use Rattle.isdb_mmt.specs.TableOutcome.{indexSize}
+use Rattle.isdb_mmt.specs.Memory.Layout.{sectionPlaces, stateSize}
+use Rattle.isdb_mmt.specs.Memory.Lent.{part, over}
+use Rattle.isdb_mmt.specs.Pushes.TableOutcome.{indexSize}
 use mir.Syntax.{w64}
 use mir.Val.{Fits}
 use borrow.Author.Tests.{lt-ltb, le-ltb}
-use Rattle.isdb_mmt.specs.Session.{limitsOf, usedOf, latestOf}
-use Rattle.isdb_mmt.specs.Start.{recentAt, startOf, walkStart, tablesAsk, CanGo}
+use Rattle.isdb_mmt.specs.Memory.Session.{limitsOf, usedOf, latestOf}
+use Rattle.isdb_mmt.specs.Pushes.Start.{recentAt, startOf, walkStart, tablesAsk, CanGo}
 use Rattle.isdb_mmt.specs.declared.decoder.limits.Limits.{Limits}
 use Rattle.isdb_mmt.specs.declared.decoder.head.Used.{Used}
 use Rattle.isdb_mmt.specs.declared.decoder.head.Latest.{Latest}

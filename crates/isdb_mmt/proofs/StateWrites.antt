@@ -10,16 +10,16 @@ use lib.ListN.{length, take, drop}
 use lib.Seq.{length-take-le}
 use Rattle.isdb_tlv.specs.Fields.{written, Fit}
 use Rattle.isdb_tlv.proofs.Fields.{length-written}
-use Rattle.isdb_mmt.specs.Kept.{Kept, KeptTables}
-use Rattle.isdb_mmt.specs.Maps.{isSome}
-use Rattle.isdb_mmt.specs.Model.{State}
-use Rattle.isdb_mmt.specs.Layout.{usedPlace, latestPlace, timePlace, countersPlace, mediaPlaces, sectionPlaces, sectionSize, mostMediaIds, mostControlIds, mostSections, mostTableArea, stateSize}
-use Rattle.isdb_mmt.specs.Lent.{over, flagByte, placesFrom}
-use Rattle.isdb_mmt.specs.Session.{limitsOf, usedOf, usedFields, latestOf, latestFields, timeOf, countersOf, countersFields, sectionPlaceOf}
-use Rattle.isdb_mmt.specs.Check.{sectionsIn}
-use Rattle.isdb_mmt.specs.MediaPush.{withUsed}
-use Rattle.isdb_mmt.specs.PlacesOf.{tableLength, latestFor}
-use Rattle.isdb_mmt.specs.Leaves.{keptPlace, usedFor, sectionRows, withSections, withLatest, stateOfTables}
+use Rattle.isdb_mmt.specs.Decoder.Kept.{Kept, KeptTables}
+use Rattle.isdb_mmt.specs.Decoder.Maps.{isSome}
+use Rattle.isdb_mmt.specs.Decoder.Model.{State}
+use Rattle.isdb_mmt.specs.Memory.Layout.{usedPlace, latestPlace, timePlace, countersPlace, mediaPlaces, sectionPlaces, sectionSize, mostMediaIds, mostControlIds, mostSections, mostTableArea, stateSize}
+use Rattle.isdb_mmt.specs.Memory.Lent.{over, flagByte, placesFrom}
+use Rattle.isdb_mmt.specs.Memory.Session.{limitsOf, usedOf, usedFields, latestOf, latestFields, timeOf, countersOf, countersFields, sectionPlaceOf}
+use Rattle.isdb_mmt.specs.Memory.Check.{sectionsIn}
+use Rattle.isdb_mmt.specs.Pushes.MediaPush.{withUsed}
+use Rattle.isdb_mmt.specs.Memory.PlacesOf.{tableLength, latestFor}
+use Rattle.isdb_mmt.specs.Pushes.Leaves.{keptPlace, usedFor, sectionRows, withSections, withLatest, stateOfTables}
 use Rattle.isdb_mmt.specs.declared.decoder.limits.Limits.{Limits}
 use Rattle.isdb_mmt.specs.declared.decoder.head.Used.{Used}
 use Rattle.isdb_mmt.proofs.Lent.{length-over, places-apart}

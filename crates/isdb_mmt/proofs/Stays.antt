@@ -9,16 +9,16 @@ use lib.ListN.{length, getD, set, drop, length-take, length-drop}
 use native.Mathlib.Nat.{add-zero, mul-le-mul-right}
 use borrow.Author.Tests.{le-leb, leb-true}
 use Rattle.isdb_tlv.specs.Bytes.{be}
-use Rattle.isdb_mmt.specs.Packet.{Bytes}
-use Rattle.isdb_mmt.specs.Objects.{Mfu}
-use Rattle.isdb_mmt.specs.Reassembly.{PartialMessage}
-use Rattle.isdb_mmt.specs.Needs.{heldLength}
-use Rattle.isdb_mmt.specs.Lent.{part, placesFrom, namesFrom, every, indexed}
-use Rattle.isdb_mmt.specs.Limits.{asked}
-use Rattle.isdb_mmt.specs.Layout.{mostCount, mediaPlaces, mediaSize, controlPlaces, controlSize, sectionPlaces, sectionSize}
-use Rattle.isdb_mmt.specs.Session.{Session, limitsOf, usedOf, latestOf, countersOf, mediaPlaceOf, controlPlaceOf, sectionPlaceOf}
-use Rattle.isdb_mmt.specs.Check.{countFits, lengthFits, mediaSound, controlSound, sectionSound, mediaIn, controlsIn, sectionsIn, sound, lengthsOf}
-use Rattle.isdb_mmt.specs.View.{given, mfuOf, assetOfPlace, controlStateOf, assetEntry, controlEntry, sectionEntry, viewBy, view}
+use Rattle.isdb_mmt.specs.Decoder.Packet.{Bytes}
+use Rattle.isdb_mmt.specs.Decoder.Objects.{Mfu}
+use Rattle.isdb_mmt.specs.Decoder.Reassembly.{PartialMessage}
+use Rattle.isdb_mmt.specs.Decoder.Needs.{heldLength}
+use Rattle.isdb_mmt.specs.Memory.Lent.{part, placesFrom, namesFrom, every, indexed}
+use Rattle.isdb_mmt.specs.Memory.Limits.{asked}
+use Rattle.isdb_mmt.specs.Memory.Layout.{mostCount, mediaPlaces, mediaSize, controlPlaces, controlSize, sectionPlaces, sectionSize}
+use Rattle.isdb_mmt.specs.Memory.Session.{Session, limitsOf, usedOf, latestOf, countersOf, mediaPlaceOf, controlPlaceOf, sectionPlaceOf}
+use Rattle.isdb_mmt.specs.Memory.Check.{countFits, lengthFits, mediaSound, controlSound, sectionSound, mediaIn, controlsIn, sectionsIn, sound, lengthsOf}
+use Rattle.isdb_mmt.specs.Memory.View.{given, mfuOf, assetOfPlace, controlStateOf, assetEntry, controlEntry, sectionEntry, viewBy, view}
 use Rattle.isdb_mmt.specs.declared.decoder.limits.Limits.{Limits}
 use Rattle.isdb_mmt.specs.declared.decoder.media.Media.{Media}
 use Rattle.isdb_mmt.specs.declared.decoder.control.Control.{Control}

@@ -13,14 +13,14 @@ use Rattle.isdb_tlv.specs.Crc.{crcOf}
 use Rattle.isdb_tlv.specs.Fields.{bytesOf, Field, field, bits, packed, written, Fit}
 use Rattle.isdb_tlv.proofs.CrcLinear.{crc-closed}
 use Rattle.isdb_tlv.proofs.Fields.{be-one, length-bytesOf, size, fieldAt, offsetOf, length-written}
-use Rattle.isdb_mmt.specs.Maps.{isSome}
-use Rattle.isdb_mmt.specs.Part.{partAt}
-use Rattle.isdb_mmt.specs.Desc.{lengthWidth, stepAt, Split, splitFrom, splitOf, broken}
-use Rattle.isdb_mmt.specs.Location.{sized, urlOf, locationOf}
-use Rattle.isdb_mmt.specs.Section.{length12, longSectionOf}
-use Rattle.isdb_mmt.specs.StdB60.{Descriptor, descriptorSent, loopSent, DescriptorConforming, LoopConforming, descriptorIn, LoopTheorem}
-use Rattle.isdb_mmt.specs.StdB60.{SentLocation, sameFlow, ipv4, ipv6, mpeg2Ts, mpeg2TsIpv6, url, locationFields, locationBytes, locationSent, LocationConforming, locationSeen, LocationTheorem}
-use Rattle.isdb_mmt.specs.StdB60.{Header, sectionHeaderFields, withCrc, sectionSent, HeaderConforming, headerSeen, SectionTheorem}
+use Rattle.isdb_mmt.specs.Decoder.Maps.{isSome}
+use Rattle.isdb_mmt.specs.Formats.Part.{partAt}
+use Rattle.isdb_mmt.specs.Formats.Desc.{lengthWidth, stepAt, Split, splitFrom, splitOf, broken}
+use Rattle.isdb_mmt.specs.Formats.Location.{sized, urlOf, locationOf}
+use Rattle.isdb_mmt.specs.Formats.Section.{length12, longSectionOf}
+use Rattle.isdb_mmt.specs.Standards.StdB60.{Descriptor, descriptorSent, loopSent, DescriptorConforming, LoopConforming, descriptorIn, LoopTheorem}
+use Rattle.isdb_mmt.specs.Standards.StdB60.{SentLocation, sameFlow, ipv4, ipv6, mpeg2Ts, mpeg2TsIpv6, url, locationFields, locationBytes, locationSent, LocationConforming, locationSeen, LocationTheorem}
+use Rattle.isdb_mmt.specs.Standards.StdB60.{Header, sectionHeaderFields, withCrc, sectionSent, HeaderConforming, headerSeen, SectionTheorem}
 use Rattle.isdb_mmt.specs.declared.desc.Step.the-variants.{End, Raw}
 use Rattle.isdb_mmt.specs.declared.location.Located.the-variants.{Some as located}
 use Rattle.isdb_mmt.specs.declared.table.section.LongSection.the-variants.{Ok as good}

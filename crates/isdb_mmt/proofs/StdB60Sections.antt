@@ -10,19 +10,19 @@ use borrow.Author.Tests.{le-ltb, lt-leb, le-leb}
 use Rattle.isdb_tlv.specs.Bytes.{be}
 use Rattle.isdb_tlv.specs.Fields.{written}
 use Rattle.isdb_tlv.proofs.Fields.{be-one, size, fieldAt, offsetOf, length-written}
-use Rattle.isdb_mmt.specs.Part.{partAt, partOf}
-use Rattle.isdb_mmt.specs.Desc.{broken, Loop}
-use Rattle.isdb_mmt.specs.Section.{entryAt, entriesFrom}
-use Rattle.isdb_mmt.specs.Eit.{eitOf, eitBody, eventOf, eventsOf}
-use Rattle.isdb_mmt.specs.Sdt.{sdtOf, sdtBody, serviceOf, servicesOf}
-use Rattle.isdb_mmt.specs.Bit.{bitOf, bitBody, broadcasterOf, broadcastersOf}
-use Rattle.isdb_mmt.specs.Nit.{nitOf, nitBody, streamOf, streamsOf}
-use Rattle.isdb_mmt.specs.StdB60.{loopSent}
-use Rattle.isdb_mmt.specs.StdB60Sections.{Entry as SentEntry, entrySent, entriesSent, EntryConforming, All}
-use Rattle.isdb_mmt.specs.StdB60Sections.{SentEvent, eventEntry, EventConforming, eitFields, eitBodySent, eventSeen, eventValue, EitTheorem}
-use Rattle.isdb_mmt.specs.StdB60Sections.{SentService, serviceEntry, ServiceConforming, sdtFields, sdtBodySent, serviceSeen, serviceValue, SdtTheorem}
-use Rattle.isdb_mmt.specs.StdB60Sections.{SentBroadcaster, broadcasterEntry, BroadcasterConforming, SentBit, bitFields, bitBodySent, BitConforming, broadcasterSeen, broadcasterValue, BitTheorem}
-use Rattle.isdb_mmt.specs.StdB60Sections.{SentStream, streamEntry, StreamConforming, SentNit, nitStreams, nitBodySent, NitConforming, streamSeen, streamValue, NitTheorem}
+use Rattle.isdb_mmt.specs.Formats.Part.{partAt, partOf}
+use Rattle.isdb_mmt.specs.Formats.Desc.{broken, Loop}
+use Rattle.isdb_mmt.specs.Formats.Section.{entryAt, entriesFrom}
+use Rattle.isdb_mmt.specs.Formats.Eit.{eitOf, eitBody, eventOf, eventsOf}
+use Rattle.isdb_mmt.specs.Formats.Sdt.{sdtOf, sdtBody, serviceOf, servicesOf}
+use Rattle.isdb_mmt.specs.Formats.Bit.{bitOf, bitBody, broadcasterOf, broadcastersOf}
+use Rattle.isdb_mmt.specs.Formats.Nit.{nitOf, nitBody, streamOf, streamsOf}
+use Rattle.isdb_mmt.specs.Standards.StdB60.{loopSent}
+use Rattle.isdb_mmt.specs.Standards.StdB60Sections.{Entry as SentEntry, entrySent, entriesSent, EntryConforming, All}
+use Rattle.isdb_mmt.specs.Standards.StdB60Sections.{SentEvent, eventEntry, EventConforming, eitFields, eitBodySent, eventSeen, eventValue, EitTheorem}
+use Rattle.isdb_mmt.specs.Standards.StdB60Sections.{SentService, serviceEntry, ServiceConforming, sdtFields, sdtBodySent, serviceSeen, serviceValue, SdtTheorem}
+use Rattle.isdb_mmt.specs.Standards.StdB60Sections.{SentBroadcaster, broadcasterEntry, BroadcasterConforming, SentBit, bitFields, bitBodySent, BitConforming, broadcasterSeen, broadcasterValue, BitTheorem}
+use Rattle.isdb_mmt.specs.Standards.StdB60Sections.{SentStream, streamEntry, StreamConforming, SentNit, nitStreams, nitBodySent, NitConforming, streamSeen, streamValue, NitTheorem}
 use Rattle.isdb_mmt.specs.declared.table.section.Entry.{Entry}
 use Rattle.isdb_mmt.specs.declared.table.section.EntryStep.the-variants.{End, Entry as entry}
 use Rattle.isdb_mmt.proofs.Entries.{entries-at}

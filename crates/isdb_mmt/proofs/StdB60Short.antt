@@ -13,15 +13,15 @@ use Rattle.isdb_tlv.specs.Bytes.{be}
 use Rattle.isdb_tlv.specs.Crc.{crcOf}
 use Rattle.isdb_tlv.specs.Fields.{bytesOf, Field, field, bits, packed, written, Fit}
 use Rattle.isdb_tlv.proofs.Fields.{be-one, size, fieldAt, offsetOf, length-written}
-use Rattle.isdb_mmt.specs.Maps.{isSome}
-use Rattle.isdb_mmt.specs.Part.{partAt, partOf}
-use Rattle.isdb_mmt.specs.Section.{length12}
-use Rattle.isdb_mmt.specs.Amt.{addressSize, flowOf, serviceAt, servicesFrom, servicesWhole, amtBody, amtOf}
-use Rattle.isdb_mmt.specs.Tot.{totOf, totFields as totBehind}
-use Rattle.isdb_mmt.specs.StdB60.{loopSent}
-use Rattle.isdb_mmt.specs.StdB60Sections.{All}
-use Rattle.isdb_mmt.specs.StdB60Tables.{Flow, flow4, flow6, flowFields, isIpv6, SentFlow, flowLoop, flowSent, flowsSent, FlowConforming, flowSeen, SentAmt, amtBodySent, AmtTheorem}
-use Rattle.isdb_mmt.specs.StdB60Tables.{SentTot, totFields, totSent, TotConforming, TotTheorem}
+use Rattle.isdb_mmt.specs.Decoder.Maps.{isSome}
+use Rattle.isdb_mmt.specs.Formats.Part.{partAt, partOf}
+use Rattle.isdb_mmt.specs.Formats.Section.{length12}
+use Rattle.isdb_mmt.specs.Formats.Amt.{addressSize, flowOf, serviceAt, servicesFrom, servicesWhole, amtBody, amtOf}
+use Rattle.isdb_mmt.specs.Formats.Tot.{totOf, totFields as totBehind}
+use Rattle.isdb_mmt.specs.Standards.StdB60.{loopSent}
+use Rattle.isdb_mmt.specs.Standards.StdB60Sections.{All}
+use Rattle.isdb_mmt.specs.Standards.StdB60Tables.{Flow, flow4, flow6, flowFields, isIpv6, SentFlow, flowLoop, flowSent, flowsSent, FlowConforming, flowSeen, SentAmt, amtBodySent, AmtTheorem}
+use Rattle.isdb_mmt.specs.Standards.StdB60Tables.{SentTot, totFields, totSent, TotConforming, TotTheorem}
 use Rattle.isdb_mmt.specs.declared.table.amt.AmtStep.the-variants.{Service as service}
 use Rattle.isdb_mmt.proofs.StdB60.{loop-whole, with-crc, with-crc-length, sections}
 use Rattle.isdb_mmt.proofs.BytesAt.{FoundAt, located-whole, located-first, located-part, located-drop, located-within, located-front, located-rest, field-read, first-read}
@@ -152,8 +152,8 @@ tot t c =
     let size : length12 s 8 ≡ n = rw (tot-field t c 3) (omega arith) in
     record {
       section =
-          rw (le-ltb (length s) 3 (omega arith), len, all)
-          (rw (le-ltb (n + 14) 14 (omega arith), le-ltb (length s) (n + 14) (omega arith), tot-crc t c)
+          rw (le-ltb (length s) 3 (omega arith), len)
+          (rw (le-ltb (n + 11) 11 (omega arith), all, le-ltb (length s) (n + 14) (omega arith), tot-crc t c)
           (rw (take-all (n + 14) s (omega arith), size)
           (rw (le-ltb (length s) (n + 10) (omega arith), tot-field t c 2, tot-loop t c, loop-whole (t .descriptors) (c .descriptors)))));
       descriptors = tot-loop t c;

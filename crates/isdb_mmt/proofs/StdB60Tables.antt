@@ -13,19 +13,19 @@ use Rattle.isdb_tlv.specs.Guards.{_=?_}
 use Rattle.isdb_tlv.specs.Bytes.{be}
 use Rattle.isdb_tlv.specs.Fields.{Field, field, bits, packed, written, Fit}
 use Rattle.isdb_tlv.proofs.Fields.{be-one, length-written}
-use Rattle.isdb_mmt.specs.Maps.{isSome}
-use Rattle.isdb_mmt.specs.Part.{partAt, partOf}
-use Rattle.isdb_mmt.specs.Location.{locationOf}
-use Rattle.isdb_mmt.specs.Desc.{Loop}
-use Rattle.isdb_mmt.specs.Mpt.{declaredLength, locationsEnd, locationsOf, assetFields, assetAt, assetsFrom, mptAssets, mptTable, mptOf}
-use Rattle.isdb_mmt.specs.Plt.{packageAt, packagesEnd, packagesOf, deliverySize, deliveryAt, deliveriesFrom, deliveriesWhole, pltDeliveries, pltTable, pltOf}
-use Rattle.isdb_mmt.specs.StdB60.{loopSent, SentLocation, locationSent, LocationConforming, locationSeen}
-use Rattle.isdb_mmt.specs.StdB60Sections.{All}
-use Rattle.isdb_mmt.specs.StdB60Tables.{locationsSent, SentAsset, assetHead, assetMiddle, assetSent, assetsSent, AssetConforming, assetSeen, assetValue}
-use Rattle.isdb_mmt.specs.StdB60Tables.{tableHead, SentMpt, mptRest, mptSent, MptConforming, mptLoopStart, mptAssetsStart, MptTheorem}
-use Rattle.isdb_mmt.specs.StdB60Tables.{SentPackage, packageSent, packagesSent, PackageConforming, packageSeen, packageValue}
-use Rattle.isdb_mmt.specs.StdB60Tables.{Delivery, overIpv4, overIpv6, atUrl, deliveryType, deliveryLocation, DeliveryConforming, SentDelivery, deliverySent, deliveriesSent, SentDeliveryConforming, deliveryValue}
-use Rattle.isdb_mmt.specs.StdB60Tables.{SentPlt, pltRest, pltSent, PltConforming, pltDeliveriesStart, PltTheorem}
+use Rattle.isdb_mmt.specs.Decoder.Maps.{isSome}
+use Rattle.isdb_mmt.specs.Formats.Part.{partAt, partOf}
+use Rattle.isdb_mmt.specs.Formats.Location.{locationOf}
+use Rattle.isdb_mmt.specs.Formats.Desc.{Loop}
+use Rattle.isdb_mmt.specs.Formats.Mpt.{declaredLength, locationsEnd, locationsOf, assetFields, assetAt, assetsFrom, mptAssets, mptTable, mptOf}
+use Rattle.isdb_mmt.specs.Formats.Plt.{packageAt, packagesEnd, packagesOf, deliverySize, deliveryAt, deliveriesFrom, deliveriesWhole, pltDeliveries, pltTable, pltOf}
+use Rattle.isdb_mmt.specs.Standards.StdB60.{loopSent, SentLocation, locationSent, LocationConforming, locationSeen}
+use Rattle.isdb_mmt.specs.Standards.StdB60Sections.{All}
+use Rattle.isdb_mmt.specs.Standards.StdB60Tables.{locationsSent, SentAsset, assetHead, assetMiddle, assetSent, assetsSent, AssetConforming, assetSeen, assetValue}
+use Rattle.isdb_mmt.specs.Standards.StdB60Tables.{tableHead, SentMpt, mptRest, mptSent, MptConforming, mptLoopStart, mptAssetsStart, MptTheorem}
+use Rattle.isdb_mmt.specs.Standards.StdB60Tables.{SentPackage, packageSent, packagesSent, PackageConforming, packageSeen, packageValue}
+use Rattle.isdb_mmt.specs.Standards.StdB60Tables.{Delivery, overIpv4, overIpv6, atUrl, deliveryType, deliveryLocation, DeliveryConforming, SentDelivery, deliverySent, deliveriesSent, SentDeliveryConforming, deliveryValue}
+use Rattle.isdb_mmt.specs.Standards.StdB60Tables.{SentPlt, pltRest, pltSent, PltConforming, pltDeliveriesStart, PltTheorem}
 use Rattle.isdb_mmt.specs.declared.location.Located.the-variants.{Some as located}
 use Rattle.isdb_mmt.specs.declared.maybe.MaybeUsize.the-variants.{Some as At}
 use Rattle.isdb_mmt.specs.declared.table.mpt.Asset.{Asset}

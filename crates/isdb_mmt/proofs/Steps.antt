@@ -7,8 +7,8 @@ use mathlib.Core.Option.{Option, none, some}
 use native.Mathlib.Omega.{arith}
 use Rattle.isdb_tlv.specs.Walk.{Next, stop as halt, more, turn, run, also as alsoItem}
 use Rattle.isdb_tlv.proofs.Walk.{Ahead, walk-at, run-stop, run-more}
-use Rattle.isdb_mmt.specs.Maps.{isSome}
-use Rattle.isdb_mmt.specs.Steps.{Stood, atEnd, malformed, element, Found, stopped, also, required, counted, onward, toEnd, Counts, Ends, lastOf}
+use Rattle.isdb_mmt.specs.Decoder.Maps.{isSome}
+use Rattle.isdb_mmt.specs.WholeValues.Steps.{Stood, atEnd, malformed, element, Found, stopped, also, required, counted, onward, toEnd, Counts, Ends, lastOf}
 use Rattle.isdb_mmt.proofs.Names.{true-not-false}
 
 -- a list of items that is refused whole where one of them is

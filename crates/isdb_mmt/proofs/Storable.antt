@@ -8,20 +8,20 @@ use mathlib.Core.Option.{Option, none, some}
 use mathlib.Core.List.{List, map}
 use native.Mathlib.Omega.{arith}
 use lib.ListN.{length, getD, drop, length-take}
-use Rattle.isdb_mmt.specs.Packet.{Bytes, MpuPacket, MessagePacket, Packet, ipError, ntp, nonMmtp, media, message, control, other, classify}
-use Rattle.isdb_mmt.specs.Objects.{Mfu, Asset, fresh, assetAfter}
-use Rattle.isdb_mmt.specs.Reassembly.{PartialMessage, mostMessage, reassemblyAfter, messageCompleted, cutOfAll}
-use Rattle.isdb_mmt.specs.Kept.{tableRead, mptAfterAll}
-use Rattle.isdb_mmt.specs.GivenTables.{tablesGiven, controlTables}
-use Rattle.isdb_mmt.specs.Model.{State, Control as ControlState, idleControl, assetOf, controlOf, reassemblyOf, packetCounted, timeAfter, pushed}
-use Rattle.isdb_mmt.specs.Needs.{heldLength, needs}
-use Rattle.isdb_mmt.specs.Lent.{part, placesFrom, every, indexed}
-use Rattle.isdb_mmt.specs.Layout.{mostCount, mediaPlaces, mediaSize, objectPlace, controlPlaces, controlSize, sectionPlaces, sectionSize, timePlace}
-use Rattle.isdb_mmt.specs.Session.{Session, limitsOf, usedOf, latestOf, timeOf, countersOf, heldObjectOf, mediaPlaceOf, controlPlaceOf, sectionPlaceOf}
-use Rattle.isdb_mmt.specs.Check.{statsCounts, packetCounts, tableCounts, mediaSound, controlSound, sectionSound, mediaIn, controlsIn, sectionsIn, Sound, lengthsOf}
-use Rattle.isdb_mmt.specs.View.{given, headerGiven, itemGiven, mfuOf, assetOfPlace, controlStateOf, assetEntry, controlEntry, sectionEntry, viewBy, view}
-use Rattle.isdb_mmt.specs.Octets.{Octets, Lent}
-use Rattle.isdb_mmt.specs.PlacesOf.{firstIn}
+use Rattle.isdb_mmt.specs.Decoder.Packet.{Bytes, MpuPacket, MessagePacket, Packet, ipError, ntp, nonMmtp, media, message, control, other, classify}
+use Rattle.isdb_mmt.specs.Decoder.Objects.{Mfu, Asset, fresh, assetAfter}
+use Rattle.isdb_mmt.specs.Decoder.Reassembly.{PartialMessage, mostMessage, reassemblyAfter, messageCompleted, cutOfAll}
+use Rattle.isdb_mmt.specs.Decoder.Kept.{tableRead, mptAfterAll}
+use Rattle.isdb_mmt.specs.Decoder.GivenTables.{tablesGiven, controlTables}
+use Rattle.isdb_mmt.specs.Decoder.Model.{State, Control as ControlState, idleControl, assetOf, controlOf, reassemblyOf, packetCounted, timeAfter, pushed}
+use Rattle.isdb_mmt.specs.Decoder.Needs.{heldLength, needs}
+use Rattle.isdb_mmt.specs.Memory.Lent.{part, placesFrom, every, indexed}
+use Rattle.isdb_mmt.specs.Memory.Layout.{mostCount, mediaPlaces, mediaSize, objectPlace, controlPlaces, controlSize, sectionPlaces, sectionSize, timePlace}
+use Rattle.isdb_mmt.specs.Memory.Session.{Session, limitsOf, usedOf, latestOf, timeOf, countersOf, heldObjectOf, mediaPlaceOf, controlPlaceOf, sectionPlaceOf}
+use Rattle.isdb_mmt.specs.Memory.Check.{statsCounts, packetCounts, tableCounts, mediaSound, controlSound, sectionSound, mediaIn, controlsIn, sectionsIn, Sound, lengthsOf}
+use Rattle.isdb_mmt.specs.Memory.View.{given, headerGiven, itemGiven, mfuOf, assetOfPlace, controlStateOf, assetEntry, controlEntry, sectionEntry, viewBy, view}
+use Rattle.isdb_mmt.specs.Memory.Octets.{Octets, Lent}
+use Rattle.isdb_mmt.specs.Memory.PlacesOf.{firstIn}
 use Rattle.isdb_mmt.specs.declared.mpu.MfuHeader.{MfuHeader}
 use Rattle.isdb_mmt.specs.declared.decoder.limits.Limits.{Limits}
 use Rattle.isdb_mmt.proofs.Checks.{media-was, control-was, section-was, count-was}

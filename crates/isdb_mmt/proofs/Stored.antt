@@ -16,9 +16,9 @@ use Rattle.isdb_tlv.specs.Bytes.{be}
 use Rattle.isdb_tlv.specs.Fields.{Field, written, Fit, puts}
 use Rattle.isdb_tlv.proofs.Numbers.{be-drop, be-take}
 use Rattle.isdb_tlv.proofs.Fields.{be-behind, fieldAt, offsetOf, size, read, length-written}
-use Rattle.isdb_mmt.specs.Lent.{part, over, flag, flagByte}
-use Rattle.isdb_mmt.specs.Session.{limitsOf, limitsFields, usedOf, usedFields, latestOf, latestFields, timeOf, timeFields, countersOf, countersFields, heldObjectOf, statsOf, mediaPlaceOf, mediaFields, controlPlaceOf, controlFields, sectionPlaceOf, sectionFields}
-use Rattle.isdb_mmt.specs.Layout.{usedPlace, latestPlace, timePlace, countersPlace, stateSize}
+use Rattle.isdb_mmt.specs.Memory.Lent.{part, over, flag, flagByte}
+use Rattle.isdb_mmt.specs.Memory.Session.{limitsOf, limitsFields, usedOf, usedFields, latestOf, latestFields, timeOf, timeFields, countersOf, countersFields, heldObjectOf, statsOf, mediaPlaceOf, mediaFields, controlPlaceOf, controlFields, sectionPlaceOf, sectionFields}
+use Rattle.isdb_mmt.specs.Memory.Layout.{usedPlace, latestPlace, timePlace, countersPlace, stateSize}
 use Rattle.isdb_mmt.specs.declared.decoder.limits.Limits.{Limits}
 use Rattle.isdb_mmt.specs.declared.decoder.counts.Counters.{Counters}
 use Rattle.isdb_mmt.specs.declared.decoder.head.Used.{Used}

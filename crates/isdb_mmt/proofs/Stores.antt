@@ -13,16 +13,16 @@ use borrow.Author.Tests.{eqb-true, eqb-false, ltb-true, ltb-false}
 use Rattle.isdb_tlv.specs.Bytes.{be}
 use Rattle.isdb_tlv.proofs.Guards.{cond-elim, either}
 use Rattle.isdb_mmt.specs.declared.decoder.counts.Counters.{Counters}
-use Rattle.isdb_mmt.specs.Packet.{Bytes}
-use Rattle.isdb_mmt.specs.Maps.{find, isSome}
-use Rattle.isdb_mmt.specs.Mpt.{mptOf}
-use Rattle.isdb_mmt.specs.Plt.{pltOf}
-use Rattle.isdb_mmt.specs.Tot.{totOf}
-use Rattle.isdb_mmt.specs.Lent.{distinct}
-use Rattle.isdb_mmt.specs.Octets.{Octets}
-use Rattle.isdb_mmt.specs.Kept.{Section, keyOf, sectionOf, parsesAs, Kept, otherVersion, keepIf, keep, Increments, increments, tableCounted, sectionIncrements, KeptTables, Table, emptyTable, mptTable, pltTable, totTable, truncatedSection, aSection, otherTable, mptParses, pltParses, totParses, longTable, tableById, tableRead, changes, tableIncrements, latest, mptAfter, mptAfterAll, stored, storedAll, countedAll}
-use Rattle.isdb_mmt.specs.Needs.{tableArea, tablesNeed}
-use Rattle.isdb_mmt.specs.GivenTables.{controlTables}
+use Rattle.isdb_mmt.specs.Decoder.Packet.{Bytes}
+use Rattle.isdb_mmt.specs.Decoder.Maps.{find, isSome}
+use Rattle.isdb_mmt.specs.Formats.Mpt.{mptOf}
+use Rattle.isdb_mmt.specs.Formats.Plt.{pltOf}
+use Rattle.isdb_mmt.specs.Formats.Tot.{totOf}
+use Rattle.isdb_mmt.specs.Memory.Lent.{distinct}
+use Rattle.isdb_mmt.specs.Memory.Octets.{Octets}
+use Rattle.isdb_mmt.specs.Decoder.Kept.{Section, keyOf, sectionOf, parsesAs, Kept, otherVersion, keepIf, keep, Increments, increments, tableCounted, sectionIncrements, KeptTables, Table, emptyTable, mptTable, pltTable, totTable, truncatedSection, aSection, otherTable, mptParses, pltParses, totParses, longTable, tableById, tableRead, changes, tableIncrements, latest, mptAfter, mptAfterAll, stored, storedAll, countedAll}
+use Rattle.isdb_mmt.specs.Decoder.Needs.{tableArea, tablesNeed}
+use Rattle.isdb_mmt.specs.Decoder.GivenTables.{controlTables}
 use Rattle.isdb_mmt.proofs.Views.{keys}
 use Rattle.isdb_mmt.proofs.Declared.{same-section, same-body, same-tot, same-mpt, same-plt}
 use Rattle.isdb_mmt.proofs.Every.{Every, every-put, distinct-put}

@@ -10,15 +10,15 @@ use lib.ListN.{length, take, length-append}
 use lib.Seq.{drop-append-seam, take-at}
 use Rattle.isdb_tlv.specs.Fields.{written, Fit}
 use Rattle.isdb_tlv.proofs.Fields.{length-written}
-use Rattle.isdb_mmt.specs.Packet.{Bytes}
-use Rattle.isdb_mmt.specs.Maps.{isSome}
-use Rattle.isdb_mmt.specs.Kept.{Kept}
-use Rattle.isdb_mmt.specs.Layout.{sectionSize}
-use Rattle.isdb_mmt.specs.Lent.{part, over, placesFrom, indexed}
-use Rattle.isdb_mmt.specs.Session.{sectionPlaceOf, sectionFields}
-use Rattle.isdb_mmt.specs.View.{given}
-use Rattle.isdb_mmt.specs.PlacesOf.{tableLength}
-use Rattle.isdb_mmt.specs.Leaves.{keptPlace, sectionRows, bytesOver, keptOver}
+use Rattle.isdb_mmt.specs.Decoder.Packet.{Bytes}
+use Rattle.isdb_mmt.specs.Decoder.Maps.{isSome}
+use Rattle.isdb_mmt.specs.Decoder.Kept.{Kept}
+use Rattle.isdb_mmt.specs.Memory.Layout.{sectionSize}
+use Rattle.isdb_mmt.specs.Memory.Lent.{part, over, placesFrom, indexed}
+use Rattle.isdb_mmt.specs.Memory.Session.{sectionPlaceOf, sectionFields}
+use Rattle.isdb_mmt.specs.Memory.View.{given}
+use Rattle.isdb_mmt.specs.Memory.PlacesOf.{tableLength}
+use Rattle.isdb_mmt.specs.Pushes.Leaves.{keptPlace, sectionRows, bytesOver, keptOver}
 use Rattle.isdb_mmt.specs.declared.decoder.section.KeptSection.{KeptSection}
 use Rattle.isdb_mmt.proofs.Lent.{length-over, part-over}
 use Rattle.isdb_mmt.proofs.Stored.{section-back}

@@ -12,17 +12,17 @@ use mir.Syntax.{w16, w32, w64}
 use mir.Val.{Fits}
 use Rattle.isdb_tlv.specs.Bytes.{be}
 use Rattle.isdb_tlv.proofs.Guards.{either}
-use Rattle.isdb_mmt.specs.Part.{partOf}
-use Rattle.isdb_mmt.specs.Packet.{Bytes}
-use Rattle.isdb_mmt.specs.Maps.{one}
-use Rattle.isdb_mmt.specs.Lent.{part, placesFrom, namesFrom, foundFrom}
-use Rattle.isdb_mmt.specs.Layout.{mostSections, sectionSize}
-use Rattle.isdb_mmt.specs.Session.{sectionPlaceOf}
-use Rattle.isdb_mmt.specs.Section.{longSectionOf}
+use Rattle.isdb_mmt.specs.Formats.Part.{partOf}
+use Rattle.isdb_mmt.specs.Decoder.Packet.{Bytes}
+use Rattle.isdb_mmt.specs.Decoder.Maps.{one}
+use Rattle.isdb_mmt.specs.Memory.Lent.{part, placesFrom, namesFrom, foundFrom}
+use Rattle.isdb_mmt.specs.Memory.Layout.{mostSections, sectionSize}
+use Rattle.isdb_mmt.specs.Memory.Session.{sectionPlaceOf}
+use Rattle.isdb_mmt.specs.Formats.Section.{longSectionOf}
 use Rattle.isdb_tlv.specs.Guards.{_<?_}
-use Rattle.isdb_mmt.specs.Mpt.{mptOf}
-use Rattle.isdb_mmt.specs.Plt.{pltOf}
-use Rattle.isdb_mmt.specs.Tot.{totOf}
+use Rattle.isdb_mmt.specs.Formats.Mpt.{mptOf}
+use Rattle.isdb_mmt.specs.Formats.Plt.{pltOf}
+use Rattle.isdb_mmt.specs.Formats.Tot.{totOf}
 use Rattle.isdb_mmt.specs.declared.table.tot.Tot.{Tot as TotRead}
 use Rattle.isdb_mmt.specs.declared.table.tot.TotParsed.{TotParsed}
 use Rattle.isdb_mmt.specs.declared.table.tot.TotResult.the-variants.{Ok as totOk, Err as totErr}
@@ -32,12 +32,12 @@ use Rattle.isdb_mmt.specs.declared.table.mpt.MaybeMpt.the-variants.{None
 use Rattle.isdb_mmt.specs.declared.table.plt.Plt.{Plt as PltRead}
 use Rattle.isdb_mmt.specs.declared.table.plt.MaybePlt.{MaybePlt}
 use Rattle.isdb_mmt.specs.declared.table.plt.MaybePlt.the-variants.{None as noPlt, Some as somePlt}
-use Rattle.isdb_mmt.specs.Kept.{Body, mptParses, pltParses, totParses, totCrcBad, keyOf, declaredSection, declaredTable, sectionOf, bodyRead as modelBody, longTable, tableById, tableRead}
-use Rattle.isdb_mmt.specs.Eit.{eitOf}
-use Rattle.isdb_mmt.specs.Sdt.{sdtOf}
-use Rattle.isdb_mmt.specs.Bit.{bitOf}
-use Rattle.isdb_mmt.specs.Nit.{nitOf}
-use Rattle.isdb_mmt.specs.Amt.{amtOf}
+use Rattle.isdb_mmt.specs.Decoder.Kept.{Body, mptParses, pltParses, totParses, totCrcBad, keyOf, declaredSection, declaredTable, sectionOf, bodyRead as modelBody, longTable, tableById, tableRead}
+use Rattle.isdb_mmt.specs.Formats.Eit.{eitOf}
+use Rattle.isdb_mmt.specs.Formats.Sdt.{sdtOf}
+use Rattle.isdb_mmt.specs.Formats.Bit.{bitOf}
+use Rattle.isdb_mmt.specs.Formats.Nit.{nitOf}
+use Rattle.isdb_mmt.specs.Formats.Amt.{amtOf}
 use Rattle.isdb_mmt.specs.declared.table.section.SectionHeader.{SectionHeader}
 use Rattle.isdb_mmt.specs.declared.table.section.SectionError.{SectionError}
 use Rattle.isdb_mmt.specs.declared.table.section.SectionError.the-variants.{Truncated, Crc, Malformed}
@@ -52,7 +52,7 @@ use Rattle.isdb_mmt.specs.declared.decoder.table_outcome.BodyRead.{BodyR
 use Rattle.isdb_mmt.specs.declared.decoder.table_outcome.Recent.{Recent}
 use Rattle.isdb_mmt.specs.declared.decoder.table_outcome.TableAction.the-variants.{Nothing, Mpt, Plt, Tot, Put}
 use Rattle.isdb_mmt.specs.declared.decoder.table_outcome.TableOutcome.{TableOutcome}
-use Rattle.isdb_mmt.specs.TableOutcome.{indexOf, placeAt, keysOf, noSection, bodyFrom, outcome, changesTo, bodyPut, versionBy, versionFor, bodyOutcome, versionOutcome, sectionOutcome, longOutcome, mptOutcome, pltOutcome, totOutcome, tableOutcome}
+use Rattle.isdb_mmt.specs.Pushes.TableOutcome.{indexOf, placeAt, keysOf, noSection, bodyFrom, outcome, changesTo, bodyPut, versionBy, versionFor, bodyOutcome, versionOutcome, sectionOutcome, longOutcome, mptOutcome, pltOutcome, totOutcome, tableOutcome}
 
 -- ---- an index's places and keys
 

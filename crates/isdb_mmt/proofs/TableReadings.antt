@@ -11,22 +11,22 @@ use lib.Arith.{lt-of-le-ne}
 use lib.ListN.{length}
 use borrow.Author.Tests.{ne-eqb, eqb-true, eqb-false, ltb-true, ltb-false, leb-true}
 use Rattle.isdb_tlv.proofs.Guards.{either}
-use Rattle.isdb_mmt.specs.Packet.{Bytes}
-use Rattle.isdb_mmt.specs.Part.{partOf}
-use Rattle.isdb_mmt.specs.Maps.{find}
-use Rattle.isdb_mmt.specs.Kept.{parsesAs, mptParses, pltParses, totParses}
-use Rattle.isdb_mmt.specs.Mpt.{mptOf, serviceId, assetsFrom}
-use Rattle.isdb_mmt.specs.Plt.{pltOf}
-use Rattle.isdb_mmt.specs.Tot.{totOf}
-use Rattle.isdb_mmt.specs.Layout.{controlPlaces, controlSize, sectionPlaces, sectionSize}
-use Rattle.isdb_mmt.specs.Lent.{part, namesFrom, foundFrom, among}
-use Rattle.isdb_mmt.specs.Session.{Session, limitsOf, usedOf, latestOf, controlPlaceOf, controlAt, sectionPlaceOf, sectionAt}
-use Rattle.isdb_mmt.specs.Check.{controlsIn, sectionsIn, controlSound, sectionSound, lengthsOf, sound, Sound}
-use Rattle.isdb_mmt.specs.Model.{Control as ControlState}
-use Rattle.isdb_mmt.specs.View.{given, controlStateOf, viewBy, view}
-use Rattle.isdb_mmt.specs.Readings.{areaPart, sectionFound, sectionPart, controlFound, mptAt, mptPart, pltPart, totPart, tableIf, tableRead, tableIdOf, sectionRead, mptRead, pltRead, totRead, controlNames, ascending, firstCarried, carried, assetIn, assetIf, assetAmong, assetRead, toldBy}
-use Rattle.isdb_mmt.specs.ReadingLaws.{namesIn, rises, InOrder}
-use Rattle.isdb_mmt.specs.TableReadingLaws.{saysOf, sectionBytes, mptBytes, Inside, Reads, TablesAreTold, SaysAsset, saysAsset, carriedBy, mptSays, keptSays, carriedAmong, InsideMpt, AssetRead, CarriedAssets, Passes, PassedBelow, AnswerIs, FirstCarriers}
+use Rattle.isdb_mmt.specs.Decoder.Packet.{Bytes}
+use Rattle.isdb_mmt.specs.Formats.Part.{partOf}
+use Rattle.isdb_mmt.specs.Decoder.Maps.{find}
+use Rattle.isdb_mmt.specs.Decoder.Kept.{parsesAs, mptParses, pltParses, totParses}
+use Rattle.isdb_mmt.specs.Formats.Mpt.{mptOf, serviceId, assetsFrom}
+use Rattle.isdb_mmt.specs.Formats.Plt.{pltOf}
+use Rattle.isdb_mmt.specs.Formats.Tot.{totOf}
+use Rattle.isdb_mmt.specs.Memory.Layout.{controlPlaces, controlSize, sectionPlaces, sectionSize}
+use Rattle.isdb_mmt.specs.Memory.Lent.{part, namesFrom, foundFrom, among}
+use Rattle.isdb_mmt.specs.Memory.Session.{Session, limitsOf, usedOf, latestOf, controlPlaceOf, controlAt, sectionPlaceOf, sectionAt}
+use Rattle.isdb_mmt.specs.Memory.Check.{controlsIn, sectionsIn, controlSound, sectionSound, lengthsOf, sound, Sound}
+use Rattle.isdb_mmt.specs.Decoder.Model.{Control as ControlState}
+use Rattle.isdb_mmt.specs.Memory.View.{given, controlStateOf, viewBy, view}
+use Rattle.isdb_mmt.specs.Answers.Readings.{areaPart, sectionFound, sectionPart, controlFound, mptAt, mptPart, pltPart, totPart, tableIf, tableRead, tableIdOf, sectionRead, mptRead, pltRead, totRead, controlNames, ascending, firstCarried, carried, assetIn, assetIf, assetAmong, assetRead, toldBy}
+use Rattle.isdb_mmt.specs.Answers.ReadingLaws.{namesIn, rises, InOrder}
+use Rattle.isdb_mmt.specs.Answers.TableReadingLaws.{saysOf, sectionBytes, mptBytes, Inside, Reads, TablesAreTold, SaysAsset, saysAsset, carriedBy, mptSays, keptSays, carriedAmong, InsideMpt, AssetRead, CarriedAssets, Passes, PassedBelow, AnswerIs, FirstCarriers}
 use Rattle.isdb_mmt.specs.declared.part.Part.{Part}
 use Rattle.isdb_mmt.specs.declared.maybe.MaybeU16.{MaybeU16}
 use Rattle.isdb_mmt.specs.declared.table.mpt.Asset.{Asset}

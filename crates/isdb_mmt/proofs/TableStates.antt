@@ -3,9 +3,9 @@ use Prim.Native.Nat.{ℕ, max}
 use mathlib.Core.Path.{_≡_, refl, _∙_}
 use mathlib.Core.List.{List, [], _∷_}
 use native.Mathlib.Omega.{arith}
-use Rattle.isdb_mmt.specs.Kept.{Table, mptAfterAll, storedAll, countedAll, stored}
-use Rattle.isdb_mmt.specs.Needs.{tableArea, tablesNeed}
-use Rattle.isdb_mmt.specs.TableState.{TableState, afterTable, afterTables}
+use Rattle.isdb_mmt.specs.Decoder.Kept.{Table, mptAfterAll, storedAll, countedAll, stored}
+use Rattle.isdb_mmt.specs.Decoder.Needs.{tableArea, tablesNeed}
+use Rattle.isdb_mmt.specs.Pushes.TableState.{TableState, afterTable, afterTables}
 
 pub mpt-all : (ts : List Table) (w : TableState) → afterTables w ts .mpt ≡ mptAfterAll (w .mpt) ts
 unfolding afterTables mptAfterAll

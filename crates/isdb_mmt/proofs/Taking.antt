@@ -13,19 +13,19 @@ use Rattle.isdb_tlv.specs.declared.mmtp.Header.{Header}
 use Rattle.isdb_tlv.specs.declared.mmtp.Packet.{Packet as MmtpPacket}
 use Rattle.isdb_tlv.specs.declared.mmtp.Parsed.{Parsed}
 use Rattle.isdb_tlv.specs.declared.mmtp.Parsed.the-variants.{None as notMmtp, Some as someMmtp}
-use Rattle.isdb_mmt.specs.Packet.{Bytes, MpuPacket, Packet, ipError, ntp, nonMmtp, media, message, control, other, classify, mmtpIn, mediaOf, byType, messagePacket}
-use Rattle.isdb_mmt.specs.Model.{packetCounted, pushed, gives}
-use Rattle.isdb_mmt.specs.Needs.{needs}
-use Rattle.isdb_mmt.specs.Session.{Session, countersOf}
-use Rattle.isdb_mmt.specs.Check.{lengthsOf, Sound, packetCounts}
-use Rattle.isdb_mmt.specs.View.{viewBy, view}
-use Rattle.isdb_mmt.specs.Opening.{lent}
-use Rattle.isdb_mmt.specs.Counted.{StateCountable}
-use Rattle.isdb_mmt.specs.Leaves.{withCounters, withTime, packetLeaves}
-use Rattle.isdb_mmt.specs.Route.{routeOf, routed, timeIn, timeGiven}
-use Rattle.isdb_mmt.specs.MediaPush.{MediaPushed}
-use Rattle.isdb_mmt.specs.MediaCommit.{CanPushMedia}
-use Rattle.isdb_mmt.specs.Push.{Fits, PacketPushed, QuietPushed, CanTakePacket}
+use Rattle.isdb_mmt.specs.Decoder.Packet.{Bytes, MpuPacket, Packet, ipError, ntp, nonMmtp, media, message, control, other, classify, mmtpIn, mediaOf, byType, messagePacket}
+use Rattle.isdb_mmt.specs.Decoder.Model.{packetCounted, pushed, gives}
+use Rattle.isdb_mmt.specs.Decoder.Needs.{needs}
+use Rattle.isdb_mmt.specs.Memory.Session.{Session, countersOf}
+use Rattle.isdb_mmt.specs.Memory.Check.{lengthsOf, Sound, packetCounts}
+use Rattle.isdb_mmt.specs.Memory.View.{viewBy, view}
+use Rattle.isdb_mmt.specs.Memory.Opening.{lent}
+use Rattle.isdb_mmt.specs.Pushes.Counted.{StateCountable}
+use Rattle.isdb_mmt.specs.Pushes.Leaves.{withCounters, withTime, packetLeaves}
+use Rattle.isdb_mmt.specs.Pushes.Route.{routeOf, routed, timeIn, timeGiven}
+use Rattle.isdb_mmt.specs.Pushes.MediaPush.{MediaPushed}
+use Rattle.isdb_mmt.specs.Pushes.MediaCommit.{CanPushMedia}
+use Rattle.isdb_mmt.specs.Pushes.Push.{Fits, PacketPushed, QuietPushed, CanTakePacket}
 use Rattle.isdb_mmt.specs.declared.maybe.MaybeU64.{MaybeU64}
 use Rattle.isdb_mmt.specs.declared.decoder.records.Answer.{Answer}
 use Rattle.isdb_mmt.specs.declared.decoder.route.Route.{Route}

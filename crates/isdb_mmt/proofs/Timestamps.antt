@@ -12,8 +12,8 @@ use borrow.Author.Tests.{ltb-false}
 use Rattle.isdb_tlv.specs.Walk.{turn}
 use Rattle.isdb_tlv.proofs.Walk.{Ahead, walk-at}
 use Rattle.isdb_tlv.proofs.Guards.{cond-elim}
-use Rattle.isdb_mmt.specs.Maps.{isSome}
-use Rattle.isdb_mmt.specs.Timestamp.{scaleEnd, unitSize, mpuAt, mpuItem, mpusFrom, mpusWhole}
+use Rattle.isdb_mmt.specs.Decoder.Maps.{isSome}
+use Rattle.isdb_mmt.specs.Formats.Timestamp.{scaleEnd, unitSize, mpuAt, mpuItem, mpusFrom, mpusWhole}
 use Rattle.isdb_mmt.proofs.Steps.{also-some}
 use Rattle.isdb_mmt.specs.declared.part.Part.{Part}
 use Rattle.isdb_mmt.specs.declared.timestamp.MpuStep.{MpuStep}

@@ -10,18 +10,18 @@ use lib.Seq.{take-suc, take-add, drop-drop, getD-drop}
 use Rattle.isdb_tlv.specs.Bytes.{be}
 use Rattle.isdb_tlv.specs.Fields.{bytesOf, written}
 use Rattle.isdb_tlv.proofs.Numbers.{be-take, be-drop}
-use Rattle.isdb_mmt.specs.Packet.{Bytes}
-use Rattle.isdb_mmt.specs.Maps.{isSome}
-use Rattle.isdb_mmt.specs.Kept.{Kept}
-use Rattle.isdb_mmt.specs.Lent.{part, over, placesFrom, indexed}
-use Rattle.isdb_mmt.specs.Layout.{sectionPlaces, sectionSize}
-use Rattle.isdb_mmt.specs.Session.{Session, limitsOf, usedOf, latestOf, sectionPlaceOf, sectionFields}
-use Rattle.isdb_mmt.specs.Check.{Sound, lengthsOf, sectionsIn, sound}
-use Rattle.isdb_mmt.specs.View.{given, sectionEntry, keptTableAt, viewBy, view}
-use Rattle.isdb_mmt.specs.Octets.{Octets}
-use Rattle.isdb_mmt.specs.PlacesOf.{tableLength, latestFor}
-use Rattle.isdb_mmt.specs.Leaves.{keptPlace, sectionRows, withSections, bytesOver, keptOver, latestOver}
-use Rattle.isdb_mmt.specs.FragmentPush.{lengthIf, normalLatest}
+use Rattle.isdb_mmt.specs.Decoder.Packet.{Bytes}
+use Rattle.isdb_mmt.specs.Decoder.Maps.{isSome}
+use Rattle.isdb_mmt.specs.Decoder.Kept.{Kept}
+use Rattle.isdb_mmt.specs.Memory.Lent.{part, over, placesFrom, indexed}
+use Rattle.isdb_mmt.specs.Memory.Layout.{sectionPlaces, sectionSize}
+use Rattle.isdb_mmt.specs.Memory.Session.{Session, limitsOf, usedOf, latestOf, sectionPlaceOf, sectionFields}
+use Rattle.isdb_mmt.specs.Memory.Check.{Sound, lengthsOf, sectionsIn, sound}
+use Rattle.isdb_mmt.specs.Memory.View.{given, sectionEntry, keptTableAt, viewBy, view}
+use Rattle.isdb_mmt.specs.Memory.Octets.{Octets}
+use Rattle.isdb_mmt.specs.Memory.PlacesOf.{tableLength, latestFor}
+use Rattle.isdb_mmt.specs.Pushes.Leaves.{keptPlace, sectionRows, withSections, bytesOver, keptOver, latestOver}
+use Rattle.isdb_mmt.specs.Pushes.FragmentPush.{lengthIf, normalLatest}
 use Rattle.isdb_mmt.specs.declared.decoder.limits.Limits.{Limits}
 use Rattle.isdb_mmt.specs.declared.decoder.section.KeptSection.{KeptSection}
 use Rattle.isdb_mmt.proofs.Checks.{is-sound}

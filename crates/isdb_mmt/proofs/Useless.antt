@@ -8,25 +8,25 @@ use native.Mathlib.Omega.{arith}
 use lib.ListN.{length, getD}
 use borrow.Author.Tests.{ltb-true}
 use Rattle.isdb_tlv.specs.Guards.{_<?_}
-use Rattle.isdb_mmt.specs.Packet.{Bytes}
-use Rattle.isdb_mmt.specs.Maps.{find, orElse}
-use Rattle.isdb_mmt.specs.Objects.{fresh as freshAsset}
-use Rattle.isdb_mmt.specs.Kept.{Section}
-use Rattle.isdb_mmt.specs.Model.{opened, assetOf}
-use Rattle.isdb_mmt.specs.Book.{book, isHeld, deliveredOf, wellFormed, wellFormedIn, reaching, allIdle, sectionsFrom, reassembliesAfter, sectionsAmong}
-use Rattle.isdb_mmt.specs.Demand.{heldBytes}
-use Rattle.isdb_mmt.specs.Lent.{every}
-use Rattle.isdb_mmt.specs.Layout.{stateSize}
-use Rattle.isdb_mmt.specs.Limits.{asked}
-use Rattle.isdb_mmt.specs.Check.{lengthsOf}
-use Rattle.isdb_mmt.specs.Octets.{Octets, Lent}
-use Rattle.isdb_mmt.specs.Records.{readRows}
-use Rattle.isdb_mmt.specs.Push.{Input, packetOf, asks}
-use Rattle.isdb_mmt.specs.Readings.{sectionRead, Told, refused, nothing, these, toldBy}
-use Rattle.isdb_mmt.specs.Calls.{lostIn, heldIn, push, Decoder, after, pushes, accepted, handed, Tells, none-kept, kept, After, Demand3, decoder, leavesOf}
-use Rattle.isdb_mmt.specs.Cases.{ab, cd}
-use Rattle.isdb_mmt.specs.PushCases.{small, blank, told}
-use Rattle.isdb_mmt.specs.Useless.{first, second, begins, nit, mediaId, nitKey, start, Accepts, recordsIn, objectsIn, then, NotUseless, Refutations, TurnsNoneAway, TakesThem}
+use Rattle.isdb_mmt.specs.Decoder.Packet.{Bytes}
+use Rattle.isdb_mmt.specs.Decoder.Maps.{find, orElse}
+use Rattle.isdb_mmt.specs.Decoder.Objects.{fresh as freshAsset}
+use Rattle.isdb_mmt.specs.Decoder.Kept.{Section}
+use Rattle.isdb_mmt.specs.Decoder.Model.{opened, assetOf}
+use Rattle.isdb_mmt.specs.Books.Book.{book, isHeld, deliveredOf, wellFormed, wellFormedIn, reaching, allIdle, sectionsFrom, reassembliesAfter, sectionsAmong}
+use Rattle.isdb_mmt.specs.Books.Demand.{heldBytes}
+use Rattle.isdb_mmt.specs.Memory.Lent.{every}
+use Rattle.isdb_mmt.specs.Memory.Layout.{stateSize}
+use Rattle.isdb_mmt.specs.Memory.Limits.{asked}
+use Rattle.isdb_mmt.specs.Memory.Check.{lengthsOf}
+use Rattle.isdb_mmt.specs.Memory.Octets.{Octets, Lent}
+use Rattle.isdb_mmt.specs.Pushes.Records.{readRows}
+use Rattle.isdb_mmt.specs.Pushes.Push.{Input, packetOf, asks}
+use Rattle.isdb_mmt.specs.Answers.Readings.{sectionRead, Told, refused, nothing, these, toldBy}
+use Rattle.isdb_mmt.specs.Theorems.Calls.{lostIn, heldIn, push, Decoder, after, pushes, accepted, handed, Tells, none-kept, kept, After, Demand3, decoder, leavesOf}
+use Rattle.isdb_mmt.specs.Examples.Cases.{ab, cd}
+use Rattle.isdb_mmt.specs.Examples.PushCases.{small, blank, told}
+use Rattle.isdb_mmt.specs.Theorems.Useless.{first, second, begins, nit, mediaId, nitKey, start, Accepts, recordsIn, objectsIn, then, NotUseless, Refutations, TurnsNoneAway, TakesThem}
 use Rattle.isdb_mmt.proofs.Guards.{was-both}
 use Rattle.isdb_mmt.proofs.Brief.{octets-blank}
 use Rattle.isdb_mmt.proofs.Run.{deliveredOf-append}

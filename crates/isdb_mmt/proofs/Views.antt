@@ -13,8 +13,8 @@ use lib.Arith.{lt-of-le-ne}
 use lib.ListN.{length, getD, set}
 use borrow.Author.Tests.{eq-eqb, ne-eqb, eqb-true, eqb-false, ltb-true, ltb-false}
 use Rattle.isdb_tlv.proofs.Guards.{either}
-use Rattle.isdb_mmt.specs.Maps.{find, put}
-use Rattle.isdb_mmt.specs.Lent.{part, over, placesFrom, foundFrom, indexed}
+use Rattle.isdb_mmt.specs.Decoder.Maps.{find, put}
+use Rattle.isdb_mmt.specs.Memory.Lent.{part, over, placesFrom, foundFrom, indexed}
 use Rattle.isdb_mmt.specs.declared.decoder.place.Found.the-variants.{At, Nothing}
 use Rattle.isdb_mmt.proofs.Lent.{places-set, places-snoc, part-apart}
 use Rattle.isdb_mmt.proofs.Names.{true-not-false, there, indexIn}

@@ -7,17 +7,17 @@ use native.Mathlib.Omega.{arith}
 use lib.Dec.{ltb}
 use lib.ListN.{length, length-set, length-append}
 use Rattle.isdb_tlv.proofs.Guards.{either}
-use Rattle.isdb_mmt.specs.Layout.{mostSections}
-use Rattle.isdb_mmt.specs.Packet.{Bytes}
-use Rattle.isdb_mmt.specs.Kept.{Table}
+use Rattle.isdb_mmt.specs.Memory.Layout.{mostSections}
+use Rattle.isdb_mmt.specs.Decoder.Packet.{Bytes}
+use Rattle.isdb_mmt.specs.Decoder.Kept.{Table}
 use Rattle.isdb_mmt.specs.declared.decoder.section.KeptSection.{KeptSection}
 use Rattle.isdb_mmt.specs.declared.decoder.table_outcome.TableAction.{TableAction}
 use Rattle.isdb_mmt.specs.declared.decoder.table_outcome.TableAction.the-variants.{Nothing, Other, Mpt, Plt, Tot, Put}
 use Rattle.isdb_mmt.specs.declared.decoder.table_outcome.TableOutcome.{TableOutcome}
 use Rattle.isdb_mmt.specs.declared.decoder.walk.WalkState.{WalkState}
-use Rattle.isdb_mmt.specs.Placed.{Placed}
-use Rattle.isdb_mmt.specs.TableOutcome.{indexOf, tableOutcome}
-use Rattle.isdb_mmt.specs.PendingTables.{mostAdded, Logged, logged, withLog, placesOf, PendingTables, pendingOf, indexAfter, pendingAfter, pendingWith, pendingWithAll, Room, Copies, cutShort, WalkedTo, Applied, Walked}
+use Rattle.isdb_mmt.specs.Pushes.Placed.{Placed}
+use Rattle.isdb_mmt.specs.Pushes.TableOutcome.{indexOf, tableOutcome}
+use Rattle.isdb_mmt.specs.Pushes.PendingTables.{mostAdded, Logged, logged, withLog, placesOf, PendingTables, pendingOf, indexAfter, pendingAfter, pendingWith, pendingWithAll, Room, Copies, cutShort, WalkedTo, Applied, Walked}
 use Rattle.isdb_mmt.proofs.Names.{true-not-false}
 use Rattle.isdb_mmt.proofs.Applied.{log-places}
 

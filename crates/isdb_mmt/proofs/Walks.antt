@@ -9,15 +9,15 @@ use lib.ListN.{length, getD, drop}
 use Rattle.isdb_tlv.specs.Bytes.{be}
 use Rattle.isdb_tlv.specs.Walk.{turn}
 use Rattle.isdb_tlv.proofs.Guards.{cond-elim, either}
-use Rattle.isdb_mmt.specs.Maps.{isSome}
-use Rattle.isdb_mmt.specs.Location.{locationOf}
-use Rattle.isdb_mmt.specs.Mpt.{declaredLength, behindLocation, locationsEnd, assetFields, assetBehind, assetAt, assetItem, assetsFrom, mptIn, mptAssets, mptTable, mptOf}
-use Rattle.isdb_mmt.specs.Plt.{packageAt, behindPackage, packagesEnd, deliveryAt, deliveryItem, deliveriesFrom, deliveriesWhole, pltWith, pltDeliveries, pltBehind, pltTable, pltIn, pltOf}
-use Rattle.isdb_mmt.specs.Kept.{declaredTable}
-use Rattle.isdb_mmt.specs.Steps.{counted}
-use Rattle.isdb_mmt.specs.WholeDescriptors.{locationTold, locationSeen}
-use Rattle.isdb_mmt.specs.Whole.{assetTold, assetSeen, packageTold, packageSeen, deliveryTold, deliverySeen}
-use Rattle.isdb_mmt.specs.Walks.{AssetsWalk, LocationsWalk, MptTheorem, AssetTheorem, PltWalks, PltTheorem}
+use Rattle.isdb_mmt.specs.Decoder.Maps.{isSome}
+use Rattle.isdb_mmt.specs.Formats.Location.{locationOf}
+use Rattle.isdb_mmt.specs.Formats.Mpt.{declaredLength, behindLocation, locationsEnd, assetFields, assetBehind, assetAt, assetItem, assetsFrom, mptIn, mptAssets, mptTable, mptOf}
+use Rattle.isdb_mmt.specs.Formats.Plt.{packageAt, behindPackage, packagesEnd, deliveryAt, deliveryItem, deliveriesFrom, deliveriesWhole, pltWith, pltDeliveries, pltBehind, pltTable, pltIn, pltOf}
+use Rattle.isdb_mmt.specs.Decoder.Kept.{declaredTable}
+use Rattle.isdb_mmt.specs.WholeValues.Steps.{counted}
+use Rattle.isdb_mmt.specs.WholeValues.WholeDescriptors.{locationTold, locationSeen}
+use Rattle.isdb_mmt.specs.WholeValues.Whole.{assetTold, assetSeen, packageTold, packageSeen, deliveryTold, deliverySeen}
+use Rattle.isdb_mmt.specs.WholeValues.Walks.{AssetsWalk, LocationsWalk, MptTheorem, AssetTheorem, PltWalks, PltTheorem}
 use Rattle.isdb_mmt.specs.declared.location.Located.{Located}
 use Rattle.isdb_mmt.specs.declared.location.Located.the-variants.{None as notLocated, Some as located}
 use Rattle.isdb_mmt.specs.declared.maybe.MaybeUsize.{MaybeUsize}

@@ -13,28 +13,28 @@ use mir.Val.{Fits}
 use borrow.Author.Tests.{lt-ltb, ltb-false}
 use Rattle.isdb_tlv.specs.Guards.{if_then_else_, _<?_}
 use Rattle.isdb_tlv.proofs.Guards.{either, cond-elim}
-use Rattle.isdb_mmt.specs.Layout.{mostSections, mostMessageArea, tableIds, controlPlaces, controlSize, sectionPlaces, sectionSize}
-use Rattle.isdb_mmt.specs.Packet.{Bytes, MessagePacket, message}
-use Rattle.isdb_mmt.specs.Maps.{one, isSome}
-use Rattle.isdb_mmt.specs.Reassembly.{PartialMessage, Reassembly, mostMessage, short, cutOf, cutOfAll, messageCompleted}
-use Rattle.isdb_mmt.specs.Kept.{KeptTables, Table, tableRead, mptAfterAll, storedAll, countedAll}
-use Rattle.isdb_mmt.specs.GivenTables.{tablesGiven}
-use Rattle.isdb_mmt.specs.Model.{State, Control as ControlState, packetCounted, messageCounted, reassemblyCounted, controlOf, reassemblyOf, pushed}
-use Rattle.isdb_mmt.specs.Needs.{needs, tablesNeed}
-use Rattle.isdb_mmt.specs.Lent.{part, over, namesFrom}
-use Rattle.isdb_mmt.specs.Session.{Session, limitsOf, usedOf, countersOf, controlPlaceOf, controlAt}
-use Rattle.isdb_mmt.specs.Check.{packetCounts, tableCounts, controlSound, controlsIn, lengthsOf, Sound}
-use Rattle.isdb_mmt.specs.View.{given, viewBy, view}
-use Rattle.isdb_mmt.specs.Opening.{lent}
-use Rattle.isdb_mmt.specs.PlacesOf.{tableLength, latestFor}
-use Rattle.isdb_mmt.specs.Leaves.{sectionRows, bytesOver, keptOver, latestOver, controlPlaceFor, messageAt, messageIn, packetLeaves}
-use Rattle.isdb_mmt.specs.Push.{asksOf, QuietPushed}
-use Rattle.isdb_mmt.specs.Fragments.{fragmentOutcome, byDivision, flagsIn, continued, inSequence, grownLength, joinedBy, noneJoined, controlWith, laidBy, areaBy, wholeBy, completes, faultsOf, fragmentCounted, CanCount}
-use Rattle.isdb_mmt.specs.FragmentPush.{placeIn, withReassembly, withCounts, receivedFragment}
-use Rattle.isdb_mmt.specs.TableOutcome.{indexSize}
-use Rattle.isdb_mmt.specs.Commit.{putAreas, loggedFrom, CanStoreAreas}
-use Rattle.isdb_mmt.specs.Start.{recentLength, latestWith, countersWith, tablesAsk, malformedMore, CountsFit}
-use Rattle.isdb_mmt.specs.WholeMessage.{isLast, beforeBy, joinBy, heldIn, WalkedWhole, CanWalkWhole, wholeAsk, placeWhole, stateLeft, CanLeaveState, placeForAt, CanPushWhole, CanPushAt}
+use Rattle.isdb_mmt.specs.Memory.Layout.{mostSections, mostMessageArea, tableIds, controlPlaces, controlSize, sectionPlaces, sectionSize}
+use Rattle.isdb_mmt.specs.Decoder.Packet.{Bytes, MessagePacket, message}
+use Rattle.isdb_mmt.specs.Decoder.Maps.{one, isSome}
+use Rattle.isdb_mmt.specs.Decoder.Reassembly.{PartialMessage, Reassembly, mostMessage, short, cutOf, cutOfAll, messageCompleted}
+use Rattle.isdb_mmt.specs.Decoder.Kept.{KeptTables, Table, tableRead, mptAfterAll, storedAll, countedAll}
+use Rattle.isdb_mmt.specs.Decoder.GivenTables.{tablesGiven}
+use Rattle.isdb_mmt.specs.Decoder.Model.{State, Control as ControlState, packetCounted, messageCounted, reassemblyCounted, controlOf, reassemblyOf, pushed}
+use Rattle.isdb_mmt.specs.Decoder.Needs.{needs, tablesNeed}
+use Rattle.isdb_mmt.specs.Memory.Lent.{part, over, namesFrom}
+use Rattle.isdb_mmt.specs.Memory.Session.{Session, limitsOf, usedOf, countersOf, controlPlaceOf, controlAt}
+use Rattle.isdb_mmt.specs.Memory.Check.{packetCounts, tableCounts, controlSound, controlsIn, lengthsOf, Sound}
+use Rattle.isdb_mmt.specs.Memory.View.{given, viewBy, view}
+use Rattle.isdb_mmt.specs.Memory.Opening.{lent}
+use Rattle.isdb_mmt.specs.Memory.PlacesOf.{tableLength, latestFor}
+use Rattle.isdb_mmt.specs.Pushes.Leaves.{sectionRows, bytesOver, keptOver, latestOver, controlPlaceFor, messageAt, messageIn, packetLeaves}
+use Rattle.isdb_mmt.specs.Pushes.Push.{asksOf, QuietPushed}
+use Rattle.isdb_mmt.specs.Pushes.Fragments.{fragmentOutcome, byDivision, flagsIn, continued, inSequence, grownLength, joinedBy, noneJoined, controlWith, laidBy, areaBy, wholeBy, completes, faultsOf, fragmentCounted, CanCount}
+use Rattle.isdb_mmt.specs.Pushes.FragmentPush.{placeIn, withReassembly, withCounts, receivedFragment}
+use Rattle.isdb_mmt.specs.Pushes.TableOutcome.{indexSize}
+use Rattle.isdb_mmt.specs.Pushes.Commit.{putAreas, loggedFrom, CanStoreAreas}
+use Rattle.isdb_mmt.specs.Pushes.Start.{recentLength, latestWith, countersWith, tablesAsk, malformedMore, CountsFit}
+use Rattle.isdb_mmt.specs.Pushes.WholeMessage.{isLast, beforeBy, joinBy, heldIn, WalkedWhole, CanWalkWhole, wholeAsk, placeWhole, stateLeft, CanLeaveState, placeForAt, CanPushWhole, CanPushAt}
 use Rattle.isdb_mmt.specs.declared.decoder.limits.Limits.{Limits}
 use Rattle.isdb_mmt.specs.declared.decoder.counts.Counters.{Counters}
 use Rattle.isdb_mmt.specs.declared.decoder.control.Control.{Control}

@@ -12,25 +12,25 @@ use Rattle.isdb_tlv.specs.Bytes.{be}
 use Rattle.isdb_tlv.proofs.Guards.{either}
 use Rattle.isdb_tlv.proofs.Numbers.{be-take}
 use Rattle.isdb_tlv.specs.Walk.{Next, stop, more, turn, run, also}
-use Rattle.isdb_mmt.specs.Maps.{isSome}
-use Rattle.isdb_mmt.specs.Location.{locationOf}
-use Rattle.isdb_mmt.specs.Section.{length12, entriesFrom}
-use Rattle.isdb_mmt.specs.Mpt.{locationItem, locationsOf, assetAt, assetItem, assetsFrom, mptOf}
-use Rattle.isdb_mmt.specs.Plt.{packageAt, packageItem, packagesOf, deliveryAt, deliveryItem, deliveriesFrom, pltOf}
-use Rattle.isdb_mmt.specs.Amt.{serviceAt, serviceItem, servicesFrom, amtOf}
-use Rattle.isdb_mmt.specs.Eit.{eventOf, eventsOf, eitOf}
-use Rattle.isdb_mmt.specs.Sdt.{serviceOf, servicesOf, sdtOf}
-use Rattle.isdb_mmt.specs.Bit.{broadcasterOf, broadcastersOf, bitOf}
-use Rattle.isdb_mmt.specs.Nit.{streamOf, streamsOf, nitOf}
-use Rattle.isdb_mmt.specs.Tot.{totOf}
-use Rattle.isdb_mmt.specs.Desc.{splitOf}
-use Rattle.isdb_mmt.specs.StdB60.{loopSent, descriptorIn}
-use Rattle.isdb_mmt.specs.Kept.{declaredTable, declaredSection, bodyRead, mptParses, pltParses, totParses, eitBodyOk, sdtBodyOk, bitBodyOk, nitBodyOk, amtBodyOk}
-use Rattle.isdb_mmt.specs.Steps.{Stood, atEnd, malformed, element, Found, required, counted, toEnd}
-use Rattle.isdb_mmt.specs.WholeDescriptors.{WholeLocation, locationTold, locationSeen}
-use Rattle.isdb_mmt.specs.Whole.{wholeAsset, assetTold, assetSeen, mptTold, wholePackage, packageTold, packageSeen, deliveryTold, deliverySeen, pltTold}
-use Rattle.isdb_mmt.specs.WholeSections.{described, flowTold, flowSeen, amtTold, eventSeen, eitTold, serviceSeen, sdtTold, broadcasterSeen, bitTold, wholeStream, streamSeen, nitTold, totTold}
-use Rattle.isdb_mmt.specs.WholeLists.{sectionWhole, ValuesTheorem, CutTheorem, ifWhole, ListsTheorem, wholeSent, SentTheorem}
+use Rattle.isdb_mmt.specs.Decoder.Maps.{isSome}
+use Rattle.isdb_mmt.specs.Formats.Location.{locationOf}
+use Rattle.isdb_mmt.specs.Formats.Section.{length12, entriesFrom}
+use Rattle.isdb_mmt.specs.Formats.Mpt.{locationItem, locationsOf, assetAt, assetItem, assetsFrom, mptOf}
+use Rattle.isdb_mmt.specs.Formats.Plt.{packageAt, packageItem, packagesOf, deliveryAt, deliveryItem, deliveriesFrom, pltOf}
+use Rattle.isdb_mmt.specs.Formats.Amt.{serviceAt, serviceItem, servicesFrom, amtOf}
+use Rattle.isdb_mmt.specs.Formats.Eit.{eventOf, eventsOf, eitOf}
+use Rattle.isdb_mmt.specs.Formats.Sdt.{serviceOf, servicesOf, sdtOf}
+use Rattle.isdb_mmt.specs.Formats.Bit.{broadcasterOf, broadcastersOf, bitOf}
+use Rattle.isdb_mmt.specs.Formats.Nit.{streamOf, streamsOf, nitOf}
+use Rattle.isdb_mmt.specs.Formats.Tot.{totOf}
+use Rattle.isdb_mmt.specs.Formats.Desc.{splitOf}
+use Rattle.isdb_mmt.specs.Standards.StdB60.{loopSent, descriptorIn}
+use Rattle.isdb_mmt.specs.Decoder.Kept.{declaredTable, declaredSection, bodyRead, mptParses, pltParses, totParses, eitBodyOk, sdtBodyOk, bitBodyOk, nitBodyOk, amtBodyOk}
+use Rattle.isdb_mmt.specs.WholeValues.Steps.{Stood, atEnd, malformed, element, Found, required, counted, toEnd}
+use Rattle.isdb_mmt.specs.WholeValues.WholeDescriptors.{WholeLocation, locationTold, locationSeen}
+use Rattle.isdb_mmt.specs.WholeValues.Whole.{wholeAsset, assetTold, assetSeen, mptTold, wholePackage, packageTold, packageSeen, deliveryTold, deliverySeen, pltTold}
+use Rattle.isdb_mmt.specs.WholeValues.WholeSections.{described, flowTold, flowSeen, amtTold, eventSeen, eitTold, serviceSeen, sdtTold, broadcasterSeen, bitTold, wholeStream, streamSeen, nitTold, totTold}
+use Rattle.isdb_mmt.specs.WholeValues.WholeLists.{sectionWhole, ValuesTheorem, CutTheorem, ifWhole, ListsTheorem, wholeSent, SentTheorem}
 use Rattle.isdb_mmt.specs.declared.location.Located.{Located}
 use Rattle.isdb_mmt.specs.declared.location.Located.the-variants.{None as notLocated, Some as located}
 use Rattle.isdb_mmt.specs.declared.table.mpt.AssetStep.{AssetStep}

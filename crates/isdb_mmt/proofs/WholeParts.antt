@@ -9,20 +9,20 @@ use borrow.Author.Tests.{ltb-false, leb-false}
 use Rattle.isdb_tlv.specs.Bytes.{be}
 use Rattle.isdb_tlv.specs.Crc.{crcOf}
 use Rattle.isdb_tlv.proofs.Guards.{cond-elim}
-use Rattle.isdb_mmt.specs.Part.{partAt, partOf}
-use Rattle.isdb_mmt.specs.Location.{sized, urlOf, locationOf, ipv4At, ipv6At}
-use Rattle.isdb_mmt.specs.Timestamp.{mpuAt, extendedOf}
-use Rattle.isdb_mmt.specs.Desc.{stepAt, locationIn, accessControl, scrambler, streamIdentifier, serviceText, shortEvent, hevc, extendedIn, extendedTimestamp, descriptorOf}
-use Rattle.isdb_mmt.specs.Section.{length12, longSectionOf, entriesFrom}
-use Rattle.isdb_mmt.specs.Mpt.{locationsEnd, assetFields, assetBehind, assetAt, assetsFrom, mptIn, mptAssets, mptTable, mptOf}
-use Rattle.isdb_mmt.specs.Plt.{packageIn, packageAt}
-use Rattle.isdb_mmt.specs.Eit.{eventStep}
-use Rattle.isdb_mmt.specs.Sdt.{serviceStep}
-use Rattle.isdb_mmt.specs.Bit.{broadcasterStep, bitBody, bitOf}
-use Rattle.isdb_mmt.specs.Nit.{streamsPart, streamStep, tlvStepAt, nitBody, nitOf}
-use Rattle.isdb_mmt.specs.Tot.{totFieldsIn, totFields, totOf}
-use Rattle.isdb_mmt.specs.Kept.{declaredTable, declaredSection}
-use Rattle.isdb_mmt.specs.WholeParts.{UrlLies, LocatedLies, LocationLies, RawLies, TextsLie, UnitsLie, TlvLies, MptLies, AssetLies, PackageLies, BodyLies, EventLies, ServiceLies, BroadcasterLies, StreamLies, BitLies, NitLies, TotLies, PartsTheorem}
+use Rattle.isdb_mmt.specs.Formats.Part.{partAt, partOf}
+use Rattle.isdb_mmt.specs.Formats.Location.{sized, urlOf, locationOf, ipv4At, ipv6At}
+use Rattle.isdb_mmt.specs.Formats.Timestamp.{mpuAt, extendedOf}
+use Rattle.isdb_mmt.specs.Formats.Desc.{stepAt, locationIn, accessControl, scrambler, streamIdentifier, serviceText, shortEvent, hevc, extendedIn, extendedTimestamp, descriptorOf}
+use Rattle.isdb_mmt.specs.Formats.Section.{length12, longSectionOf, entriesFrom}
+use Rattle.isdb_mmt.specs.Formats.Mpt.{locationsEnd, assetFields, assetBehind, assetAt, assetsFrom, mptIn, mptAssets, mptTable, mptOf}
+use Rattle.isdb_mmt.specs.Formats.Plt.{packageIn, packageAt}
+use Rattle.isdb_mmt.specs.Formats.Eit.{eventStep}
+use Rattle.isdb_mmt.specs.Formats.Sdt.{serviceStep}
+use Rattle.isdb_mmt.specs.Formats.Bit.{broadcasterStep, bitBody, bitOf}
+use Rattle.isdb_mmt.specs.Formats.Nit.{streamsPart, streamStep, tlvStepAt, nitBody, nitOf}
+use Rattle.isdb_mmt.specs.Formats.Tot.{totFieldsIn, totFields, totOf}
+use Rattle.isdb_mmt.specs.Decoder.Kept.{declaredTable, declaredSection}
+use Rattle.isdb_mmt.specs.WholeValues.WholeParts.{UrlLies, LocatedLies, LocationLies, RawLies, TextsLie, UnitsLie, TlvLies, MptLies, AssetLies, PackageLies, BodyLies, EventLies, ServiceLies, BroadcasterLies, StreamLies, BitLies, NitLies, TotLies, PartsTheorem}
 use Rattle.isdb_mmt.specs.declared.location.Location.{Location}
 use Rattle.isdb_mmt.specs.declared.location.Location.the-variants.{SameFlow, Mpeg2Ts, Mpeg2TsIpv6, Url}
 use Rattle.isdb_mmt.specs.declared.location.Located.{Located}

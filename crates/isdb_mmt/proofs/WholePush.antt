@@ -11,19 +11,19 @@ use mir.Val.{Fits}
 use borrow.Author.Tests.{eq-eqb, ne-eqb, lt-ltb, le-ltb}
 use Rattle.isdb_tlv.specs.Fields.{written}
 use Rattle.isdb_tlv.proofs.Fields.{length-written}
-use Rattle.isdb_mmt.specs.Layout.{mostSections, mostCount, usedPlace, controlPlaces, controlSize, sectionPlaces, sectionSize, stateSize}
-use Rattle.isdb_mmt.specs.Packet.{Bytes}
-use Rattle.isdb_mmt.specs.Lent.{part, over}
-use Rattle.isdb_mmt.specs.Session.{limitsOf, usedOf, usedFields, controlFields}
-use Rattle.isdb_mmt.specs.FragmentPush.{withReassembly, withCounts}
-use Rattle.isdb_mmt.specs.TableOutcome.{indexSize}
-use Rattle.isdb_mmt.specs.PendingTables.{Walked, CanWalk}
-use Rattle.isdb_mmt.specs.Start.{recentAt, walkStart, tablesAsk, countersWith, latestWith}
-use Rattle.isdb_mmt.specs.Reassembly.{cutOf}
-use Rattle.isdb_mmt.specs.Kept.{tableRead}
-use Rattle.isdb_mmt.specs.Placed.{joinOf, placedCut}
+use Rattle.isdb_mmt.specs.Memory.Layout.{mostSections, mostCount, usedPlace, controlPlaces, controlSize, sectionPlaces, sectionSize, stateSize}
+use Rattle.isdb_mmt.specs.Decoder.Packet.{Bytes}
+use Rattle.isdb_mmt.specs.Memory.Lent.{part, over}
+use Rattle.isdb_mmt.specs.Memory.Session.{limitsOf, usedOf, usedFields, controlFields}
+use Rattle.isdb_mmt.specs.Pushes.FragmentPush.{withReassembly, withCounts}
+use Rattle.isdb_mmt.specs.Pushes.TableOutcome.{indexSize}
+use Rattle.isdb_mmt.specs.Pushes.PendingTables.{Walked, CanWalk}
+use Rattle.isdb_mmt.specs.Pushes.Start.{recentAt, walkStart, tablesAsk, countersWith, latestWith}
+use Rattle.isdb_mmt.specs.Decoder.Reassembly.{cutOf}
+use Rattle.isdb_mmt.specs.Decoder.Kept.{tableRead}
+use Rattle.isdb_mmt.specs.Pushes.Placed.{joinOf, placedCut}
 use Rattle.isdb_mmt.specs.declared.decoder.table_outcome.Recent.{Recent}
-use Rattle.isdb_mmt.specs.WholeMessage.{beforeBy, longBy, aggregatedBy, joinBy, heldIn, walkFrom, WalkedWhole, CanWalkWhole, wholeAsk, usedWhole, stateLeft, CanLeaveState}
+use Rattle.isdb_mmt.specs.Pushes.WholeMessage.{beforeBy, longBy, aggregatedBy, joinBy, heldIn, walkFrom, WalkedWhole, CanWalkWhole, wholeAsk, usedWhole, stateLeft, CanLeaveState}
 use Rattle.isdb_mmt.specs.declared.decoder.limits.Limits.{Limits}
 use Rattle.isdb_mmt.specs.declared.decoder.counts.Counters.{Counters}
 use Rattle.isdb_mmt.specs.declared.decoder.head.Used.{Used}

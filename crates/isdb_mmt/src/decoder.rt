@@ -3,10 +3,10 @@
 ghost use mathlib.Core.Path.{_≡_};
 ghost use Prim.Native.Nat.{_≤_};
 ghost use lib.ListN.{length, replicate};
-ghost use Rattle.isdb_mmt.specs.Lent.{over};
-ghost use Rattle.isdb_mmt.specs.Layout.{tableIds, stateSize};
-ghost use Rattle.isdb_mmt.specs.Opening.{lent, openedState, Opened};
-ghost use Rattle.isdb_mmt.specs.Push.{input, Pushed};
+ghost use Rattle.isdb_mmt.specs.Memory.Lent.{over};
+ghost use Rattle.isdb_mmt.specs.Memory.Layout.{tableIds, stateSize};
+ghost use Rattle.isdb_mmt.specs.Memory.Opening.{lent, openedState, Opened};
+ghost use Rattle.isdb_mmt.specs.Pushes.Push.{input, Pushed};
 use crate::decoder::layout::STATE_SIZE;
 use crate::decoder::limits::Lengths;
 use crate::decoder::limits::Limits;

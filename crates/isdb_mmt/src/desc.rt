@@ -2,7 +2,7 @@
 // Those that a receiver needs to list services, events and assets are decoded; any other is kept as it stands.
 // Translated from desc.rs of isdb-rs (Apache-2.0, see NOTICE) and changed.
 ghost use mathlib.Core.Path.{_≡_};
-ghost use Rattle.isdb_mmt.specs.Desc.{lengthWidth, stepAt, counted, splitOf, other, locationIn, accessControl, scrambler, streamIdentifier, serviceText, shortEvent, hevc, extendedTimestamp, descriptorOf, isOther, firstOf, serviceAt, genreAt};
+ghost use Rattle.isdb_mmt.specs.Formats.Desc.{lengthWidth, stepAt, counted, splitOf, other, locationIn, accessControl, scrambler, streamIdentifier, serviceText, shortEvent, hevc, extendedTimestamp, descriptorOf, isOther, firstOf, serviceAt, genreAt};
 use crate::location::Located;
 use crate::location::Location;
 use crate::location::MaybeLocation;

@@ -1,7 +1,7 @@
 // A descriptor loop with a position in it: the walk of desc::next as a value. The borrow checker covers no function over such a
 // struct, so each is thin and proved by hand; the work is done by desc::next.
 ghost use mathlib.Core.Path.{_≡_};
-ghost use Rattle.isdb_mmt.specs.Desc.{stepAt};
+ghost use Rattle.isdb_mmt.specs.Formats.Desc.{stepAt};
 use crate::desc;
 use crate::desc::Step;
 

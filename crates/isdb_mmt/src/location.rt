@@ -1,7 +1,7 @@
 // MMT_general_location_info (ARIB STD-B60, Table 7-9): where an asset, a package or a message travels.
 // Translated from table.rs of isdb-rs (Apache-2.0, see NOTICE) and changed.
 ghost use mathlib.Core.Path.{_≡_};
-ghost use Rattle.isdb_mmt.specs.Location.{sized, urlOf, ipv4At, ipv6At, locationOf, packetId};
+ghost use Rattle.isdb_mmt.specs.Formats.Location.{sized, urlOf, ipv4At, ipv6At, locationOf, packetId};
 use crate::maybe::MaybeU16;
 use crate::part::Part;
 use isdb_tlv::bytes;

@@ -4,7 +4,7 @@
 ghost use mathlib.Core.Path.{_≡_};
 ghost use Prim.Native.Nat.{_≤_};
 ghost use lib.ListN.{length};
-ghost use Rattle.isdb_mmt.specs.Message.{fragmentOf, prefixWidth, aggregatedAt, bodyPart, sectionTable, paTables, contentOf, tableAt};
+ghost use Rattle.isdb_mmt.specs.Formats.Message.{fragmentOf, prefixWidth, aggregatedAt, bodyPart, sectionTable, paTables, contentOf, tableAt};
 use crate::part;
 use crate::part::Part;
 use isdb_tlv::bytes;

@@ -4,7 +4,7 @@
 ghost use mathlib.Core.Path.{_≡_};
 ghost use Prim.Native.Nat.{_≤_};
 ghost use lib.ListN.{length};
-ghost use Rattle.isdb_mmt.specs.Mpu.{fragmentCode, fragmentType, indicatorCode, indicator, completesOf, payloadHeaderFields, payloadHeader, mfuAt, unitIn, unitAt, unitStep, unitsOf, counted, declaredOf, follows, lostFrom};
+ghost use Rattle.isdb_mmt.specs.Formats.Mpu.{fragmentCode, fragmentType, indicatorCode, indicator, completesOf, payloadHeaderFields, payloadHeader, mfuAt, unitIn, unitAt, unitStep, unitsOf, counted, declaredOf, follows, lostFrom};
 use crate::maybe::MaybeU32;
 use crate::part::Part;
 use isdb_tlv::bytes;

@@ -2,7 +2,7 @@
 ghost use mathlib.Core.Path.{_≡_};
 ghost use Prim.Native.Nat.{_-_};
 ghost use lib.ListN.{length};
-ghost use Rattle.isdb_mmt.specs.Part.{partOf};
+ghost use Rattle.isdb_mmt.specs.Formats.Part.{partOf};
 use isdb_tlv::bytes;
 
 pub struct Part {

@@ -1,7 +1,7 @@
 // The MPU timestamp and the MPU extended timestamp descriptor (ARIB STD-B60, 7.4.3.5 and 7.4.3.35).
 // Translated from desc.rs of isdb-rs (Apache-2.0, see NOTICE) and changed.
 ghost use mathlib.Core.Path.{_≡_};
-ghost use Rattle.isdb_mmt.specs.Timestamp.{timestampAt, scaleEnd, headEnd, timescaleOf, defaultOffset, unitSize, mpuAt, mpusWhole, extendedOf, unitAt, unitStep};
+ghost use Rattle.isdb_mmt.specs.Formats.Timestamp.{timestampAt, scaleEnd, headEnd, timescaleOf, defaultOffset, unitSize, mpuAt, mpusWhole, extendedOf, unitAt, unitStep};
 use crate::maybe::MaybeU16;
 use crate::maybe::MaybeU32;
 use crate::part;

@@ -6,9 +6,9 @@ use native.Mathlib.Omega.{arith}
 use lib.Dec.{ltb}
 use borrow.Author.Tests.{ltb-false, lt-ltb}
 use Rattle.isdb_tlv.proofs.Guards.{either}
-use Rattle.isdb_mmt.specs.Session.{Session}
-use Rattle.isdb_mmt.specs.Check.{sound}
-use Rattle.isdb_mmt.specs.Readings.{countersRead, leastFrom, mostName, mediaNames, nextMediaRead, mediaRead}
+use Rattle.isdb_mmt.specs.Memory.Session.{Session}
+use Rattle.isdb_mmt.specs.Memory.Check.{sound}
+use Rattle.isdb_mmt.specs.Answers.Readings.{countersRead, leastFrom, mostName, mediaNames, nextMediaRead, mediaRead}
 use Rattle.isdb_mmt.specs.declared.maybe.MaybeU32.{MaybeU32}
 use Rattle.isdb_mmt.specs.declared.decoder.counts.Counters.{Counters}
 use Rattle.isdb_mmt.specs.declared.decoder.readings.CountersReading.{CountersReading}

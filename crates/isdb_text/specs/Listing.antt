@@ -1,8 +1,8 @@
 -- The list of a session's media ids and counts, as `feedlist` writes it.
 use Prim.Native.Nat.{ℕ, zero, suc, _+_}
 use mathlib.Core.List.{List, [], _∷_, _++_}
-use Rattle.isdb_mmt.specs.Session.{Session}
-use Rattle.isdb_mmt.specs.Readings.{countersRead, nextMediaRead, mediaRead}
+use Rattle.isdb_mmt.specs.Memory.Session.{Session}
+use Rattle.isdb_mmt.specs.Answers.Readings.{countersRead, nextMediaRead, mediaRead}
 use Rattle.isdb_mmt.specs.declared.maybe.MaybeU32.{MaybeU32}
 use Rattle.isdb_mmt.specs.declared.maybe.MaybeU32.the-variants.{None as noU32, Some as someU32}
 use Rattle.isdb_mmt.specs.declared.decoder.readings.CountersReading.{CountersReading}

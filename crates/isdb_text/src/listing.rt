@@ -1,6 +1,6 @@
 // The list of a session's media ids and counts, as `feedlist` writes it.
 ghost use mathlib.Core.Path.{_≡_};
-ghost use Rattle.isdb_mmt.specs.Opening.{lent};
+ghost use Rattle.isdb_mmt.specs.Memory.Opening.{lent};
 ghost use Rattle.isdb_text.specs.Text.{Wrote};
 ghost use Rattle.isdb_text.specs.Listing.{heldOf, mediaLine, mediaText, mediaLines, stopText, lastLine, listingOf};
 use crate::cut::Stop;

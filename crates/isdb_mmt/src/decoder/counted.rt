@@ -1,10 +1,10 @@
 // Packets that are only counted, and the time of an NTP packet.
 ghost use mathlib.Core.Path.{_≡_};
-ghost use Rattle.isdb_mmt.specs.Model.{packetCounted};
-ghost use Rattle.isdb_mmt.specs.Session.{countersOf};
-ghost use Rattle.isdb_mmt.specs.Leaves.{withCounters, withTime};
-ghost use Rattle.isdb_mmt.specs.Route.{timeGiven};
-ghost use Rattle.isdb_mmt.specs.Counted.{Countable, StateCountable};
+ghost use Rattle.isdb_mmt.specs.Decoder.Model.{packetCounted};
+ghost use Rattle.isdb_mmt.specs.Memory.Session.{countersOf};
+ghost use Rattle.isdb_mmt.specs.Pushes.Leaves.{withCounters, withTime};
+ghost use Rattle.isdb_mmt.specs.Pushes.Route.{timeGiven};
+ghost use Rattle.isdb_mmt.specs.Pushes.Counted.{Countable, StateCountable};
 use crate::decoder::counts;
 use crate::decoder::counts::Counters;
 use crate::decoder::head;

@@ -2,8 +2,8 @@
 // The structs are translated from mpu.rs and decoder.rs of isdb-rs (Apache-2.0, see NOTICE) and changed.
 ghost use mathlib.Core.Path.{_≡_};
 ghost use Rattle.isdb_tlv.specs.Fields.{puts};
-ghost use Rattle.isdb_mmt.specs.Layout.{countersPlace, statsPlace};
-ghost use Rattle.isdb_mmt.specs.Session.{statsOf, statsFields, countersOf, countersFields};
+ghost use Rattle.isdb_mmt.specs.Memory.Layout.{countersPlace, statsPlace};
+ghost use Rattle.isdb_mmt.specs.Memory.Session.{statsOf, statsFields, countersOf, countersFields};
 use crate::decoder::layout::COUNTERS;
 use crate::decoder::layout::STATS;
 use isdb_tlv::bytes;

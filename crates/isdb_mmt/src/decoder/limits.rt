@@ -1,7 +1,7 @@
 // The limits that an opening sets, the memory that they ask for, and questions 1 to 4.
 ghost use mathlib.Core.Path.{_≡_};
 ghost use mathlib.Core.Bool.{true};
-ghost use Rattle.isdb_mmt.specs.Limits.{inRange, placesInRange, areasInRange, packetsInRange, lengthsFor, longEnough, neededOf, asked};
+ghost use Rattle.isdb_mmt.specs.Memory.Limits.{inRange, placesInRange, areasInRange, packetsInRange, lengthsFor, longEnough, neededOf, asked};
 use crate::decoder::layout;
 
 pub struct Limits {

@@ -4,8 +4,8 @@ ghost use mathlib.Core.Path.{_≡_};
 ghost use Prim.Native.Nat.{_+_, _*_, _≤_, _<_};
 ghost use lib.ListN.{length};
 ghost use Rattle.isdb_tlv.specs.Bytes.{be};
-ghost use Rattle.isdb_mmt.specs.Lent.{part, over, flag as flagAt, namesFrom, among, distinct, cellOf, amongMarked, foundFrom, placeForName};
-ghost use Rattle.isdb_mmt.specs.Octets.{Octets};
+ghost use Rattle.isdb_mmt.specs.Memory.Lent.{part, over, flag as flagAt, namesFrom, among, distinct, cellOf, amongMarked, foundFrom, placeForName};
+ghost use Rattle.isdb_mmt.specs.Memory.Octets.{Octets};
 use isdb_tlv::bytes;
 
 pub(crate) fn flag(p: &[u8], at: usize) -> bool

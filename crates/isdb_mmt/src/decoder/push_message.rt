@@ -2,11 +2,11 @@
 ghost use mathlib.Core.Path.{_≡_};
 ghost use Prim.Native.Nat.{_+_, _*_, _≤_};
 ghost use lib.ListN.{length};
-ghost use Rattle.isdb_mmt.specs.Lent.{part};
-ghost use Rattle.isdb_mmt.specs.WholeMessage.{isLast, beforeBy, longBy, aggregatedBy, joinBy, heldIn, WalkedWhole, CanWalkWhole, wholeAsk, stateLeft, CanLeaveState, placeForAt, CanPushAt, CanPushWhole};
-ghost use Rattle.isdb_mmt.specs.Packet.{messagePacket, message};
-ghost use Rattle.isdb_mmt.specs.Opening.{lent};
-ghost use Rattle.isdb_mmt.specs.Push.{CanTakePacket, QuietPushed};
+ghost use Rattle.isdb_mmt.specs.Memory.Lent.{part};
+ghost use Rattle.isdb_mmt.specs.Pushes.WholeMessage.{isLast, beforeBy, longBy, aggregatedBy, joinBy, heldIn, WalkedWhole, CanWalkWhole, wholeAsk, stateLeft, CanLeaveState, placeForAt, CanPushAt, CanPushWhole};
+ghost use Rattle.isdb_mmt.specs.Decoder.Packet.{messagePacket, message};
+ghost use Rattle.isdb_mmt.specs.Memory.Opening.{lent};
+ghost use Rattle.isdb_mmt.specs.Pushes.Push.{CanTakePacket, QuietPushed};
 use crate::decoder::clear_counts;
 use crate::decoder::commit;
 use crate::decoder::control::Control;

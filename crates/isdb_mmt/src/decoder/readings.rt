@@ -1,9 +1,9 @@
 // Readings of a session. Each asks question 5 first, changes nothing, and answers the number of the question, that there is
 // nothing, or the value.
 ghost use mathlib.Core.Path.{_≡_};
-ghost use Rattle.isdb_mmt.specs.Opening.{lent};
-ghost use Rattle.isdb_mmt.specs.Check.{sound};
-ghost use Rattle.isdb_mmt.specs.Readings.{countersRead, timeRead, countRead};
+ghost use Rattle.isdb_mmt.specs.Memory.Opening.{lent};
+ghost use Rattle.isdb_mmt.specs.Memory.Check.{sound};
+ghost use Rattle.isdb_mmt.specs.Answers.Readings.{countersRead, timeRead, countRead};
 use crate::decoder::check;
 use crate::decoder::counts;
 use crate::decoder::counts::AssetStats;

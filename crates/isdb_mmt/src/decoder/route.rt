@@ -2,7 +2,7 @@
 // Translated from decoder.rs of isdb-rs (Apache-2.0, see NOTICE) and changed.
 ghost use mathlib.Core.Path.{_≡_};
 ghost use Rattle.isdb_tlv.specs.Tlv.{packetType};
-ghost use Rattle.isdb_mmt.specs.Route.{flowRoute, ipRoute, routeOf, timeIn};
+ghost use Rattle.isdb_mmt.specs.Pushes.Route.{flowRoute, ipRoute, routeOf, timeIn};
 use crate::maybe::MaybeU64;
 use isdb_tlv::bytes;
 use isdb_tlv::ip;

@@ -2,10 +2,10 @@
 ghost use mathlib.Core.Path.{_≡_};
 ghost use Prim.Native.Nat.{_+_, _*_, _≤_};
 ghost use lib.ListN.{length};
-ghost use Rattle.isdb_mmt.specs.Lent.{part};
-ghost use Rattle.isdb_mmt.specs.Layout.{sectionPlaces, stateSize};
-ghost use Rattle.isdb_mmt.specs.TableOutcome.{indexSize};
-ghost use Rattle.isdb_mmt.specs.Start.{recentAt, startOf, countersWith, noRecent, walkStart, recentLength, latestWith, tablesAsk, CanGo};
+ghost use Rattle.isdb_mmt.specs.Memory.Lent.{part};
+ghost use Rattle.isdb_mmt.specs.Memory.Layout.{sectionPlaces, stateSize};
+ghost use Rattle.isdb_mmt.specs.Pushes.TableOutcome.{indexSize};
+ghost use Rattle.isdb_mmt.specs.Pushes.Start.{recentAt, startOf, countersWith, noRecent, walkStart, recentLength, latestWith, tablesAsk, CanGo};
 use crate::decoder::counts::Counters;
 use crate::decoder::head;
 use crate::decoder::head::Latest;

@@ -3,10 +3,10 @@
 ghost use mathlib.Core.Path.{_≡_};
 ghost use Rattle.isdb_tlv.specs.Mmtp.{mmtpOf};
 ghost use Rattle.isdb_tlv.specs.Guards.{_<?_};
-ghost use Rattle.isdb_mmt.specs.Packet.{classify, mmtpIn, byType};
-ghost use Rattle.isdb_mmt.specs.Session.{limitsOf, countersOf};
-ghost use Rattle.isdb_mmt.specs.Opening.{lent};
-ghost use Rattle.isdb_mmt.specs.Push.{CanTakePacket, PacketPushed};
+ghost use Rattle.isdb_mmt.specs.Decoder.Packet.{classify, mmtpIn, byType};
+ghost use Rattle.isdb_mmt.specs.Memory.Session.{limitsOf, countersOf};
+ghost use Rattle.isdb_mmt.specs.Memory.Opening.{lent};
+ghost use Rattle.isdb_mmt.specs.Pushes.Push.{CanTakePacket, PacketPushed};
 use crate::decoder::counted;
 use crate::decoder::layout;
 use crate::decoder::push_control::push_control;

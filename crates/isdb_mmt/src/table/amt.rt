@@ -2,7 +2,7 @@
 // Translated from table.rs of isdb-rs (Apache-2.0, see NOTICE) and changed.
 ghost use mathlib.Core.Path.{_≡_};
 ghost use Prim.Native.Nat.{_≤_, _<_};
-ghost use Rattle.isdb_mmt.specs.Amt.{addressAt, addressSize, flowOf, serviceAt, servicesWhole, amtBody, amtOf};
+ghost use Rattle.isdb_mmt.specs.Formats.Amt.{addressAt, addressSize, flowOf, serviceAt, servicesWhole, amtBody, amtOf};
 use crate::part;
 use crate::table::section;
 use crate::table::section::LongSection;

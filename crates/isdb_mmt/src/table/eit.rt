@@ -1,9 +1,9 @@
 // MH-EIT (ARIB STD-B60, Table 7-18): the events of a service.
 // Translated from table.rs of isdb-rs (Apache-2.0, see NOTICE) and changed.
 ghost use mathlib.Core.Path.{_≡_};
-ghost use Rattle.isdb_mmt.specs.Desc.{firstOf};
-ghost use Rattle.isdb_mmt.specs.Tags.{shortEventTag};
-ghost use Rattle.isdb_mmt.specs.Eit.{told, eitBody, eitOf, eventOf, eventStep};
+ghost use Rattle.isdb_mmt.specs.Formats.Desc.{firstOf};
+ghost use Rattle.isdb_mmt.specs.Formats.Tags.{shortEventTag};
+ghost use Rattle.isdb_mmt.specs.Formats.Eit.{told, eitBody, eitOf, eventOf, eventStep};
 use crate::desc;
 use crate::desc::Found;
 use crate::desc::tag;

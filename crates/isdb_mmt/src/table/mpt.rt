@@ -3,8 +3,8 @@
 ghost use mathlib.Core.Path.{_≡_};
 ghost use Prim.Native.Nat.{_+_, _≤_};
 ghost use lib.ListN.{length, drop};
-ghost use Rattle.isdb_mmt.specs.Location.{locationOf};
-ghost use Rattle.isdb_mmt.specs.Mpt.{declaredLength, locationsEnd, assetFields, assetAt, assetsTold, told, mptAssets, mptTable, mptOf, serviceId, firstPacketId, locationsOf, componentTag};
+ghost use Rattle.isdb_mmt.specs.Formats.Location.{locationOf};
+ghost use Rattle.isdb_mmt.specs.Formats.Mpt.{declaredLength, locationsEnd, assetFields, assetAt, assetsTold, told, mptAssets, mptTable, mptOf, serviceId, firstPacketId, locationsOf, componentTag};
 use crate::desc;
 use crate::desc::Descriptor;
 use crate::desc::Found;

@@ -3,7 +3,7 @@
 // Translated from table.rs of isdb-rs (Apache-2.0, see NOTICE) and changed.
 ghost use mathlib.Core.Path.{_≡_};
 ghost use Prim.Native.Nat.{_≤_};
-ghost use Rattle.isdb_mmt.specs.Nit.{nitBody, nitOf, streamOf, streamStep, tlvStepAt, digit, bcdFrom, frequencyOf, wholeBody, networkName, serviceList};
+ghost use Rattle.isdb_mmt.specs.Formats.Nit.{nitBody, nitOf, streamOf, streamStep, tlvStepAt, digit, bcdFrom, frequencyOf, wholeBody, networkName, serviceList};
 use crate::maybe::MaybeU64;
 use crate::part;
 use crate::part::Part;

@@ -1,7 +1,7 @@
 // PLT (ARIB STD-B60, Table 7-11): where each package's PA message travels, and the IP services.
 // Translated from table.rs of isdb-rs (Apache-2.0, see NOTICE) and changed.
 ghost use mathlib.Core.Path.{_≡_};
-ghost use Rattle.isdb_mmt.specs.Plt.{packageAt, packagesEnd, deliverySize, deliveryAt, deliveriesWhole, pltWith, pltDeliveries, pltTable, pltOf};
+ghost use Rattle.isdb_mmt.specs.Formats.Plt.{packageAt, packagesEnd, deliverySize, deliveryAt, deliveriesWhole, pltWith, pltDeliveries, pltTable, pltOf};
 use crate::location::Located;
 use crate::location::Location;
 use crate::maybe::MaybeUsize;

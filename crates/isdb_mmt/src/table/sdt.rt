@@ -1,9 +1,9 @@
 // MH-SDT (ARIB STD-B60, Table 7-23): the services of a TLV stream.
 // Translated from table.rs of isdb-rs (Apache-2.0, see NOTICE) and changed.
 ghost use mathlib.Core.Path.{_≡_};
-ghost use Rattle.isdb_mmt.specs.Desc.{firstOf};
-ghost use Rattle.isdb_mmt.specs.Tags.{serviceTag};
-ghost use Rattle.isdb_mmt.specs.Sdt.{told, sdtBody, sdtOf, serviceOf, serviceStep};
+ghost use Rattle.isdb_mmt.specs.Formats.Desc.{firstOf};
+ghost use Rattle.isdb_mmt.specs.Formats.Tags.{serviceTag};
+ghost use Rattle.isdb_mmt.specs.Formats.Sdt.{told, sdtBody, sdtOf, serviceOf, serviceStep};
 use crate::desc;
 use crate::desc::Found;
 use crate::desc::tag;

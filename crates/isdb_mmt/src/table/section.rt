@@ -2,8 +2,8 @@
 // their loops.
 // Translated from table.rs of isdb-rs (Apache-2.0, see NOTICE) and changed.
 ghost use mathlib.Core.Path.{_≡_};
-ghost use Rattle.isdb_mmt.specs.Desc.{broken as brokenLoop};
-ghost use Rattle.isdb_mmt.specs.Section.{headerOf, longSectionOf, entryAt, entriesTold, entriesFrom};
+ghost use Rattle.isdb_mmt.specs.Formats.Desc.{broken as brokenLoop};
+ghost use Rattle.isdb_mmt.specs.Formats.Section.{headerOf, longSectionOf, entryAt, entriesTold, entriesFrom};
 use crate::desc;
 use crate::part::Part;
 use isdb_tlv::bytes;

@@ -1,7 +1,7 @@
 // MH-TOT (ARIB STD-B60, Table 7-25): the current time, a short section with a CRC.
 // Translated from table.rs of isdb-rs (Apache-2.0, see NOTICE) and changed.
 ghost use mathlib.Core.Path.{_≡_};
-ghost use Rattle.isdb_mmt.specs.Tot.{told, totFields, totOf};
+ghost use Rattle.isdb_mmt.specs.Formats.Tot.{told, totFields, totOf};
 use crate::part::Part;
 use crate::table::section;
 use crate::table::section::SectionError;
@@ -60,10 +60,11 @@ pub fn parse(b: &[u8]) -> TotParsed
     if b.len() < 3 {
         return refused(SectionError::Truncated);
     }
-    let end = bytes::get_u12(b, 1) as usize + 3;
-    if end < 14 {
+    let length = bytes::get_u12(b, 1) as usize;
+    if length < 11 {
         return refused(SectionError::Truncated);
     }
+    let end = length + 3;
     if b.len() < end {
         return refused(SectionError::Truncated);
     }

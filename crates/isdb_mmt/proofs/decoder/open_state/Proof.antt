@@ -1,7 +1,7 @@
 use Rattle.isdb_mmt.proofs.Opening.{opens-state}
 use mathlib.Core.Path.{sym}
 use lib.Seq.{length-take-le}
-use Rattle.isdb_mmt.specs.Layout.{stateSize}
+use Rattle.isdb_mmt.specs.Memory.Layout.{stateSize}
 use borrow.Author.Needs.{needs}
 use Rattle.isdb_mmt.proofs.decoder.open_state.Statement.{statement}
 use Rattle.isdb_mmt.proofs.decoder.open_state.Tie as tie

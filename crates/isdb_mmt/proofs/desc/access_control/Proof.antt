@@ -1,4 +1,4 @@
-use Rattle.isdb_mmt.specs.Desc.{accessControl}
+use Rattle.isdb_mmt.specs.Formats.Desc.{accessControl}
 use borrow.Author.Tests.{lt-ltb, le-ltb}
 use borrow.Author.Needs.{needs}
 use Rattle.isdb_mmt.proofs.desc.access_control.Statement.{statement}

@@ -1,6 +1,6 @@
 use borrow.Author.Needs.{needs}
 use Rattle.isdb_mmt.proofs.Descriptors.{raw-lies, plus, plus-zero, count-end, count-broken, count-on}
-use Rattle.isdb_mmt.specs.Desc.{splitFrom, splitOf, counted}
+use Rattle.isdb_mmt.specs.Formats.Desc.{splitFrom, splitOf, counted}
 use lib.ListN.{length}
 use native.Mathlib.Omega.{arith}
 use Prim.Native.Nat.{_-_, _≤_}

@@ -1,4 +1,4 @@
-use Rattle.isdb_mmt.specs.Desc.{extendedTimestamp}
+use Rattle.isdb_mmt.specs.Formats.Desc.{extendedTimestamp}
 use borrow.Author.Needs.{needs}
 use Rattle.isdb_mmt.proofs.desc.extended_timestamp.Statement.{statement}
 use Rattle.isdb_mmt.proofs.desc.extended_timestamp.Tie as tie

@@ -1,6 +1,6 @@
 use borrow.Author.Needs.{needs}
 use Rattle.isdb_mmt.proofs.Descriptors.{raw-lies, first-end, first-broken, first-other, first-found, first-kept}
-use Rattle.isdb_mmt.specs.Desc.{firstOf}
+use Rattle.isdb_mmt.specs.Formats.Desc.{firstOf}
 use lib.ListN.{length}
 use native.Mathlib.Omega.{arith}
 use Prim.Native.Nat.{_-_}

@@ -1,4 +1,4 @@
-use Rattle.isdb_mmt.specs.Desc.{lengthWidth}
+use Rattle.isdb_mmt.specs.Formats.Desc.{lengthWidth}
 use borrow.Author.Tests.{ne-eqb, le-ltb, lt-ltb}
 use native.Mathlib.Omega.{arith}
 use Rattle.isdb_mmt.proofs.desc.length_width.Statement.{statement}

@@ -1,7 +1,7 @@
 use Rattle.isdb_mmt.proofs.Descriptors.{width-le, length-is}
 use Prim.Native.Nat.{_+_}
 use native.Mathlib.Omega.{arith}
-use Rattle.isdb_mmt.specs.Desc.{stepAt}
+use Rattle.isdb_mmt.specs.Formats.Desc.{stepAt}
 use borrow.Author.Tests.{lt-ltb, le-ltb, le-leb, lt-leb}
 use borrow.Author.Needs.{needs}
 use Rattle.isdb_mmt.proofs.desc.next.Statement.{statement}

@@ -1,5 +1,5 @@
 use borrow.Author.Tests.{lt-ltb, le-ltb}
-use Rattle.isdb_mmt.specs.Desc.{genreAt}
+use Rattle.isdb_mmt.specs.Formats.Desc.{genreAt}
 use Prim.Native.Nat.{_+_}
 use Rattle.isdb_tlv.proofs.Fields.{be-one}
 use borrow.Author.Needs.{needs}

@@ -1,5 +1,5 @@
 use borrow.Author.Tests.{lt-ltb, le-ltb}
-use Rattle.isdb_mmt.specs.Desc.{scrambler}
+use Rattle.isdb_mmt.specs.Formats.Desc.{scrambler}
 use Rattle.isdb_tlv.proofs.Fields.{be-one}
 use borrow.Author.Needs.{needs}
 use Rattle.isdb_mmt.proofs.desc.scrambler_of.Statement.{statement}

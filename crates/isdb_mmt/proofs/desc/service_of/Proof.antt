@@ -1,6 +1,6 @@
 use Rattle.isdb_tlv.proofs.Fields.{be-one}
 use Prim.Native.Nat.{_+_}
-use Rattle.isdb_mmt.specs.Desc.{serviceText}
+use Rattle.isdb_mmt.specs.Formats.Desc.{serviceText}
 use borrow.Author.Tests.{lt-ltb, le-ltb}
 use borrow.Author.Needs.{needs}
 use Rattle.isdb_mmt.proofs.desc.service_of.Statement.{statement}

@@ -1,5 +1,5 @@
 use Rattle.isdb_tlv.proofs.Fields.{be-one}
-use Rattle.isdb_mmt.specs.Desc.{shortEvent}
+use Rattle.isdb_mmt.specs.Formats.Desc.{shortEvent}
 use borrow.Author.Tests.{lt-ltb, le-ltb}
 use borrow.Author.Needs.{needs}
 use Rattle.isdb_mmt.proofs.desc.short_event.Statement.{statement}

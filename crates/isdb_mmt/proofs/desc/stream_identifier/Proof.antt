@@ -1,4 +1,4 @@
-use Rattle.isdb_mmt.specs.Desc.{streamIdentifier}
+use Rattle.isdb_mmt.specs.Formats.Desc.{streamIdentifier}
 use borrow.Author.Tests.{lt-ltb, le-ltb}
 use borrow.Author.Needs.{needs}
 use Rattle.isdb_mmt.proofs.desc.stream_identifier.Statement.{statement}

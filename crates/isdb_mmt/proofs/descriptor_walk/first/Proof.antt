@@ -37,7 +37,7 @@ use denote.Triple.Table.{entered, cited}
 use denote.Triple.Walked.{says, Stays, stay-none-slice, walkOf, goes-none-slice, Walks, ends-at, walked, walk-meets}
 use denote.Exit.{yes}
 use denote.Triple.Clauses.{ensured, lasts}
-use Rattle.isdb_mmt.specs.Desc.{stepAt}
+use Rattle.isdb_mmt.specs.Formats.Desc.{stepAt}
 use Rattle.isdb_mmt.specs.declared.descriptor_walk.DescriptorWalk.{DescriptorWalk}
 use Rattle.isdb_mmt.specs.declared.desc.Step.{Step}
 use Rattle.isdb_mmt.proofs.descriptor_walk.DescriptorWalk as T

@@ -1,4 +1,4 @@
-use Rattle.isdb_mmt.specs.Location.{sized}
+use Rattle.isdb_mmt.specs.Formats.Location.{sized}
 use borrow.Author.Tests.{lt-ltb, le-ltb}
 use Rattle.isdb_mmt.proofs.location.if_present.Statement.{statement}
 use Rattle.isdb_mmt.proofs.location.if_present.Tie as tie

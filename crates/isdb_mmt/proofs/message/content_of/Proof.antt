@@ -1,6 +1,6 @@
 use borrow.Author.Tests.{lt-ltb, le-ltb, le-leb, lt-leb, ne-eqb}
 use native.Mathlib.Omega.{arith}
-use Rattle.isdb_mmt.specs.Message.{contentOf}
+use Rattle.isdb_mmt.specs.Formats.Message.{contentOf}
 use borrow.Author.Needs.{needs}
 use Rattle.isdb_mmt.proofs.message.content_of.Statement.{statement}
 use Rattle.isdb_mmt.proofs.message.content_of.Tie as tie

@@ -1,5 +1,5 @@
 use borrow.Author.Tests.{ne-eqb}
-use Rattle.isdb_mmt.specs.Message.{divisionOf}
+use Rattle.isdb_mmt.specs.Formats.Message.{divisionOf}
 use Rattle.isdb_mmt.proofs.message.fragment_of.Statement.{statement}
 use Rattle.isdb_mmt.proofs.message.fragment_of.Tie as tie
 

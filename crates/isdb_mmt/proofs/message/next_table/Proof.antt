@@ -1,5 +1,5 @@
 use borrow.Author.Tests.{lt-ltb, le-ltb}
-use Rattle.isdb_mmt.specs.Message.{tableAt}
+use Rattle.isdb_mmt.specs.Formats.Message.{tableAt}
 use borrow.Author.Needs.{needs}
 use Rattle.isdb_mmt.proofs.message.next_table.Statement.{statement}
 use Rattle.isdb_mmt.proofs.message.next_table.Tie as tie

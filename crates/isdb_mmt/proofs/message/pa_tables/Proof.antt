@@ -1,6 +1,6 @@
 use Rattle.isdb_tlv.proofs.Fields.{be-one}
 use borrow.Author.Tests.{lt-ltb, le-ltb, eq-eqb, ne-eqb}
-use Rattle.isdb_mmt.specs.Message.{paTables}
+use Rattle.isdb_mmt.specs.Formats.Message.{paTables}
 use borrow.Author.Needs.{needs}
 use Rattle.isdb_mmt.proofs.message.pa_tables.Statement.{statement}
 use Rattle.isdb_mmt.proofs.message.pa_tables.Tie as tie

@@ -4,7 +4,7 @@ use Prim.Native.Nat.{_-_, _≤_}
 use native.Mathlib.Nat.{add-zero}
 use native.Mathlib.Omega.{arith}
 use lib.ListN.{length}
-use Rattle.isdb_mmt.specs.Mpu.{unitsFrom, unitsOf, counted}
+use Rattle.isdb_mmt.specs.Formats.Mpu.{unitsFrom, unitsOf, counted}
 use Rattle.isdb_mmt.proofs.Units.{unit-lies, units-at, one-more}
 use Rattle.isdb_tlv.proofs.Walk.{plus, plus-zero}
 use Rattle.isdb_mmt.specs.declared.mpu.UnitCount.the-variants.{Malformed, Count}

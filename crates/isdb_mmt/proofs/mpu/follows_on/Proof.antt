@@ -1,4 +1,4 @@
-use Rattle.isdb_mmt.specs.Mpu.{follows}
+use Rattle.isdb_mmt.specs.Formats.Mpu.{follows}
 use borrow.Author.Needs.{needs}
 use Rattle.isdb_mmt.proofs.mpu.follows_on.Statement.{statement}
 use Rattle.isdb_mmt.proofs.mpu.follows_on.Tie as tie

@@ -2,7 +2,7 @@ use native.Mathlib.Nat.{min-eq-left, min-eq-right}
 use native.Mathlib.Omega.{arith}
 use Prim.Native.Nat.{_+_, _-_, _%_, _^_}
 use mathlib.Core.Path.{_≡_, sym}
-use Rattle.isdb_mmt.specs.Mpu.{lostFrom}
+use Rattle.isdb_mmt.specs.Formats.Mpu.{lostFrom}
 use borrow.Author.Needs.{needs}
 use Rattle.isdb_mmt.proofs.mpu.lost.Statement.{statement}
 use Rattle.isdb_mmt.proofs.mpu.lost.Tie as tie

@@ -1,5 +1,5 @@
 use borrow.Author.Tests.{lt-ltb, le-ltb, le-leb, lt-leb}
-use Rattle.isdb_mmt.specs.Mpu.{unitStep}
+use Rattle.isdb_mmt.specs.Formats.Mpu.{unitStep}
 use borrow.Author.Needs.{needs}
 use Rattle.isdb_mmt.proofs.mpu.next_unit.Statement.{statement}
 use Rattle.isdb_mmt.proofs.mpu.next_unit.Tie as tie

@@ -1,5 +1,5 @@
 use borrow.Author.Tests.{lt-ltb, le-ltb}
-use Rattle.isdb_mmt.specs.Mpu.{payloadHeader}
+use Rattle.isdb_mmt.specs.Formats.Mpu.{payloadHeader}
 use borrow.Author.Needs.{needs}
 use Rattle.isdb_mmt.proofs.mpu.parse_header.Statement.{statement}
 use Rattle.isdb_mmt.proofs.mpu.parse_header.Tie as tie

@@ -1,5 +1,5 @@
 use borrow.Author.Tests.{lt-ltb, le-ltb}
-use Rattle.isdb_mmt.specs.Mpu.{unitAt}
+use Rattle.isdb_mmt.specs.Formats.Mpu.{unitAt}
 use borrow.Author.Needs.{needs}
 use Rattle.isdb_mmt.proofs.mpu.unit_at.Statement.{statement}
 use Rattle.isdb_mmt.proofs.mpu.unit_at.Tie as tie

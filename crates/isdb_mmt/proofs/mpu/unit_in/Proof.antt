@@ -1,5 +1,5 @@
 use borrow.Author.Tests.{lt-ltb, le-ltb}
-use Rattle.isdb_mmt.specs.Mpu.{unitIn}
+use Rattle.isdb_mmt.specs.Formats.Mpu.{unitIn}
 use borrow.Author.Needs.{needs}
 use Rattle.isdb_mmt.proofs.mpu.unit_in.Statement.{statement}
 use Rattle.isdb_mmt.proofs.mpu.unit_in.Tie as tie

@@ -1,6 +1,6 @@
 use borrow.Author.Needs.{needs}
 use Rattle.isdb_mmt.proofs.Floats.{unit-lit, epoch-lit, exact}
-use Rattle.isdb_mmt.specs.Ntp.{ntpToUnix}
+use Rattle.isdb_mmt.specs.Formats.Ntp.{ntpToUnix}
 use mathlib.Core.Path.{refl}
 use lib.Ieee.{inFloat}
 use lib.Dec.{le→leb}

@@ -1,6 +1,6 @@
 use borrow.Author.Needs.{needs}
 use Rattle.isdb_mmt.proofs.Timestamps.{mpu-lies, whole-end, whole-broken, whole-on}
-use Rattle.isdb_mmt.specs.Timestamp.{mpusWhole}
+use Rattle.isdb_mmt.specs.Formats.Timestamp.{mpusWhole}
 use lib.ListN.{length}
 use native.Mathlib.Omega.{arith}
 use Prim.Native.Nat.{_-_}

@@ -1,4 +1,4 @@
-use Rattle.isdb_mmt.specs.Timestamp.{unitStep}
+use Rattle.isdb_mmt.specs.Formats.Timestamp.{unitStep}
 use borrow.Author.Tests.{lt-ltb, le-ltb}
 use borrow.Author.Needs.{needs}
 use Rattle.isdb_mmt.proofs.timestamp.next_access_unit.Statement.{statement}

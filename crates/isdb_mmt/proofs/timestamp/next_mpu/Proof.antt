@@ -1,5 +1,5 @@
 use borrow.Author.Tests.{lt-ltb, le-ltb, le-leb, lt-leb}
-use Rattle.isdb_mmt.specs.Timestamp.{mpuAt}
+use Rattle.isdb_mmt.specs.Formats.Timestamp.{mpuAt}
 use Rattle.isdb_mmt.proofs.Timestamps.{units-le}
 use native.Mathlib.Omega.{arith}
 use Rattle.isdb_mmt.proofs.Fields.{first-field, field, byte-field}

@@ -1,5 +1,5 @@
 use borrow.Author.Tests.{lt-ltb, le-ltb}
-use Rattle.isdb_mmt.specs.Timestamp.{timestampAt}
+use Rattle.isdb_mmt.specs.Formats.Timestamp.{timestampAt}
 use borrow.Author.Needs.{needs}
 use Rattle.isdb_mmt.proofs.timestamp.next_timestamp.Statement.{statement}
 use Rattle.isdb_mmt.proofs.timestamp.next_timestamp.Tie as tie

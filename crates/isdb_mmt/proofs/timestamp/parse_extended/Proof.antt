@@ -1,5 +1,5 @@
 use borrow.Author.Tests.{lt-ltb, le-ltb}
-use Rattle.isdb_mmt.specs.Timestamp.{extendedOf}
+use Rattle.isdb_mmt.specs.Formats.Timestamp.{extendedOf}
 use Rattle.isdb_tlv.proofs.Fields.{be-one}
 use borrow.Author.Needs.{needs}
 use Rattle.isdb_mmt.proofs.timestamp.parse_extended.Statement.{statement}

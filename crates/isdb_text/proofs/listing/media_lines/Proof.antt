@@ -3,7 +3,7 @@ use Rattle.isdb_text.proofs.Lists.{lines-turn, lines-most, lines-none, 
 use Rattle.isdb_text.proofs.Written.{Left, left-all}
 use lib.ListN.{length}
 use mathlib.Core.Path.{_≡_, refl}
-use Rattle.isdb_mmt.specs.Opening.{lent}
+use Rattle.isdb_mmt.specs.Memory.Opening.{lent}
 use Rattle.isdb_text.specs.Listing.{mediaLines, mediaLinesFrom}
 use Rattle.isdb_text.proofs.listing.media_lines.Statement.{statement}
 use Rattle.isdb_text.proofs.listing.media_lines.Tie as tie

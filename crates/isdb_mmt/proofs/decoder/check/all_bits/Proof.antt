@@ -1,8 +1,8 @@
 use borrow.Author.Needs.{needs}
 use Rattle.isdb_mmt.proofs.Checks.{low-bits, all-low}
-use Rattle.isdb_mmt.specs.Lent.{every}
-use Rattle.isdb_mmt.specs.Check.{countFits}
-use Rattle.isdb_mmt.specs.Layout.{mostCount}
+use Rattle.isdb_mmt.specs.Memory.Lent.{every}
+use Rattle.isdb_mmt.specs.Memory.Check.{countFits}
+use Rattle.isdb_mmt.specs.Memory.Layout.{mostCount}
 use lib.ListN.{length, drop}
 use mathlib.Core.Path.{_≡_, refl}
 use Prim.Native.Nat.{_-_, _≤_}

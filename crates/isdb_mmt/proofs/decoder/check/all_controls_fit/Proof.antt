@@ -1,9 +1,9 @@
 use borrow.Author.Needs.{needs}
 use Rattle.isdb_mmt.proofs.Checks.{place-fails, place-fits, places-end}
-use Rattle.isdb_mmt.specs.Lent.{placesFrom, every}
-use Rattle.isdb_mmt.specs.Check.{controlSound}
-use Rattle.isdb_mmt.specs.Session.{controlPlaceOf}
-use Rattle.isdb_mmt.specs.Layout.{controlPlaces, controlSize}
+use Rattle.isdb_mmt.specs.Memory.Lent.{placesFrom, every}
+use Rattle.isdb_mmt.specs.Memory.Check.{controlSound}
+use Rattle.isdb_mmt.specs.Memory.Session.{controlPlaceOf}
+use Rattle.isdb_mmt.specs.Memory.Layout.{controlPlaces, controlSize}
 use mathlib.Core.List.{map}
 use native.Mathlib.Nat.{sub-zero}
 use mathlib.Core.Path.{_≡_}

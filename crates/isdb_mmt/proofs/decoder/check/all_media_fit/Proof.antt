@@ -1,9 +1,9 @@
 use borrow.Author.Needs.{needs}
 use Rattle.isdb_mmt.proofs.Checks.{media-length, place-fails, place-fits, places-end}
-use Rattle.isdb_mmt.specs.Lent.{placesFrom, every}
-use Rattle.isdb_mmt.specs.Check.{mediaSound}
-use Rattle.isdb_mmt.specs.Session.{mediaPlaceOf}
-use Rattle.isdb_mmt.specs.Layout.{mediaPlaces, mediaSize}
+use Rattle.isdb_mmt.specs.Memory.Lent.{placesFrom, every}
+use Rattle.isdb_mmt.specs.Memory.Check.{mediaSound}
+use Rattle.isdb_mmt.specs.Memory.Session.{mediaPlaceOf}
+use Rattle.isdb_mmt.specs.Memory.Layout.{mediaPlaces, mediaSize}
 use mathlib.Core.List.{map}
 use native.Mathlib.Nat.{sub-zero}
 use mathlib.Core.Path.{_≡_}

@@ -1,9 +1,9 @@
 use borrow.Author.Needs.{needs}
 use Rattle.isdb_mmt.proofs.Checks.{sections-start, section-next, sections-end}
-use Rattle.isdb_mmt.specs.Lent.{placesFrom, every}
-use Rattle.isdb_mmt.specs.Check.{sectionSound}
-use Rattle.isdb_mmt.specs.Session.{sectionPlaceOf}
-use Rattle.isdb_mmt.specs.Layout.{sectionPlaces, sectionSize}
+use Rattle.isdb_mmt.specs.Memory.Lent.{placesFrom, every}
+use Rattle.isdb_mmt.specs.Memory.Check.{sectionSound}
+use Rattle.isdb_mmt.specs.Memory.Session.{sectionPlaceOf}
+use Rattle.isdb_mmt.specs.Memory.Layout.{sectionPlaces, sectionSize}
 use Rattle.isdb_tlv.specs.Guards.{_≤?_}
 use mathlib.Core.List.{map}
 use mathlib.Core.Bool.{false, cond}

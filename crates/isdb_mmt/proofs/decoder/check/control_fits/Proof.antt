@@ -1,4 +1,4 @@
-use Rattle.isdb_mmt.specs.Check.{controlSound}
+use Rattle.isdb_mmt.specs.Memory.Check.{controlSound}
 use Rattle.isdb_mmt.proofs.Guards.{both, not-both}
 use borrow.Author.Needs.{needs}
 use Rattle.isdb_mmt.proofs.decoder.check.control_fits.Statement.{statement}

@@ -1,7 +1,7 @@
 use borrow.Author.Needs.{needs}
 use Rattle.isdb_mmt.proofs.Checks.{stored-fails, stored-fits, stored-end}
-use Rattle.isdb_mmt.specs.Lent.{every}
-use Rattle.isdb_mmt.specs.Check.{countFits, countsFrom}
+use Rattle.isdb_mmt.specs.Memory.Lent.{every}
+use Rattle.isdb_mmt.specs.Memory.Check.{countFits, countsFrom}
 use native.Mathlib.Nat.{sub-zero}
 use mathlib.Core.Path.{_≡_}
 use Prim.Native.Nat.{_+_, _-_, _*_}

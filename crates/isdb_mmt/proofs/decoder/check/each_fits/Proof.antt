@@ -2,8 +2,8 @@ use borrow.Author.Needs.{needs}
 use Prim.Native.Nat.{_-_}
 use mathlib.Core.Path.{_≡_}
 use lib.ListN.{length, drop}
-use Rattle.isdb_mmt.specs.Check.{countFits}
-use Rattle.isdb_mmt.specs.Lent.{every}
+use Rattle.isdb_mmt.specs.Memory.Check.{countFits}
+use Rattle.isdb_mmt.specs.Memory.Lent.{every}
 use Rattle.isdb_mmt.proofs.Checks.{count-fails, count-fits, counts-end}
 use Rattle.isdb_mmt.proofs.decoder.check.each_fits.Statement.{statement}
 use Rattle.isdb_mmt.proofs.decoder.check.each_fits.Tie as tie

@@ -1,8 +1,8 @@
 use borrow.Author.Needs.{needs}
 use Rattle.isdb_mmt.proofs.Checks.{high-next, high-end}
-use Rattle.isdb_mmt.specs.Lent.{every}
-use Rattle.isdb_mmt.specs.Check.{countFits, countsFrom}
-use Rattle.isdb_mmt.specs.Layout.{mostCount}
+use Rattle.isdb_mmt.specs.Memory.Lent.{every}
+use Rattle.isdb_mmt.specs.Memory.Check.{countFits, countsFrom}
+use Rattle.isdb_mmt.specs.Memory.Layout.{mostCount}
 use native.Mathlib.Nat.{sub-zero}
 use mathlib.Core.Path.{_≡_}
 use Prim.Native.Nat.{_+_, _-_, _*_, _<_}

@@ -1,4 +1,4 @@
-use Rattle.isdb_mmt.specs.Check.{latestSound}
+use Rattle.isdb_mmt.specs.Memory.Check.{latestSound}
 use Rattle.isdb_mmt.proofs.Guards.{both, not-both}
 use borrow.Author.Needs.{needs}
 use Rattle.isdb_mmt.proofs.decoder.check.latest_fits.Statement.{statement}

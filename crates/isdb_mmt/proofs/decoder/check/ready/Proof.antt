@@ -1,6 +1,6 @@
 use borrow.Author.Needs.{needs}
 use Rattle.isdb_mmt.proofs.Checks.{too-short, front-length, head-fails, head-there, limits-front, used-front, places-fail, names-decide}
-use Rattle.isdb_mmt.specs.Layout.{mediaPlaces}
+use Rattle.isdb_mmt.specs.Memory.Layout.{mediaPlaces}
 use lib.Seq.{length-take-le}
 use mathlib.Core.Path.{sym}
 use Rattle.isdb_mmt.proofs.decoder.check.ready.Statement.{statement}

@@ -1,4 +1,4 @@
-use Rattle.isdb_mmt.specs.Check.{usedSound}
+use Rattle.isdb_mmt.specs.Memory.Check.{usedSound}
 use borrow.Author.Tests.{lt-leb, le-leb}
 use borrow.Author.Needs.{needs}
 use Rattle.isdb_mmt.proofs.decoder.check.used_fit.Statement.{statement}

@@ -1,5 +1,5 @@
 use mathlib.Core.Path.{refl}
-use Rattle.isdb_mmt.specs.Session.{controlPlaceOf}
+use Rattle.isdb_mmt.specs.Memory.Session.{controlPlaceOf}
 use borrow.Author.Needs.{needs}
 use Rattle.isdb_mmt.proofs.decoder.control.control_of.Statement.{statement}
 use Rattle.isdb_mmt.proofs.decoder.control.control_of.Tie as tie

@@ -1,4 +1,4 @@
-use Rattle.isdb_mmt.specs.Session.{controlFields}
+use Rattle.isdb_mmt.specs.Memory.Session.{controlFields}
 use Rattle.isdb_mmt.proofs.Stored.{filled}
 use native.Mathlib.Omega.{arith}
 use mathlib.Core.Path.{refl}

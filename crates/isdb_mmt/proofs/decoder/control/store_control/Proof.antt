@@ -1,7 +1,7 @@
 use Rattle.isdb_mmt.proofs.Stored.{sent}
 use Prim.Native.Nat.{_+_, _*_}
-use Rattle.isdb_mmt.specs.Session.{controlFields}
-use Rattle.isdb_mmt.specs.Layout.{controlPlaces, controlSize}
+use Rattle.isdb_mmt.specs.Memory.Session.{controlFields}
+use Rattle.isdb_mmt.specs.Memory.Layout.{controlPlaces, controlSize}
 use borrow.Author.Needs.{needs}
 use Rattle.isdb_mmt.proofs.decoder.control.store_control.Statement.{statement}
 use Rattle.isdb_mmt.proofs.decoder.control.store_control.Tie as tie

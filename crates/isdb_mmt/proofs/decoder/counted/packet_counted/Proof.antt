@@ -1,5 +1,5 @@
 use mathlib.Core.Path.{refl}
-use Rattle.isdb_mmt.specs.Model.{packetCounted}
+use Rattle.isdb_mmt.specs.Decoder.Model.{packetCounted}
 use borrow.Author.Needs.{needs}
 use Rattle.isdb_mmt.proofs.decoder.counted.packet_counted.Statement.{statement}
 use Rattle.isdb_mmt.proofs.decoder.counted.packet_counted.Tie as tie

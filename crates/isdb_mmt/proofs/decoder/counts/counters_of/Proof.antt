@@ -1,4 +1,4 @@
-use Rattle.isdb_mmt.specs.Session.{countersOf}
+use Rattle.isdb_mmt.specs.Memory.Session.{countersOf}
 use mathlib.Core.Path.{refl}
 use borrow.Author.Needs.{needs}
 use Rattle.isdb_mmt.proofs.decoder.counts.counters_of.Statement.{statement}

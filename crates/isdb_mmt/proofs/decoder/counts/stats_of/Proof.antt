@@ -1,4 +1,4 @@
-use Rattle.isdb_mmt.specs.Session.{statsOf}
+use Rattle.isdb_mmt.specs.Memory.Session.{statsOf}
 use mathlib.Core.Path.{refl}
 use borrow.Author.Needs.{needs}
 use Rattle.isdb_mmt.proofs.decoder.counts.stats_of.Statement.{statement}

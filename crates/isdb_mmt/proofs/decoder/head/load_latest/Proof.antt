@@ -1,4 +1,4 @@
-use Rattle.isdb_mmt.specs.Session.{latestOf}
+use Rattle.isdb_mmt.specs.Memory.Session.{latestOf}
 use mathlib.Core.Path.{refl}
 use borrow.Author.Needs.{needs}
 use Rattle.isdb_mmt.proofs.decoder.head.load_latest.Statement.{statement}

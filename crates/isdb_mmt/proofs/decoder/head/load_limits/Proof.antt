@@ -1,5 +1,5 @@
 use mathlib.Core.Path.{refl}
-use Rattle.isdb_mmt.specs.Session.{limitsOf}
+use Rattle.isdb_mmt.specs.Memory.Session.{limitsOf}
 use borrow.Author.Needs.{needs}
 use Rattle.isdb_mmt.proofs.decoder.head.load_limits.Statement.{statement}
 use Rattle.isdb_mmt.proofs.decoder.head.load_limits.Tie as tie

@@ -1,4 +1,4 @@
-use Rattle.isdb_mmt.specs.Session.{timeOf}
+use Rattle.isdb_mmt.specs.Memory.Session.{timeOf}
 use mathlib.Core.Path.{refl}
 use borrow.Author.Needs.{needs}
 use Rattle.isdb_mmt.proofs.decoder.head.load_time.Statement.{statement}

@@ -1,4 +1,4 @@
-use Rattle.isdb_mmt.specs.Session.{usedOf}
+use Rattle.isdb_mmt.specs.Memory.Session.{usedOf}
 use mathlib.Core.Path.{refl}
 use borrow.Author.Needs.{needs}
 use Rattle.isdb_mmt.proofs.decoder.head.load_used.Statement.{statement}

@@ -1,8 +1,8 @@
 use mathlib.Core.Path.{refl}
 use Rattle.isdb_mmt.proofs.Stored.{stored}
 use native.Mathlib.Omega.{arith}
-use Rattle.isdb_mmt.specs.Session.{countersFields}
-use Rattle.isdb_mmt.specs.Layout.{countersPlace}
+use Rattle.isdb_mmt.specs.Memory.Session.{countersFields}
+use Rattle.isdb_mmt.specs.Memory.Layout.{countersPlace}
 use borrow.Author.Needs.{needs}
 use Rattle.isdb_mmt.proofs.decoder.head.store_counters.Statement.{statement}
 use Rattle.isdb_mmt.proofs.decoder.head.store_counters.Tie as tie

@@ -1,5 +1,5 @@
-use Rattle.isdb_mmt.specs.Layout.{latestPlace}
-use Rattle.isdb_mmt.specs.Session.{latestFields}
+use Rattle.isdb_mmt.specs.Memory.Layout.{latestPlace}
+use Rattle.isdb_mmt.specs.Memory.Session.{latestFields}
 use Rattle.isdb_mmt.proofs.Stored.{stored}
 use native.Mathlib.Omega.{arith}
 use mathlib.Core.Path.{refl}

@@ -1,4 +1,4 @@
-use Rattle.isdb_mmt.specs.Session.{limitsFields}
+use Rattle.isdb_mmt.specs.Memory.Session.{limitsFields}
 use Rattle.isdb_mmt.proofs.Stored.{stored}
 use native.Mathlib.Omega.{arith}
 use mathlib.Core.Path.{refl}

@@ -1,6 +1,6 @@
 use Rattle.isdb_mmt.proofs.Lent.{put-none}
-use Rattle.isdb_mmt.specs.Layout.{timePlace}
-use Rattle.isdb_mmt.specs.Session.{timeFields}
+use Rattle.isdb_mmt.specs.Memory.Layout.{timePlace}
+use Rattle.isdb_mmt.specs.Memory.Session.{timeFields}
 use Rattle.isdb_mmt.proofs.Stored.{stored}
 use native.Mathlib.Omega.{arith}
 use mathlib.Core.Path.{refl}

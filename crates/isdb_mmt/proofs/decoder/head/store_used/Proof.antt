@@ -1,6 +1,6 @@
 use Rattle.isdb_mmt.proofs.Lent.{put-none}
-use Rattle.isdb_mmt.specs.Layout.{usedPlace}
-use Rattle.isdb_mmt.specs.Session.{usedFields}
+use Rattle.isdb_mmt.specs.Memory.Layout.{usedPlace}
+use Rattle.isdb_mmt.specs.Memory.Session.{usedFields}
 use Rattle.isdb_mmt.proofs.Stored.{stored}
 use native.Mathlib.Omega.{arith}
 use mathlib.Core.Path.{refl}

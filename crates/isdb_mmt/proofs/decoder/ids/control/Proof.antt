@@ -1,5 +1,5 @@
 use Rattle.isdb_mmt.proofs.ReadSteps.{asked-no, asked-yes, places-there, found-in, control-none}
-use Rattle.isdb_mmt.specs.Readings.{controlFound, controlRead}
+use Rattle.isdb_mmt.specs.Answers.Readings.{controlFound, controlRead}
 use mathlib.Core.Path.{refl}
 use borrow.Author.Needs.{needs}
 use Rattle.isdb_mmt.proofs.decoder.ids.control.Statement.{statement}

@@ -1,5 +1,5 @@
 use Rattle.isdb_mmt.proofs.ReadSteps.{asked-no, asked-yes, places-there, area-most, found-in, held-none}
-use Rattle.isdb_mmt.specs.Readings.{mediaFound, heldRead}
+use Rattle.isdb_mmt.specs.Answers.Readings.{mediaFound, heldRead}
 use mathlib.Core.Path.{refl}
 use borrow.Author.Needs.{needs}
 use Rattle.isdb_mmt.proofs.decoder.ids.held.Statement.{statement}

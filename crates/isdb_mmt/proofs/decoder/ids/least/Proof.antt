@@ -1,7 +1,7 @@
 use Prim.Native.Nat.{_+_, _*_, _-_, _≤_}
 use mathlib.Core.Path.{_≡_}
-use Rattle.isdb_mmt.specs.Lent.{namesFrom}
-use Rattle.isdb_mmt.specs.Readings.{leastFrom}
+use Rattle.isdb_mmt.specs.Memory.Lent.{namesFrom}
+use Rattle.isdb_mmt.specs.Answers.Readings.{leastFrom}
 use Rattle.isdb_mmt.specs.declared.maybe.MaybeU32.the-variants.{None as noU32}
 use Rattle.isdb_mmt.proofs.Names.{next-in}
 use Rattle.isdb_mmt.proofs.Least.{least-next, least-end, least-start}

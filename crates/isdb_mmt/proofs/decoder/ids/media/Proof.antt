@@ -1,5 +1,5 @@
 use Rattle.isdb_mmt.proofs.ReadSteps.{asked-no, asked-yes, places-there, found-in, media-none}
-use Rattle.isdb_mmt.specs.Readings.{mediaFound, mediaRead}
+use Rattle.isdb_mmt.specs.Answers.Readings.{mediaFound, mediaRead}
 use mathlib.Core.Path.{refl}
 use borrow.Author.Needs.{needs}
 use Rattle.isdb_mmt.proofs.decoder.ids.media.Statement.{statement}

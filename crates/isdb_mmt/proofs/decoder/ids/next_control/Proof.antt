@@ -1,5 +1,5 @@
 use Rattle.isdb_mmt.proofs.ReadSteps.{asked-no, asked-yes, places-there, controls-within}
-use Rattle.isdb_mmt.specs.Readings.{nextControlRead}
+use Rattle.isdb_mmt.specs.Answers.Readings.{nextControlRead}
 use mathlib.Core.Path.{refl}
 use borrow.Author.Needs.{needs}
 use Rattle.isdb_mmt.proofs.decoder.ids.next_control.Statement.{statement}

@@ -1,5 +1,5 @@
 use Rattle.isdb_mmt.proofs.ReadSteps.{asked-no, asked-yes, places-there, sections-within}
-use Rattle.isdb_mmt.specs.Readings.{nextKeyRead}
+use Rattle.isdb_mmt.specs.Answers.Readings.{nextKeyRead}
 use mathlib.Core.Path.{refl}
 use borrow.Author.Needs.{needs}
 use Rattle.isdb_mmt.proofs.decoder.ids.next_key.Statement.{statement}

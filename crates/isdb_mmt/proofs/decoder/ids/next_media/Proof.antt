@@ -1,5 +1,5 @@
 use Rattle.isdb_mmt.proofs.ReadSteps.{asked-no, asked-yes, places-there, media-within}
-use Rattle.isdb_mmt.specs.Readings.{nextMediaRead}
+use Rattle.isdb_mmt.specs.Answers.Readings.{nextMediaRead}
 use mathlib.Core.Path.{refl}
 use borrow.Author.Needs.{needs}
 use Rattle.isdb_mmt.proofs.decoder.ids.next_media.Statement.{statement}

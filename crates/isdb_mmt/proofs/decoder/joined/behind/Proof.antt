@@ -1,4 +1,4 @@
-use Rattle.isdb_mmt.specs.Placed.{behind}
+use Rattle.isdb_mmt.specs.Pushes.Placed.{behind}
 use mathlib.Core.Path.{refl}
 use borrow.Author.Needs.{needs}
 use Rattle.isdb_mmt.proofs.decoder.joined.behind.Statement.{statement}

@@ -1,5 +1,5 @@
 use borrow.Author.Tests.{lt-ltb, le-ltb, le-leb, lt-leb, eq-eqb, ne-eqb}
-use Rattle.isdb_mmt.specs.Message.{contentOf}
+use Rattle.isdb_mmt.specs.Formats.Message.{contentOf}
 use borrow.Author.Needs.{needs}
 use Rattle.isdb_mmt.proofs.decoder.joined.content_of.Statement.{statement}
 use Rattle.isdb_mmt.proofs.decoder.joined.content_of.Tie as tie

@@ -1,5 +1,5 @@
 use borrow.Author.Tests.{lt-ltb, le-ltb}
-use Rattle.isdb_mmt.specs.Message.{aggregatedAt}
+use Rattle.isdb_mmt.specs.Formats.Message.{aggregatedAt}
 use Rattle.isdb_mmt.proofs.AggregatedMessages.{width-ge}
 use native.Mathlib.Omega.{arith}
 use borrow.Author.Needs.{needs}

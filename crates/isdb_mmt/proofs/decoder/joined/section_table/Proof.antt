@@ -1,5 +1,5 @@
 use borrow.Author.Tests.{lt-ltb, le-ltb}
-use Rattle.isdb_mmt.specs.Message.{sectionTable}
+use Rattle.isdb_mmt.specs.Formats.Message.{sectionTable}
 use borrow.Author.Needs.{needs}
 use Rattle.isdb_mmt.proofs.decoder.joined.section_table.Statement.{statement}
 use Rattle.isdb_mmt.proofs.decoder.joined.section_table.Tie as tie

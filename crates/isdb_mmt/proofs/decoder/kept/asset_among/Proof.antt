@@ -1,7 +1,7 @@
-use Rattle.isdb_mmt.specs.KeptParts.{stateAndTables}
-use Rattle.isdb_mmt.specs.Readings.{assetAmong, ascendingFrom}
-use Rattle.isdb_mmt.specs.Layout.{controlPlaces, controlSize}
-use Rattle.isdb_mmt.specs.Lent.{namesFrom}
+use Rattle.isdb_mmt.specs.Answers.KeptParts.{stateAndTables}
+use Rattle.isdb_mmt.specs.Answers.Readings.{assetAmong, ascendingFrom}
+use Rattle.isdb_mmt.specs.Memory.Layout.{controlPlaces, controlSize}
+use Rattle.isdb_mmt.specs.Memory.Lent.{namesFrom}
 use mathlib.Core.Path.{_≡_}
 use Rattle.isdb_mmt.proofs.AssetReadings.{all-within, among-none, among-refused, among-found, among-on, among-end}
 use borrow.Author.Needs.{needs}

@@ -1,8 +1,8 @@
 use borrow.Author.Needs.{needs}
 use Rattle.isdb_mmt.proofs.AssetReadings.{carried-bad, carried-hit, carried-on, carried-end}
 use mathlib.Core.Path.{_≡_}
-use Rattle.isdb_mmt.specs.Mpt.{assetsFrom}
-use Rattle.isdb_mmt.specs.Readings.{firstCarried}
+use Rattle.isdb_mmt.specs.Formats.Mpt.{assetsFrom}
+use Rattle.isdb_mmt.specs.Answers.Readings.{firstCarried}
 use Rattle.isdb_mmt.proofs.decoder.kept.carried_asset.Statement.{statement}
 use Rattle.isdb_mmt.proofs.decoder.kept.carried_asset.Tie as tie
 

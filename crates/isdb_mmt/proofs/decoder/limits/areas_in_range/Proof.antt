@@ -1,4 +1,4 @@
-use Rattle.isdb_mmt.specs.Limits.{areasInRange}
+use Rattle.isdb_mmt.specs.Memory.Limits.{areasInRange}
 use borrow.Author.Needs.{needs}
 use Rattle.isdb_mmt.proofs.decoder.limits.areas_in_range.Statement.{statement}
 use Rattle.isdb_mmt.proofs.decoder.limits.areas_in_range.Tie as tie

@@ -1,5 +1,5 @@
 use Rattle.isdb_mmt.proofs.Guards.{yes}
-use Rattle.isdb_mmt.specs.Limits.{asked}
+use Rattle.isdb_mmt.specs.Memory.Limits.{asked}
 use borrow.Author.Needs.{needs}
 use Rattle.isdb_mmt.proofs.decoder.limits.ask.Statement.{statement}
 use Rattle.isdb_mmt.proofs.decoder.limits.ask.Tie as tie

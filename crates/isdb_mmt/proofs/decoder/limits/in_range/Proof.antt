@@ -1,5 +1,5 @@
 use borrow.Author.Tests.{lt-ltb, le-ltb}
-use Rattle.isdb_mmt.specs.Limits.{inRange}
+use Rattle.isdb_mmt.specs.Memory.Limits.{inRange}
 use Rattle.isdb_mmt.proofs.decoder.limits.in_range.Statement.{statement}
 use Rattle.isdb_mmt.proofs.decoder.limits.in_range.Tie as tie
 

@@ -1,6 +1,6 @@
 use native.Mathlib.Omega.{arith}
 use borrow.Author.Needs.{needs}
-use Rattle.isdb_mmt.specs.Limits.{lengthsFor}
+use Rattle.isdb_mmt.specs.Memory.Limits.{lengthsFor}
 use Rattle.isdb_mmt.proofs.Limits.{in-ranges, areas-fit}
 use Rattle.isdb_mmt.proofs.decoder.limits.lengths_for.Statement.{statement}
 use Rattle.isdb_mmt.proofs.decoder.limits.lengths_for.Tie as tie

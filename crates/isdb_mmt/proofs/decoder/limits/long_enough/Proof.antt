@@ -1,5 +1,5 @@
 use borrow.Author.Tests.{lt-ltb, le-ltb}
-use Rattle.isdb_mmt.specs.Limits.{longEnough}
+use Rattle.isdb_mmt.specs.Memory.Limits.{longEnough}
 use Rattle.isdb_mmt.proofs.decoder.limits.long_enough.Statement.{statement}
 use Rattle.isdb_mmt.proofs.decoder.limits.long_enough.Tie as tie
 

@@ -1,5 +1,5 @@
 use Rattle.isdb_mmt.proofs.Guards.{yes}
-use Rattle.isdb_mmt.specs.Limits.{neededOf}
+use Rattle.isdb_mmt.specs.Memory.Limits.{neededOf}
 use borrow.Author.Needs.{needs}
 use Rattle.isdb_mmt.proofs.decoder.limits.needed.Statement.{statement}
 use Rattle.isdb_mmt.proofs.decoder.limits.needed.Tie as tie

@@ -1,4 +1,4 @@
-use Rattle.isdb_mmt.specs.Limits.{packetsInRange}
+use Rattle.isdb_mmt.specs.Memory.Limits.{packetsInRange}
 use borrow.Author.Needs.{needs}
 use Rattle.isdb_mmt.proofs.decoder.limits.packets_in_range.Statement.{statement}
 use Rattle.isdb_mmt.proofs.decoder.limits.packets_in_range.Tie as tie

@@ -1,4 +1,4 @@
-use Rattle.isdb_mmt.specs.Limits.{placesInRange}
+use Rattle.isdb_mmt.specs.Memory.Limits.{placesInRange}
 use borrow.Author.Needs.{needs}
 use Rattle.isdb_mmt.proofs.decoder.limits.places_in_range.Statement.{statement}
 use Rattle.isdb_mmt.proofs.decoder.limits.places_in_range.Tie as tie

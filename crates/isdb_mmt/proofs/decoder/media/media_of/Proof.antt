@@ -1,5 +1,5 @@
 use mathlib.Core.Path.{refl}
-use Rattle.isdb_mmt.specs.Session.{mediaPlaceOf}
+use Rattle.isdb_mmt.specs.Memory.Session.{mediaPlaceOf}
 use borrow.Author.Needs.{needs}
 use Rattle.isdb_mmt.proofs.decoder.media.media_of.Statement.{statement}
 use Rattle.isdb_mmt.proofs.decoder.media.media_of.Tie as tie

@@ -1,4 +1,4 @@
-use Rattle.isdb_mmt.specs.Session.{heldObjectOf}
+use Rattle.isdb_mmt.specs.Memory.Session.{heldObjectOf}
 use mathlib.Core.Path.{refl}
 use borrow.Author.Needs.{needs}
 use Rattle.isdb_mmt.proofs.decoder.media.object_of.Statement.{statement}

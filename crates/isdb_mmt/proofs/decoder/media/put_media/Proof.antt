@@ -1,7 +1,7 @@
 use mathlib.Core.Path.{refl}
 use Rattle.isdb_mmt.proofs.Stored.{filled}
 use native.Mathlib.Omega.{arith}
-use Rattle.isdb_mmt.specs.Session.{mediaFields}
+use Rattle.isdb_mmt.specs.Memory.Session.{mediaFields}
 use borrow.Author.Needs.{needs}
 use Rattle.isdb_mmt.proofs.decoder.media.put_media.Statement.{statement}
 use Rattle.isdb_mmt.proofs.decoder.media.put_media.Tie as tie

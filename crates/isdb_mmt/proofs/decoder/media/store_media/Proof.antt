@@ -1,7 +1,7 @@
 use Rattle.isdb_mmt.proofs.Stored.{sent}
 use Prim.Native.Nat.{_+_, _*_}
-use Rattle.isdb_mmt.specs.Session.{mediaFields}
-use Rattle.isdb_mmt.specs.Layout.{mediaPlaces, mediaSize}
+use Rattle.isdb_mmt.specs.Memory.Session.{mediaFields}
+use Rattle.isdb_mmt.specs.Memory.Layout.{mediaPlaces, mediaSize}
 use borrow.Author.Needs.{needs}
 use Rattle.isdb_mmt.proofs.decoder.media.store_media.Statement.{statement}
 use Rattle.isdb_mmt.proofs.decoder.media.store_media.Tie as tie

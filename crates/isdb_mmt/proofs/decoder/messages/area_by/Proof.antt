@@ -1,5 +1,5 @@
 use Rattle.isdb_mmt.proofs.Fragments.{first-area}
-use Rattle.isdb_mmt.specs.Fragments.{areaBy}
+use Rattle.isdb_mmt.specs.Pushes.Fragments.{areaBy}
 use borrow.Author.Needs.{needs}
 use Rattle.isdb_mmt.proofs.decoder.messages.area_by.Statement.{statement}
 use Rattle.isdb_mmt.proofs.decoder.messages.area_by.Tie as tie

@@ -1,4 +1,4 @@
-use Rattle.isdb_mmt.specs.Fragments.{continued}
+use Rattle.isdb_mmt.specs.Pushes.Fragments.{continued}
 use borrow.Author.Tests.{lt-ltb, le-ltb}
 use borrow.Author.Needs.{needs}
 use Rattle.isdb_mmt.proofs.decoder.messages.continued.Statement.{statement}

@@ -1,6 +1,6 @@
 use Rattle.isdb_mmt.proofs.Fragments.{outcome-by}
 use mathlib.Core.Path.{refl}
-use Rattle.isdb_mmt.specs.Fragments.{fragmentOutcome}
+use Rattle.isdb_mmt.specs.Pushes.Fragments.{fragmentOutcome}
 use borrow.Author.Tests.{lt-ltb}
 use borrow.Author.Needs.{needs}
 use Rattle.isdb_mmt.proofs.decoder.messages.fragment_outcome.Statement.{statement}

@@ -1,4 +1,4 @@
-use Rattle.isdb_mmt.specs.Fragments.{inSequence}
+use Rattle.isdb_mmt.specs.Pushes.Fragments.{inSequence}
 use borrow.Author.Needs.{needs}
 use Rattle.isdb_mmt.proofs.decoder.messages.in_sequence.Statement.{statement}
 use Rattle.isdb_mmt.proofs.decoder.messages.in_sequence.Tie as tie

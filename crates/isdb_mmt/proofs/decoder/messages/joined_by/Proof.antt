@@ -1,5 +1,5 @@
 use Rattle.isdb_mmt.proofs.Fragments.{first-joined, grown-joined}
-use Rattle.isdb_mmt.specs.Fragments.{joinedBy}
+use Rattle.isdb_mmt.specs.Pushes.Fragments.{joinedBy}
 use borrow.Author.Needs.{needs}
 use Rattle.isdb_mmt.proofs.decoder.messages.joined_by.Statement.{statement}
 use Rattle.isdb_mmt.proofs.decoder.messages.joined_by.Tie as tie

@@ -1,5 +1,5 @@
 use Rattle.isdb_mmt.proofs.Fragments.{first-fits, grown-fits, first-laid, grown-laid}
-use Rattle.isdb_mmt.specs.Fragments.{laidBy}
+use Rattle.isdb_mmt.specs.Pushes.Fragments.{laidBy}
 use borrow.Author.Needs.{needs}
 use Rattle.isdb_mmt.proofs.decoder.messages.put_fragment.Statement.{statement}
 use Rattle.isdb_mmt.proofs.decoder.messages.put_fragment.Tie as tie

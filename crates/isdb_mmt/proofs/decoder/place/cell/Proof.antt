@@ -1,4 +1,4 @@
-use Rattle.isdb_mmt.specs.Lent.{cellOf}
+use Rattle.isdb_mmt.specs.Memory.Lent.{cellOf}
 use mathlib.Core.Path.{refl}
 use native.Mathlib.Omega.{arith}
 use borrow.Author.Needs.{needs}

@@ -1,6 +1,6 @@
 use Prim.Native.Nat.{_+_, _*_, _-_, _≤_}
 use mathlib.Core.Path.{_≡_}
-use Rattle.isdb_mmt.specs.Lent.{namesFrom, foundFrom}
+use Rattle.isdb_mmt.specs.Memory.Lent.{namesFrom, foundFrom}
 use Rattle.isdb_mmt.proofs.Names.{next-in, find-hit, find-miss, find-end, find-start}
 use borrow.Author.Needs.{needs}
 use Rattle.isdb_mmt.proofs.decoder.place.find.Statement.{statement}

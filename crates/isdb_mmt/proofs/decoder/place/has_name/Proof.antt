@@ -1,6 +1,6 @@
 use borrow.Author.Needs.{needs}
 use Rattle.isdb_mmt.proofs.Names.{next-in, name-in, among-start, among-hit, among-miss, among-end}
-use Rattle.isdb_mmt.specs.Lent.{namesFrom, among}
+use Rattle.isdb_mmt.specs.Memory.Lent.{namesFrom, among}
 use mathlib.Core.Path.{_≡_}
 use Prim.Native.Nat.{_+_, _-_, _*_, _≤_}
 use Rattle.isdb_mmt.proofs.decoder.place.has_name.Statement.{statement}

@@ -1,6 +1,6 @@
 use borrow.Author.Needs.{needs}
 use Rattle.isdb_mmt.proofs.Names.{next-in, name-in, earlier-in, Marked, none-marked, located-twice, mark-next, all-apart}
-use Rattle.isdb_mmt.specs.Lent.{namesFrom}
+use Rattle.isdb_mmt.specs.Memory.Lent.{namesFrom}
 use mathlib.Core.Path.{_≡_, refl}
 use Prim.Native.Nat.{_+_, _*_, _-_, _≤_}
 use Rattle.isdb_mmt.proofs.decoder.place.no_name_twice.Statement.{statement}

@@ -1,6 +1,6 @@
 use borrow.Author.Needs.{needs}
 use Rattle.isdb_mmt.proofs.Names.{next-in, name-in, earlier-in, none-apart, pair-twice, pair-next, all-pairs}
-use Rattle.isdb_mmt.specs.Lent.{namesFrom, distinct}
+use Rattle.isdb_mmt.specs.Memory.Lent.{namesFrom, distinct}
 use mathlib.Core.Bool.{true}
 use mathlib.Core.Path.{_≡_}
 use Prim.Native.Nat.{_+_, _-_, _*_, _≤_}

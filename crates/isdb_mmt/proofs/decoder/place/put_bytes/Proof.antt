@@ -1,6 +1,6 @@
 use borrow.Author.Needs.{needs}
 use Rattle.isdb_mmt.proofs.Lent.{over-none, copy-next, copied}
-use Rattle.isdb_mmt.specs.Lent.{over}
+use Rattle.isdb_mmt.specs.Memory.Lent.{over}
 use mathlib.Core.Path.{_≡_, refl, sym}
 use lib.ListN.{length, take, length-set}
 use Prim.Native.Nat.{_-_, _≤_}

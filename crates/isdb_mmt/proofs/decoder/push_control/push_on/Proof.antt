@@ -1,6 +1,6 @@
 use Rattle.isdb_mmt.proofs.Loaded.{can-go}
 use Rattle.isdb_mmt.proofs.ControlPush.{control-countable, push-can, push-refused, push-leave, push-taken}
-use Rattle.isdb_mmt.specs.Opening.{lent}
+use Rattle.isdb_mmt.specs.Memory.Opening.{lent}
 use mathlib.Core.Path.{sym, _∙_}
 use native.Mathlib.Omega.{arith}
 use borrow.Author.Needs.{needs}

@@ -1,4 +1,4 @@
-use Rattle.isdb_mmt.specs.MediaPush.{mediaPlaceFor}
+use Rattle.isdb_mmt.specs.Pushes.MediaPush.{mediaPlaceFor}
 use mathlib.Core.Path.{refl}
 use Rattle.isdb_mmt.proofs.Answers.{places-for-there}
 use borrow.Author.Needs.{needs}

@@ -1,4 +1,4 @@
-use Rattle.isdb_mmt.specs.MediaCommit.{passesOn}
+use Rattle.isdb_mmt.specs.Pushes.MediaCommit.{passesOn}
 use borrow.Author.Needs.{needs}
 use Rattle.isdb_mmt.proofs.decoder.push_media.passes_on.Statement.{statement}
 use Rattle.isdb_mmt.proofs.decoder.push_media.passes_on.Tie as tie

@@ -1,6 +1,6 @@
-use Rattle.isdb_mmt.specs.Packet.{messagePacket}
+use Rattle.isdb_mmt.specs.Decoder.Packet.{messagePacket}
 use Rattle.isdb_mmt.proofs.WholeLaws.{whole-countable, whole-walk, whole-before, at-refused, at-counts, at-state, at-areas, at-taken}
-use Rattle.isdb_mmt.specs.Opening.{lent}
+use Rattle.isdb_mmt.specs.Memory.Opening.{lent}
 use native.Mathlib.Omega.{arith}
 use borrow.Author.Needs.{needs}
 use Rattle.isdb_mmt.proofs.decoder.push_message.whole_at.Statement.{statement}

@@ -1,5 +1,5 @@
 use Rattle.isdb_mmt.proofs.ReadSteps.{asked-no, asked-yes}
-use Rattle.isdb_mmt.specs.Readings.{countersRead}
+use Rattle.isdb_mmt.specs.Answers.Readings.{countersRead}
 use borrow.Author.Needs.{needs}
 use Rattle.isdb_mmt.proofs.decoder.readings.counters.Statement.{statement}
 use Rattle.isdb_mmt.proofs.decoder.readings.counters.Tie as tie

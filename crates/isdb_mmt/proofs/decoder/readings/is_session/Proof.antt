@@ -1,4 +1,4 @@
-use Rattle.isdb_mmt.specs.Check.{sound}
+use Rattle.isdb_mmt.specs.Memory.Check.{sound}
 use borrow.Author.Needs.{needs}
 use Rattle.isdb_mmt.proofs.decoder.readings.is_session.Statement.{statement}
 use Rattle.isdb_mmt.proofs.decoder.readings.is_session.Tie as tie

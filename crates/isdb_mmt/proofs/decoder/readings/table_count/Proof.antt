@@ -1,5 +1,5 @@
 use Rattle.isdb_mmt.proofs.ReadSteps.{asked-no, asked-yes}
-use Rattle.isdb_mmt.specs.Readings.{countRead}
+use Rattle.isdb_mmt.specs.Answers.Readings.{countRead}
 use borrow.Author.Needs.{needs}
 use Rattle.isdb_mmt.proofs.decoder.readings.table_count.Statement.{statement}
 use Rattle.isdb_mmt.proofs.decoder.readings.table_count.Tie as tie

@@ -1,5 +1,5 @@
 use Rattle.isdb_mmt.proofs.ReadSteps.{asked-no, asked-yes}
-use Rattle.isdb_mmt.specs.Readings.{timeRead}
+use Rattle.isdb_mmt.specs.Answers.Readings.{timeRead}
 use borrow.Author.Needs.{needs}
 use Rattle.isdb_mmt.proofs.decoder.readings.time.Statement.{statement}
 use Rattle.isdb_mmt.proofs.decoder.readings.time.Tie as tie

@@ -1,5 +1,5 @@
 use Rattle.isdb_mmt.proofs.MediaOutcomes.{sum-fits}
-use Rattle.isdb_mmt.specs.MediaPlace.{summed}
+use Rattle.isdb_mmt.specs.Pushes.MediaPlace.{summed}
 use mathlib.Core.Path.{refl}
 use borrow.Author.Needs.{needs}
 use Rattle.isdb_mmt.proofs.decoder.reassembler.add_stats.Statement.{statement}

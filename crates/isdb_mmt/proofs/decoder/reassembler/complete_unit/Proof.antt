@@ -1,6 +1,6 @@
 use mathlib.Core.Path.{refl}
 use Rattle.isdb_mmt.proofs.MediaEffects.{one-fits}
-use Rattle.isdb_mmt.specs.MediaEffect.{completeUnit}
+use Rattle.isdb_mmt.specs.Pushes.MediaEffect.{completeUnit}
 use borrow.Author.Needs.{needs}
 use Rattle.isdb_mmt.proofs.decoder.reassembler.complete_unit.Statement.{statement}
 use Rattle.isdb_mmt.proofs.decoder.reassembler.complete_unit.Tie as tie

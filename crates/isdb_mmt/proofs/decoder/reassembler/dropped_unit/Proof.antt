@@ -1,5 +1,5 @@
 use mathlib.Core.Path.{refl}
-use Rattle.isdb_mmt.specs.MediaEffect.{droppedUnit}
+use Rattle.isdb_mmt.specs.Pushes.MediaEffect.{droppedUnit}
 use borrow.Author.Needs.{needs}
 use Rattle.isdb_mmt.proofs.decoder.reassembler.dropped_unit.Statement.{statement}
 use Rattle.isdb_mmt.proofs.decoder.reassembler.dropped_unit.Tie as tie

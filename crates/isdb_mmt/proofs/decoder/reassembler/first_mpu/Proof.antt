@@ -1,4 +1,4 @@
-use Rattle.isdb_mmt.specs.MediaPlace.{firstMpu}
+use Rattle.isdb_mmt.specs.Pushes.MediaPlace.{firstMpu}
 use borrow.Author.Needs.{needs}
 use Rattle.isdb_mmt.proofs.decoder.reassembler.first_mpu.Statement.{statement}
 use Rattle.isdb_mmt.proofs.decoder.reassembler.first_mpu.Tie as tie

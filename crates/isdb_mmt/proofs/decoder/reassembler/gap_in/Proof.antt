@@ -1,4 +1,4 @@
-use Rattle.isdb_mmt.specs.MediaPlace.{gapIn}
+use Rattle.isdb_mmt.specs.Pushes.MediaPlace.{gapIn}
 use borrow.Author.Needs.{needs}
 use Rattle.isdb_mmt.proofs.decoder.reassembler.gap_in.Statement.{statement}
 use Rattle.isdb_mmt.proofs.decoder.reassembler.gap_in.Tie as tie

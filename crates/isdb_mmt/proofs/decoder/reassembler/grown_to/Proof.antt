@@ -1,4 +1,4 @@
-use Rattle.isdb_mmt.specs.MediaEffect.{grownTo}
+use Rattle.isdb_mmt.specs.Pushes.MediaEffect.{grownTo}
 use borrow.Author.Needs.{needs}
 use Rattle.isdb_mmt.proofs.decoder.reassembler.grown_to.Statement.{statement}
 use Rattle.isdb_mmt.proofs.decoder.reassembler.grown_to.Tie as tie

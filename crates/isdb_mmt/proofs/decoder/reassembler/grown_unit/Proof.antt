@@ -1,5 +1,5 @@
 use borrow.Author.Tests.{le-leb, lt-leb}
-use Rattle.isdb_mmt.specs.MediaEffect.{grownUnit}
+use Rattle.isdb_mmt.specs.Pushes.MediaEffect.{grownUnit}
 use borrow.Author.Needs.{needs}
 use Rattle.isdb_mmt.proofs.decoder.reassembler.grown_unit.Statement.{statement}
 use Rattle.isdb_mmt.proofs.decoder.reassembler.grown_unit.Tie as tie

@@ -1,6 +1,6 @@
 use mathlib.Core.Path.{sym, ap}
 use borrow.Author.Needs.{needs}
-use Rattle.isdb_mmt.specs.Records.{headerOr}
+use Rattle.isdb_mmt.specs.Pushes.Records.{headerOr}
 use Rattle.isdb_mmt.proofs.decoder.reassembler.header_or.Statement.{statement}
 use Rattle.isdb_mmt.proofs.decoder.reassembler.header_or.Tie as tie
 

@@ -1,4 +1,4 @@
-use Rattle.isdb_mmt.specs.MediaPlace.{jumpIn}
+use Rattle.isdb_mmt.specs.Pushes.MediaPlace.{jumpIn}
 use borrow.Author.Tests.{eq-eqb, ne-eqb}
 use borrow.Author.Needs.{needs}
 use Rattle.isdb_mmt.proofs.decoder.reassembler.jump_in.Statement.{statement}

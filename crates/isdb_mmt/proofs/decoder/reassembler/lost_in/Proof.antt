@@ -1,4 +1,4 @@
-use Rattle.isdb_mmt.specs.MediaPlace.{lostIn}
+use Rattle.isdb_mmt.specs.Pushes.MediaPlace.{lostIn}
 use borrow.Author.Needs.{needs}
 use Rattle.isdb_mmt.proofs.decoder.reassembler.lost_in.Statement.{statement}
 use Rattle.isdb_mmt.proofs.decoder.reassembler.lost_in.Tie as tie

@@ -1,4 +1,4 @@
-use Rattle.isdb_mmt.specs.MediaPlace.{newIn}
+use Rattle.isdb_mmt.specs.Pushes.MediaPlace.{newIn}
 use borrow.Author.Needs.{needs}
 use Rattle.isdb_mmt.proofs.decoder.reassembler.new_in.Statement.{statement}
 use Rattle.isdb_mmt.proofs.decoder.reassembler.new_in.Tie as tie

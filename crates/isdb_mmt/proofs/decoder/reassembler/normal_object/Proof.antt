@@ -1,4 +1,4 @@
-use Rattle.isdb_mmt.specs.MediaPlace.{normalObject}
+use Rattle.isdb_mmt.specs.Pushes.MediaPlace.{normalObject}
 use borrow.Author.Needs.{needs}
 use Rattle.isdb_mmt.proofs.decoder.reassembler.normal_object.Statement.{statement}
 use Rattle.isdb_mmt.proofs.decoder.reassembler.normal_object.Tie as tie

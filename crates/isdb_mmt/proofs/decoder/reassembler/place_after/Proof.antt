@@ -1,5 +1,5 @@
 use Rattle.isdb_mmt.proofs.MediaOutcomes.{adds-small}
-use Rattle.isdb_mmt.specs.MediaPlace.{placeAfter, statsAfter}
+use Rattle.isdb_mmt.specs.Pushes.MediaPlace.{placeAfter, statsAfter}
 use borrow.Author.Needs.{needs}
 use Rattle.isdb_mmt.proofs.decoder.reassembler.place_after.Statement.{statement}
 use Rattle.isdb_mmt.proofs.decoder.reassembler.place_after.Tie as tie

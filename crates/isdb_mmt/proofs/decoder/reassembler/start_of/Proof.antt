@@ -1,4 +1,4 @@
-use Rattle.isdb_mmt.specs.MediaPlace.{startOf}
+use Rattle.isdb_mmt.specs.Pushes.MediaPlace.{startOf}
 use borrow.Author.Needs.{needs}
 use Rattle.isdb_mmt.proofs.decoder.reassembler.start_of.Statement.{statement}
 use Rattle.isdb_mmt.proofs.decoder.reassembler.start_of.Tie as tie

@@ -1,4 +1,4 @@
-use Rattle.isdb_mmt.specs.MediaEffect.{withUnit}
+use Rattle.isdb_mmt.specs.Pushes.MediaEffect.{withUnit}
 use borrow.Author.Needs.{needs}
 use Rattle.isdb_mmt.proofs.decoder.reassembler.step.Statement.{statement}
 use Rattle.isdb_mmt.proofs.decoder.reassembler.step.Tie as tie

@@ -1,5 +1,5 @@
 use mathlib.Core.Path.{refl}
-use Rattle.isdb_mmt.specs.MediaEffect.{unitObject}
+use Rattle.isdb_mmt.specs.Pushes.MediaEffect.{unitObject}
 use borrow.Author.Needs.{needs}
 use Rattle.isdb_mmt.proofs.decoder.reassembler.unit_object.Statement.{statement}
 use Rattle.isdb_mmt.proofs.decoder.reassembler.unit_object.Tie as tie

@@ -1,7 +1,7 @@
 use Rattle.isdb_tlv.proofs.Numbers.{length-putBe}
 use mathlib.Core.Path.{refl}
 use Rattle.isdb_mmt.proofs.Stored.{filled}
-use Rattle.isdb_mmt.specs.Records.{rowFields}
+use Rattle.isdb_mmt.specs.Pushes.Records.{rowFields}
 use borrow.Author.Needs.{needs}
 use Rattle.isdb_mmt.proofs.decoder.records.put_row_in.Statement.{statement}
 use Rattle.isdb_mmt.proofs.decoder.records.put_row_in.Tie as tie

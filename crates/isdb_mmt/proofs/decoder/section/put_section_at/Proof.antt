@@ -1,5 +1,5 @@
 use Rattle.isdb_mmt.proofs.Lent.{put-none}
-use Rattle.isdb_mmt.specs.Session.{sectionFields}
+use Rattle.isdb_mmt.specs.Memory.Session.{sectionFields}
 use Rattle.isdb_mmt.proofs.Stored.{stored}
 use native.Mathlib.Omega.{arith}
 use mathlib.Core.Path.{refl}

@@ -1,5 +1,5 @@
 use mathlib.Core.Path.{refl}
-use Rattle.isdb_mmt.specs.Session.{sectionPlaceOf}
+use Rattle.isdb_mmt.specs.Memory.Session.{sectionPlaceOf}
 use borrow.Author.Needs.{needs}
 use Rattle.isdb_mmt.proofs.decoder.section.section_at.Statement.{statement}
 use Rattle.isdb_mmt.proofs.decoder.section.section_at.Tie as tie

@@ -1,4 +1,4 @@
-use Rattle.isdb_mmt.specs.TableOutcome.{bodyFrom}
+use Rattle.isdb_mmt.specs.Pushes.TableOutcome.{bodyFrom}
 use borrow.Author.Tests.{ne-eqb}
 use borrow.Author.Needs.{needs}
 use Rattle.isdb_mmt.proofs.decoder.table_outcome.body_read.Statement.{statement}

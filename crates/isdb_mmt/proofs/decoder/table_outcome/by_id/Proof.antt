@@ -1,7 +1,7 @@
 use Rattle.isdb_mmt.proofs.TableOutcomes.{long-is}
 use mathlib.Core.Path.{_∙_, sym}
-use Rattle.isdb_mmt.specs.TableOutcome.{tableOutcome}
-use Rattle.isdb_mmt.specs.Kept.{tableById}
+use Rattle.isdb_mmt.specs.Pushes.TableOutcome.{tableOutcome}
+use Rattle.isdb_mmt.specs.Decoder.Kept.{tableById}
 use borrow.Author.Tests.{lt-ltb, le-ltb, le-leb, lt-leb, eq-eqb, ne-eqb}
 use borrow.Author.Needs.{needs}
 use Rattle.isdb_mmt.proofs.decoder.table_outcome.by_id.Statement.{statement}

@@ -1,5 +1,5 @@
 use mathlib.Core.Path.{refl}
-use Rattle.isdb_mmt.specs.Session.{countersOf, limitsOf}
+use Rattle.isdb_mmt.specs.Memory.Session.{countersOf, limitsOf}
 use borrow.Author.Needs.{needs}
 use Rattle.isdb_mmt.proofs.decoder.take.may_take.Statement.{statement}
 use Rattle.isdb_mmt.proofs.decoder.take.may_take.Tie as tie

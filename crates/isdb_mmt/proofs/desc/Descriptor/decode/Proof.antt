@@ -1,5 +1,5 @@
 use borrow.Author.Tests.{ne-eqb}
-use Rattle.isdb_mmt.specs.Desc.{descriptorOf}
+use Rattle.isdb_mmt.specs.Formats.Desc.{descriptorOf}
 use borrow.Author.Needs.{needs}
 use Rattle.isdb_mmt.proofs.desc.Descriptor.decode.Statement.{statement}
 use Rattle.isdb_mmt.proofs.desc.Descriptor.decode.Tie as tie

@@ -1,5 +1,5 @@
 use borrow.Author.Tests.{lt-ltb, le-ltb, ne-eqb}
-use Rattle.isdb_mmt.specs.Location.{locationOf}
+use Rattle.isdb_mmt.specs.Formats.Location.{locationOf}
 use Rattle.isdb_tlv.proofs.Fields.{be-one}
 use borrow.Author.Needs.{needs}
 use Rattle.isdb_mmt.proofs.location.Location.parse.Statement.{statement}

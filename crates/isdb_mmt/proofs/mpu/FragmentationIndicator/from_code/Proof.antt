@@ -1,5 +1,5 @@
 use borrow.Author.Tests.{ne-eqb}
-use Rattle.isdb_mmt.specs.Mpu.{indicator}
+use Rattle.isdb_mmt.specs.Formats.Mpu.{indicator}
 use Rattle.isdb_mmt.proofs.mpu.FragmentationIndicator.from_code.Statement.{statement}
 use Rattle.isdb_mmt.proofs.mpu.FragmentationIndicator.from_code.Tie as tie
 

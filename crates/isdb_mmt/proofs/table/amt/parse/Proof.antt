@@ -1,4 +1,4 @@
-use Rattle.isdb_mmt.specs.Amt.{amtOf}
+use Rattle.isdb_mmt.specs.Formats.Amt.{amtOf}
 use borrow.Author.Needs.{needs}
 use Rattle.isdb_mmt.proofs.table.amt.parse.Statement.{statement}
 use Rattle.isdb_mmt.proofs.table.amt.parse.Tie as tie

@@ -1,4 +1,4 @@
-use Rattle.isdb_mmt.specs.Amt.{amtBody}
+use Rattle.isdb_mmt.specs.Formats.Amt.{amtBody}
 use borrow.Author.Tests.{lt-ltb, le-ltb}
 use borrow.Author.Needs.{needs}
 use Rattle.isdb_mmt.proofs.table.amt.read.Statement.{statement}

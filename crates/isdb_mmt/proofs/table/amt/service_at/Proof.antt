@@ -1,5 +1,5 @@
 use borrow.Author.Tests.{lt-ltb, le-ltb}
-use Rattle.isdb_mmt.specs.Amt.{serviceAt}
+use Rattle.isdb_mmt.specs.Formats.Amt.{serviceAt}
 use native.Mathlib.Omega.{arith}
 use Rattle.isdb_mmt.proofs.Services.{size-le}
 use Prim.Native.Nat.{_/_}

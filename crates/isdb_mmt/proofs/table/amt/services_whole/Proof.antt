@@ -1,6 +1,6 @@
 use borrow.Author.Needs.{needs}
 use Rattle.isdb_mmt.proofs.Services.{whole-zero, whole-none, whole-on}
-use Rattle.isdb_mmt.specs.Amt.{servicesWhole}
+use Rattle.isdb_mmt.specs.Formats.Amt.{servicesWhole}
 use native.Mathlib.Omega.{arith}
 use mathlib.Core.Path.{_≡_, sym, _∙_}
 use Rattle.isdb_mmt.proofs.table.amt.services_whole.Statement.{statement}

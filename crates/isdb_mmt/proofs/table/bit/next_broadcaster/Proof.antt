@@ -1,4 +1,4 @@
-use Rattle.isdb_mmt.specs.Bit.{broadcasterStep}
+use Rattle.isdb_mmt.specs.Formats.Bit.{broadcasterStep}
 use borrow.Author.Needs.{needs}
 use Rattle.isdb_mmt.proofs.table.bit.next_broadcaster.Statement.{statement}
 use Rattle.isdb_mmt.proofs.table.bit.next_broadcaster.Tie as tie

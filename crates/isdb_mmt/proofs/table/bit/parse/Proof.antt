@@ -1,4 +1,4 @@
-use Rattle.isdb_mmt.specs.Bit.{bitOf}
+use Rattle.isdb_mmt.specs.Formats.Bit.{bitOf}
 use borrow.Author.Needs.{needs}
 use Rattle.isdb_mmt.proofs.table.bit.parse.Statement.{statement}
 use Rattle.isdb_mmt.proofs.table.bit.parse.Tie as tie

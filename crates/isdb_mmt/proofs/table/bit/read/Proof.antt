@@ -1,6 +1,6 @@
 use borrow.Author.Tests.{lt-ltb, le-ltb, not-true, not-false}
 use native.Mathlib.Omega.{arith}
-use Rattle.isdb_mmt.specs.Bit.{bitBody}
+use Rattle.isdb_mmt.specs.Formats.Bit.{bitBody}
 use Rattle.isdb_mmt.proofs.Entries.{whole-told, count-told, breaks-told, broken-le, breaks-le}
 use Rattle.isdb_tlv.proofs.Fields.{be-one}
 use borrow.Author.Needs.{needs}

@@ -1,4 +1,4 @@
-use Rattle.isdb_mmt.specs.Eit.{eventStep}
+use Rattle.isdb_mmt.specs.Formats.Eit.{eventStep}
 use borrow.Author.Needs.{needs}
 use Rattle.isdb_mmt.proofs.table.eit.next_event.Statement.{statement}
 use Rattle.isdb_mmt.proofs.table.eit.next_event.Tie as tie

@@ -1,4 +1,4 @@
-use Rattle.isdb_mmt.specs.Eit.{eitOf}
+use Rattle.isdb_mmt.specs.Formats.Eit.{eitOf}
 use borrow.Author.Needs.{needs}
 use Rattle.isdb_mmt.proofs.table.eit.parse.Statement.{statement}
 use Rattle.isdb_mmt.proofs.table.eit.parse.Tie as tie

@@ -1,5 +1,5 @@
 use borrow.Author.Tests.{lt-ltb, le-ltb, not-true, not-false}
-use Rattle.isdb_mmt.specs.Eit.{eitBody}
+use Rattle.isdb_mmt.specs.Formats.Eit.{eitBody}
 use Rattle.isdb_mmt.proofs.Entries.{whole-told, count-told, breaks-told}
 use Rattle.isdb_tlv.proofs.Fields.{be-one}
 use borrow.Author.Needs.{needs}

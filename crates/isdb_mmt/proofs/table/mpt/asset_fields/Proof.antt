@@ -1,5 +1,5 @@
 use borrow.Author.Tests.{lt-ltb, le-ltb}
-use Rattle.isdb_mmt.specs.Mpt.{assetFields}
+use Rattle.isdb_mmt.specs.Formats.Mpt.{assetFields}
 use Rattle.isdb_mmt.proofs.Fields.{first-field, field, byte-field}
 use Rattle.isdb_tlv.proofs.Fields.{be-one}
 use borrow.Author.Needs.{needs}

@@ -1,5 +1,5 @@
 use Rattle.isdb_mmt.proofs.Assets.{no-tag}
-use Rattle.isdb_mmt.specs.Mpt.{componentTag}
+use Rattle.isdb_mmt.specs.Formats.Mpt.{componentTag}
 use borrow.Author.Needs.{needs}
 use Rattle.isdb_mmt.proofs.table.mpt.component_tag.Statement.{statement}
 use Rattle.isdb_mmt.proofs.table.mpt.component_tag.Tie as tie

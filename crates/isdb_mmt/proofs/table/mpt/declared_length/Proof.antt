@@ -1,4 +1,4 @@
-use Rattle.isdb_mmt.specs.Mpt.{declaredLength}
+use Rattle.isdb_mmt.specs.Formats.Mpt.{declaredLength}
 use borrow.Author.Tests.{lt-ltb, le-ltb}
 use borrow.Author.Needs.{needs}
 use Rattle.isdb_mmt.proofs.table.mpt.declared_length.Statement.{statement}

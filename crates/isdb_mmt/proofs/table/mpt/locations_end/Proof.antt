@@ -1,7 +1,7 @@
 use borrow.Author.Needs.{needs}
 use mathlib.Core.Path.{_≡_, sym, _∙_}
 use native.Mathlib.Omega.{arith}
-use Rattle.isdb_mmt.specs.Mpt.{locationsEnd}
+use Rattle.isdb_mmt.specs.Formats.Mpt.{locationsEnd}
 use Rattle.isdb_mmt.proofs.Assets.{location-within, end-none, end-on}
 use Rattle.isdb_mmt.proofs.table.mpt.locations_end.Statement.{statement}
 use Rattle.isdb_mmt.proofs.table.mpt.locations_end.Tie as tie

@@ -1,5 +1,5 @@
 use borrow.Author.Needs.{needs}
-use Rattle.isdb_mmt.specs.Mpt.{mptOf}
+use Rattle.isdb_mmt.specs.Formats.Mpt.{mptOf}
 use Rattle.isdb_mmt.proofs.table.mpt.parse.Statement.{statement}
 use Rattle.isdb_mmt.proofs.table.mpt.parse.Tie as tie
 

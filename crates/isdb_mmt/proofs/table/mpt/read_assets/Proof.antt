@@ -1,5 +1,5 @@
 use borrow.Author.Needs.{needs}
-use Rattle.isdb_mmt.specs.Mpt.{mptAssets}
+use Rattle.isdb_mmt.specs.Formats.Mpt.{mptAssets}
 use borrow.Author.Tests.{lt-ltb, le-ltb, not-true, not-false}
 use native.Mathlib.Omega.{arith}
 use Rattle.isdb_mmt.proofs.Entries.{broken-le}

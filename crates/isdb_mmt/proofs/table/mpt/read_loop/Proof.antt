@@ -2,7 +2,7 @@ use Rattle.isdb_mmt.proofs.Entries.{broken-le}
 use native.Mathlib.Nat.{add-zero}
 use borrow.Author.Needs.{needs}
 use Rattle.isdb_mmt.proofs.Assets.{plus, plus-zero, loop-end, loop-on}
-use Rattle.isdb_mmt.specs.Mpt.{assetsFrom, assetsTold}
+use Rattle.isdb_mmt.specs.Formats.Mpt.{assetsFrom, assetsTold}
 use native.Mathlib.Omega.{arith}
 use Prim.Native.Nat.{_+_, _≤_}
 use mathlib.Core.Path.{_≡_, sym, _∙_}

@@ -2,7 +2,7 @@ use borrow.Author.Needs.{needs}
 use Prim.Native.Nat.{_-_, _≤_}
 use Rattle.isdb_mmt.proofs.Nits.{bcd-lt, bcd-on, bcd-none}
 use Rattle.isdb_mmt.specs.declared.maybe.MaybeU64.the-variants.{Some as someU64}
-use Rattle.isdb_mmt.specs.Nit.{bcdFrom}
+use Rattle.isdb_mmt.specs.Formats.Nit.{bcdFrom}
 use native.Mathlib.Omega.{arith}
 use mathlib.Core.Path.{_≡_, refl, sym}
 use Rattle.isdb_mmt.proofs.table.nit.bcd.Statement.{statement}

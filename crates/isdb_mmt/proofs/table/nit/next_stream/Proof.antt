@@ -1,4 +1,4 @@
-use Rattle.isdb_mmt.specs.Nit.{streamStep}
+use Rattle.isdb_mmt.specs.Formats.Nit.{streamStep}
 use borrow.Author.Needs.{needs}
 use Rattle.isdb_mmt.proofs.table.nit.next_stream.Statement.{statement}
 use Rattle.isdb_mmt.proofs.table.nit.next_stream.Tie as tie

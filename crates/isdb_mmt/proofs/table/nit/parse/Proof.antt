@@ -1,4 +1,4 @@
-use Rattle.isdb_mmt.specs.Nit.{nitOf}
+use Rattle.isdb_mmt.specs.Formats.Nit.{nitOf}
 use borrow.Author.Needs.{needs}
 use Rattle.isdb_mmt.proofs.table.nit.parse.Statement.{statement}
 use Rattle.isdb_mmt.proofs.table.nit.parse.Tie as tie

@@ -1,4 +1,4 @@
-use Rattle.isdb_mmt.specs.Nit.{nitBody}
+use Rattle.isdb_mmt.specs.Formats.Nit.{nitBody}
 use borrow.Author.Tests.{lt-ltb, le-ltb, not-true, not-false}
 use Rattle.isdb_mmt.proofs.Entries.{whole-told, count-told}
 use borrow.Author.Needs.{needs}

@@ -1,7 +1,7 @@
 use Rattle.isdb_mmt.proofs.Nits.{bcd-lt}
 use native.Mathlib.Omega.{arith}
 use mathlib.Core.Path.{sym, _∙_}
-use Rattle.isdb_mmt.specs.Nit.{frequencyOf}
+use Rattle.isdb_mmt.specs.Formats.Nit.{frequencyOf}
 use borrow.Author.Tests.{lt-ltb, le-ltb, eq-eqb, ne-eqb}
 use borrow.Author.Needs.{needs}
 use Rattle.isdb_mmt.proofs.table.nit.satellite_frequency_khz.Statement.{statement}

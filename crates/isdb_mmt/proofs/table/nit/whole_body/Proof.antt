@@ -1,4 +1,4 @@
-use Rattle.isdb_mmt.specs.Nit.{wholeBody}
+use Rattle.isdb_mmt.specs.Formats.Nit.{wholeBody}
 use borrow.Author.Tests.{eq-eqb, ne-eqb}
 use Rattle.isdb_mmt.proofs.table.nit.whole_body.Statement.{statement}
 use Rattle.isdb_mmt.proofs.table.nit.whole_body.Tie as tie

@@ -1,6 +1,6 @@
 use borrow.Author.Needs.{needs}
 use Rattle.isdb_mmt.proofs.Packages.{whole-zero, whole-none, whole-on}
-use Rattle.isdb_mmt.specs.Plt.{deliveriesWhole}
+use Rattle.isdb_mmt.specs.Formats.Plt.{deliveriesWhole}
 use native.Mathlib.Omega.{arith}
 use mathlib.Core.Path.{_≡_, sym, _∙_}
 use Rattle.isdb_mmt.proofs.table.plt.deliveries_whole.Statement.{statement}

@@ -1,4 +1,4 @@
-use Rattle.isdb_mmt.specs.Plt.{deliveryAt}
+use Rattle.isdb_mmt.specs.Formats.Plt.{deliveryAt}
 use borrow.Author.Tests.{lt-ltb, le-ltb}
 use mathlib.Core.Path.{sym, _∙_}
 use native.Mathlib.Omega.{arith}

@@ -1,6 +1,6 @@
 use borrow.Author.Needs.{needs}
 use Rattle.isdb_mmt.proofs.Packages.{end-none, end-on}
-use Rattle.isdb_mmt.specs.Plt.{packagesEnd}
+use Rattle.isdb_mmt.specs.Formats.Plt.{packagesEnd}
 use native.Mathlib.Omega.{arith}
 use mathlib.Core.Path.{_≡_, sym, _∙_}
 use Rattle.isdb_mmt.proofs.table.plt.packages_end.Statement.{statement}

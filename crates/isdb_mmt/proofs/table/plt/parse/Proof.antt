@@ -1,4 +1,4 @@
-use Rattle.isdb_mmt.specs.Plt.{pltOf}
+use Rattle.isdb_mmt.specs.Formats.Plt.{pltOf}
 use borrow.Author.Needs.{needs}
 use Rattle.isdb_mmt.proofs.table.plt.parse.Statement.{statement}
 use Rattle.isdb_mmt.proofs.table.plt.parse.Tie as tie

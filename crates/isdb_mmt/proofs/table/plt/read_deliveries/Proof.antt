@@ -1,5 +1,5 @@
 use borrow.Author.Tests.{eq-eqb, ne-eqb}
-use Rattle.isdb_mmt.specs.Plt.{pltDeliveries}
+use Rattle.isdb_mmt.specs.Formats.Plt.{pltDeliveries}
 use Rattle.isdb_tlv.proofs.Fields.{be-one}
 use borrow.Author.Needs.{needs}
 use Rattle.isdb_mmt.proofs.table.plt.read_deliveries.Statement.{statement}

@@ -1,4 +1,4 @@
-use Rattle.isdb_mmt.specs.Sdt.{serviceStep}
+use Rattle.isdb_mmt.specs.Formats.Sdt.{serviceStep}
 use borrow.Author.Needs.{needs}
 use Rattle.isdb_mmt.proofs.table.sdt.next_service.Statement.{statement}
 use Rattle.isdb_mmt.proofs.table.sdt.next_service.Tie as tie

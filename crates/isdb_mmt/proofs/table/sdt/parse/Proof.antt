@@ -1,4 +1,4 @@
-use Rattle.isdb_mmt.specs.Sdt.{sdtOf}
+use Rattle.isdb_mmt.specs.Formats.Sdt.{sdtOf}
 use borrow.Author.Needs.{needs}
 use Rattle.isdb_mmt.proofs.table.sdt.parse.Statement.{statement}
 use Rattle.isdb_mmt.proofs.table.sdt.parse.Tie as tie

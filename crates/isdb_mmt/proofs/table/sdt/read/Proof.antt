@@ -1,5 +1,5 @@
 use borrow.Author.Tests.{lt-ltb, le-ltb, not-true, not-false}
-use Rattle.isdb_mmt.specs.Sdt.{sdtBody}
+use Rattle.isdb_mmt.specs.Formats.Sdt.{sdtBody}
 use Rattle.isdb_mmt.proofs.Entries.{whole-told, count-told, breaks-told}
 use borrow.Author.Needs.{needs}
 use Rattle.isdb_mmt.proofs.table.sdt.read.Statement.{statement}

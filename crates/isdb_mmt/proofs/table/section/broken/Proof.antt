@@ -1,4 +1,4 @@
-use Rattle.isdb_mmt.specs.Desc.{counted}
+use Rattle.isdb_mmt.specs.Formats.Desc.{counted}
 use borrow.Author.Needs.{needs}
 use Rattle.isdb_mmt.proofs.table.section.broken.Statement.{statement}
 use Rattle.isdb_mmt.proofs.table.section.broken.Tie as tie

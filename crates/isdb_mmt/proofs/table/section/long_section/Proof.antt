@@ -1,5 +1,5 @@
 use borrow.Author.Tests.{lt-ltb, le-ltb, eq-eqb, ne-eqb}
-use Rattle.isdb_mmt.specs.Section.{longSectionOf}
+use Rattle.isdb_mmt.specs.Formats.Section.{longSectionOf}
 use borrow.Author.Needs.{needs}
 use Rattle.isdb_mmt.proofs.table.section.long_section.Statement.{statement}
 use Rattle.isdb_mmt.proofs.table.section.long_section.Tie as tie

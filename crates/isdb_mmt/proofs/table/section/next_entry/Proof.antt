@@ -1,4 +1,4 @@
-use Rattle.isdb_mmt.specs.Section.{entryAt}
+use Rattle.isdb_mmt.specs.Formats.Section.{entryAt}
 use borrow.Author.Tests.{lt-ltb, le-ltb, le-leb, lt-leb}
 use borrow.Author.Needs.{needs}
 use Rattle.isdb_mmt.proofs.table.section.next_entry.Statement.{statement}

@@ -1,10 +1,10 @@
-use Rattle.isdb_mmt.specs.Desc.{broken}
+use Rattle.isdb_mmt.specs.Formats.Desc.{broken}
 use mathlib.Core.Path.{_≡_, sym, ap, _∙_}
 use borrow.Author.Needs.{needs}
 use Prim.Native.Nat.{_-_, _≤_}
 use native.Mathlib.Omega.{arith}
 use lib.ListN.{length}
-use Rattle.isdb_mmt.specs.Section.{entriesFrom, entriesTold}
+use Rattle.isdb_mmt.specs.Formats.Section.{entriesFrom, entriesTold}
 use Rattle.isdb_mmt.proofs.Entries.{entry-lies, broken-le, plus, plus-zero, count-end, count-malformed, count-on}
 use Rattle.isdb_mmt.proofs.table.section.read_entries.Statement.{statement}
 use Rattle.isdb_mmt.proofs.table.section.read_entries.Tie as tie

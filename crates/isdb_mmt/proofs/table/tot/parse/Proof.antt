@@ -1,5 +1,5 @@
 use borrow.Author.Tests.{lt-ltb, le-ltb, eq-eqb, ne-eqb}
-use Rattle.isdb_mmt.specs.Tot.{totOf}
+use Rattle.isdb_mmt.specs.Formats.Tot.{totOf}
 use borrow.Author.Needs.{needs}
 use Rattle.isdb_mmt.proofs.table.tot.parse.Statement.{statement}
 use Rattle.isdb_mmt.proofs.table.tot.parse.Tie as tie
@@ -32,9 +32,9 @@ parse-spec =
     returns
     (λ c κs. search needs)
     (λ c. search needs)
-    (λ c. search needs)
     (λ c κs. search needs)
     returns-2
+    (λ c. search needs)
     (λ c κs. search needs)
     returns-3
     (λ c κs. search needs)

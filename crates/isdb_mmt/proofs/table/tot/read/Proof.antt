@@ -1,6 +1,6 @@
 use borrow.Author.Tests.{lt-ltb, le-ltb}
 use native.Mathlib.Omega.{arith}
-use Rattle.isdb_mmt.specs.Tot.{totFields}
+use Rattle.isdb_mmt.specs.Formats.Tot.{totFields}
 use Rattle.isdb_mmt.proofs.Fields.{long-within}
 use borrow.Author.Needs.{needs}
 use Rattle.isdb_mmt.proofs.table.tot.read.Statement.{statement}

@@ -1,6 +1,6 @@
 use borrow.Author.Needs.{needs}
 use Rattle.isdb_mmt.proofs.Assets.{location-within, first-none, first-some, first-on}
-use Rattle.isdb_mmt.specs.Mpt.{locationsOf, firstPacketId}
+use Rattle.isdb_mmt.specs.Formats.Mpt.{locationsOf, firstPacketId}
 use native.Mathlib.Omega.{arith}
 use mathlib.Core.Path.{_≡_, sym, _∙_}
 use Rattle.isdb_mmt.proofs.table.mpt.Asset.packet_id.Statement.{statement}

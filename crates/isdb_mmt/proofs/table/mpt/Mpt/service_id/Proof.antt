@@ -1,6 +1,6 @@
 use Rattle.isdb_tlv.proofs.Numbers.{be-drop}
 use native.Mathlib.Nat.{add-zero}
-use Rattle.isdb_mmt.specs.Mpt.{serviceId}
+use Rattle.isdb_mmt.specs.Formats.Mpt.{serviceId}
 use borrow.Author.Tests.{lt-ltb, le-ltb}
 use borrow.Author.Needs.{needs}
 use Rattle.isdb_mmt.proofs.table.mpt.Mpt.service_id.Statement.{statement}

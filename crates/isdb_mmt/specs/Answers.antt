@@ -1,0 +1,4 @@
+pub mod Readings
+pub mod ReadingLaws
+pub mod KeptParts
+pub mod TableReadingLaws

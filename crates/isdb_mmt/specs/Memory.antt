@@ -1,0 +1,9 @@
+pub mod Layout
+pub mod Lent
+pub mod Limits
+pub mod Session
+pub mod Check
+pub mod Opening
+pub mod View
+pub mod Octets
+pub mod PlacesOf

@@ -1,0 +1,4 @@
+pub mod StdB60
+pub mod StdB60Sections
+pub mod StdB60Tables
+pub mod Rfc5905
