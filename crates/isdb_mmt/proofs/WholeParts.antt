@@ -284,7 +284,7 @@ unfolding totOf totFields
 tot-lies s =
     let n = length12 s 1 + 3 in
     cond-elim (λ (r : TotParsed). TotLies (declaredSection s) (r .result)) (ltb (length s) 3) (λ e. tt) (λ e.
-    cond-elim (λ (r : TotParsed). TotLies (declaredSection s) (r .result)) (ltb n 14) (λ e1. tt) (λ e1.
+    cond-elim (λ (r : TotParsed). TotLies (declaredSection s) (r .result)) (ltb (length12 s 1) 11) (λ e1. tt) (λ e1.
     cond-elim (λ (r : TotParsed). TotLies (declaredSection s) (r .result)) (ltb (length s) n) (λ e2. tt) (λ e2.
     cond-elim (λ (r : TotParsed). TotLies (declaredSection s) (r .result)) (not (eqb (crcOf (take n s)) 0)) (λ e3. tt) (λ e3.
     tot-fields (declaredSection s)))))
