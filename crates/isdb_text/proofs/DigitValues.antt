@@ -1,17 +1,13 @@
 -- The value of a digit: one law for each return; and the text of pairs. Assumes nothing.
-use Prim.Native.Nat.{ℕ, zero, suc, _+_, _-_, _*_, _/_, _%_, _≤_, _<_}
+use Prim.Native.Nat.{ℕ, _+_, _-_, _/_, _%_, _≤_, _<_}
 use mathlib.Core.Path.{_≡_, refl, sym, _∙_, ap}
-use mathlib.Core.Bool.{Bool, true, false}
-use mathlib.Core.List.{List, [], _∷_, _++_}
+use mathlib.Core.List.{List, [], _∷_}
 use native.Mathlib.Omega.{arith}
-use lib.Dec.{leb, ltb, eqb}
 use lib.ListN.{length, getD, drop, length-drop}
 use borrow.Author.Tests.{lt-ltb, le-ltb, le-leb, lt-leb, eq-eqb, ne-eqb}
 use Rattle.isdb_text.proofs.Spelling.{drop-next, drop-none}
-use Rattle.isdb_tlv.proofs.Guards.{either}
 use Rattle.isdb_text.specs.Digits.{letterOf, valueOf, byteOf, bytesIn, foreignFrom, decodedOf, decodedInto}
 use Rattle.isdb_text.specs.Text.{Wrote}
-use Rattle.isdb_text.specs.declared.digits.Decoded.{Decoded}
 use Rattle.isdb_text.specs.declared.digits.Decoded.the-variants.{Bytes, Foreign, Odd, TooLong}
 use Rattle.isdb_text.proofs.Written.{Left, left-less, left-none}
 
