@@ -125,6 +125,13 @@ lies-at w most i =
 pub packet-lies : (w : List ℕ) (most i : ℕ) {kind start n next : ℕ} → cutAt w most i ≡ Packet kind start n next → Lies w i start n next
 packet-lies w most i e = subst (LiesAt w i) e (lies-at w most i)
 
+-- what is left of the window behind a packet is less
+pub packet-less : (w : List ℕ) (most i : ℕ) (c : Cut) → c ≡ cutAt w most i → (kind start n next : ℕ) → c ≡ Packet kind start n next
+    → i < length w → length w - next < length w - i
+packet-less w most i c e kind start n next d h =
+    let l = packet-lies w most i (sym e ∙ d) in
+    omega (arith, l .behind-header, l .behind-bytes, l .inside)
+
 -- a window: bytes of the input from `base` on. What it shows at `i` is what the input has at `base + i`; that it shows no whole
 -- packet says so of the input where the input ends with it.
 module _ (s w r : List ℕ) (base : ℕ) (window : drop base s ≡ w ++ r) (most i : ℕ) where

@@ -5,3 +5,4 @@ pub mod Filling
 pub mod Examples
 pub mod Cutting
 pub mod Lists
+pub mod Dumped

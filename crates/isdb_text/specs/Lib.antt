@@ -3,3 +3,4 @@ pub mod Text
 pub mod Fill
 pub mod Cut
 pub mod Listing
+pub mod DumpSession

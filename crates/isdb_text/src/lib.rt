@@ -1,5 +1,6 @@
 // Text in lent bytes, and what the programs write.
 pub mod cut;
+pub mod dump_session;
 pub mod fill;
 pub mod listing;
 pub mod text;
