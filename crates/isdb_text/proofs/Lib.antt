@@ -6,3 +6,4 @@ pub mod Filling
 pub mod Examples
 pub mod Cutting
 pub mod Lists
+pub mod Dumped

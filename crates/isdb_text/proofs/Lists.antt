@@ -72,7 +72,7 @@ module _ {l m : List ℕ} {at q : ℕ} where
 
 -- ---- the lines of the media ids, turn by turn
 
-none-between : (names : List ℕ) (x : MaybeU32) (a b : ℕ) → b < a → leastFrom x a b names ≡ x
+pub none-between : (names : List ℕ) (x : MaybeU32) (a b : ℕ) → b < a → leastFrom x a b names ≡ x
 unfolding leastFrom
 none-between [] x a b h = refl
 none-between (y ∷ ys) x a b h =

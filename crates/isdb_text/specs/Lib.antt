@@ -4,3 +4,4 @@ pub mod Fill
 pub mod Cut
 pub mod Digits
 pub mod Listing
+pub mod DumpSession
