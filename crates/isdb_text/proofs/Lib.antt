@@ -4,4 +4,5 @@ pub mod Spelling
 pub mod Filling
 pub mod Examples
 pub mod Cutting
+pub mod Elements
 pub mod Lists

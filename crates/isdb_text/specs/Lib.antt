@@ -2,4 +2,7 @@
 pub mod Text
 pub mod Fill
 pub mod Cut
+pub mod Elements
+pub mod DumpDescriptors
+pub mod DumpTables
 pub mod Listing

@@ -1,5 +1,7 @@
 // Text in lent bytes, and what the programs write.
 pub mod cut;
+pub mod dump_descriptors;
+pub mod dump_tables;
 pub mod fill;
 pub mod listing;
 pub mod text;
