@@ -5,5 +5,6 @@ pub mod DigitValues
 pub mod Filling
 pub mod Examples
 pub mod Cutting
+pub mod Elements
 pub mod Lists
 pub mod Dumped

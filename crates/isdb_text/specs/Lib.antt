@@ -3,5 +3,8 @@ pub mod Text
 pub mod Fill
 pub mod Cut
 pub mod Digits
+pub mod Elements
+pub mod DumpDescriptors
+pub mod DumpTables
 pub mod Listing
 pub mod DumpSession

@@ -1,0 +1,32 @@
+use borrow.Author.Needs.{needs}
+use Rattle.isdb_text.proofs.Written.{wrote-append}
+use Rattle.isdb_text.specs.DumpDescriptors.{extendedText}
+use Rattle.isdb_text.proofs.dump_descriptors.extended.Statement.{statement}
+use Rattle.isdb_text.proofs.dump_descriptors.extended.Tie as tie
+
+returns : tie.Need-returns
+unfolding extendedText
+returns c = wrote-append (c .before .before .before .before .before .before .before .before .before .before .before .before .before
+    .before .before .before .before .before .before .before .before .before .before .before .put .ensures) (wrote-append
+    (c .before .before .before .before .before .before .before .before .before .before .before .before .before .before .before
+    .before .before .before .before .before .maybe-u32 .ensures) (wrote-append
+    (c .before .before .before .before .before .before .before .before .before .before .before .before .before .before .before
+    .put2 .ensures) (wrote-append (c .before .before .before .before .before .before .before .before .before .before .before
+    .maybe-u16 .ensures) (wrote-append (c .before .before .before .before .before .before .put3 .ensures)
+    (c .before .before .mpus .ensures)))))
+
+pub extended-spec : {M : Type 1} → statement M
+extended-spec =
+    tie.close
+    (tie.spec
+    (λ c. search needs)
+    (λ c κs. search needs)
+    (λ c κs. search needs)
+    (λ c. search needs)
+    (λ c κs. search needs)
+    (λ c κs. search needs)
+    (λ c. search needs)
+    (λ c κs. search needs)
+    (λ c κs. search needs)
+    (λ c. search needs)
+    returns)

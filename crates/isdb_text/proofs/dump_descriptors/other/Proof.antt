@@ -1,0 +1,20 @@
+use borrow.Author.Needs.{needs}
+use Rattle.isdb_text.proofs.Written.{wrote-append}
+use Rattle.isdb_text.specs.DumpDescriptors.{otherText}
+use Rattle.isdb_text.proofs.dump_descriptors.other.Statement.{statement}
+use Rattle.isdb_text.proofs.dump_descriptors.other.Tie as tie
+
+returns : tie.Need-returns
+unfolding otherText
+returns c = wrote-append (c .before .before .before .before .before .before .fill .ensures) (c .before .before .part-hex .ensures)
+
+pub other-spec : {M : Type 1} → statement M
+other-spec =
+    tie.close
+    (tie.spec
+    (λ c. search needs)
+    (λ c. search needs)
+    (λ c κs. search needs)
+    (λ c κs. search needs)
+    (λ c. search needs)
+    returns)

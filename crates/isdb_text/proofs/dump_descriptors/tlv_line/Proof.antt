@@ -1,0 +1,29 @@
+use borrow.Author.Needs.{needs}
+use Rattle.isdb_text.proofs.Written.{wrote-append}
+use Rattle.isdb_text.specs.DumpDescriptors.{tlvLine}
+use Rattle.isdb_text.proofs.dump_descriptors.tlv_line.Statement.{statement}
+use Rattle.isdb_text.proofs.dump_descriptors.tlv_line.Tie as tie
+
+returns : tie.Need-returns
+unfolding tlvLine
+returns c = wrote-append (c .before .before .before .before .before .before .before .before .before .before .before .before .before
+    .before .before .before .before .before .before .before .before .put .ensures) (wrote-append
+    (c .before .before .before .before .before .before .before .before .before .before .before .before .before .before .before
+    .fill .ensures) (wrote-append (c .before .before .before .before .before .before .before .before .before .before .before .hex
+    .ensures) (wrote-append (c .before .before .before .before .before .before .before .tlv-text .ensures)
+    (c .before .before .put2 .ensures))))
+
+pub tlv-line-spec : {M : Type 1} → statement M
+tlv-line-spec =
+    tie.close
+    (tie.spec
+    (λ c κs. search needs)
+    (λ c. search needs)
+    (λ c. search needs)
+    (λ c κs. search needs)
+    (λ c κs. search needs)
+    (λ c κs. search needs)
+    (λ c. search needs)
+    (λ c κs. search needs)
+    (λ c. search needs)
+    returns)

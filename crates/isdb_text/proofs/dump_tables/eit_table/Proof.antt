@@ -1,0 +1,24 @@
+use borrow.Author.Needs.{needs}
+use Rattle.isdb_text.proofs.Written.{wrote-append}
+use Rattle.isdb_text.specs.DumpTables.{eitTable}
+use Rattle.isdb_text.proofs.dump_tables.eit_table.Statement.{statement}
+use Rattle.isdb_text.proofs.dump_tables.eit_table.Tie as tie
+
+returns : tie.Need-returns
+unfolding eitTable
+returns c = wrote-append (c .before .before .before .before .before .before .before .before .before .before .before .before .before
+    .before .put .ensures) (wrote-append (c .before .before .before .before .before .before .before .before .before .before
+    .key-text .ensures) (wrote-append (c .before .before .before .before .before .before .eit-fields .ensures)
+    (c .before .before .events .ensures)))
+
+pub eit-table-spec : {M : Type 1} → statement M
+eit-table-spec =
+    tie.close
+    (tie.spec
+    (λ c. search needs)
+    (λ c κs. search needs)
+    (λ c κs. search needs)
+    (λ c κs. search needs)
+    (λ c κs. search needs)
+    (λ c. search needs)
+    returns)

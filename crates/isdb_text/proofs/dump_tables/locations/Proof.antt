@@ -1,0 +1,67 @@
+use borrow.Author.Needs.{needs}
+use Rattle.isdb_text.proofs.Written.{Left, left-all}
+use Rattle.isdb_text.proofs.Elements.{texts-turn, texts-ended, texts-end}
+use mathlib.Core.Path.{_≡_, refl}
+use Rattle.isdb_text.specs.DumpTables.{locationsText}
+use lib.ListN.{length}
+use Rattle.isdb_mmt.proofs.Assets.{location-within}
+use native.Mathlib.Omega.{arith}
+use mathlib.Core.Path.{sym, _∙_}
+use Rattle.isdb_text.proofs.dump_tables.locations.Statement.{statement}
+use Rattle.isdb_text.proofs.dump_tables.locations.Tie as tie
+
+abbrev Inv-loop : tie.InvT-loop
+Inv-loop out₀ at s n start p₀ i₀ left₀ out p i left =
+    (length out ≡ length out₀) × Left out₀ at (locationsText s n start) out p (locationsText s left i)
+
+abbrev μ-loop : tie.MeasureT-loop
+μ-loop out₀ at s n start p₀ i₀ left₀ out p i left = left
+
+loop-holds : tie.Need-loop-holds Inv-loop μ-loop
+loop-holds c = (refl, left-all (c .place .ensures))
+
+returns : tie.Need-returns Inv-loop μ-loop
+returns c = texts-ended _ _ _ (c .before .before .before .before .loop .inv .1) (rw
+    (← c .before .before .location-at .ensures, c .enum-told .given .1) refl)
+
+add-i : tie.Need-add-i Inv-loop μ-loop
+add-i c = let w = location-within _ (c .before .before .before .before .before .before .before .before .before .before .loop .i) (sym
+    (c .before .before .before .before .before .before .before .before .location-at .ensures) ∙ c .before .before .before .before
+    .before .before .l .given .1) in omega arith
+
+loop-again : tie.Need-loop-again Inv-loop μ-loop
+loop-again c = (
+  search needs,
+  texts-turn _ _ _ (c .before .before .before .before .before .before .before .before .before .before .loop
+      .inv .1) (c .before .before .before .before .before .before .before .before .before .loop-test .taken) (rw (
+        ← c .before .before .before .before .before .before .before .before .location-at .ensures,
+        c .before .before .before .before
+            .before .before .l .given .1,
+        ← c .before .before .before .rest .ensures,
+      ) refl) (c .before .before .location-line .ensures),
+)
+
+returns-2 : tie.Need-returns-2 Inv-loop μ-loop
+returns-2 c = texts-end _ _ _ (c .before .loop .inv .1) (c .loop-test .left)
+
+pub locations-spec : {M : Type 1} → statement M
+locations-spec =
+    tie.close
+    (tie.spec
+    Inv-loop
+    μ-loop
+    (λ c κs. search needs)
+    loop-holds
+    (λ c κs. search needs)
+    (λ c. search needs)
+    (λ c. search needs)
+    returns
+    (λ c. search needs)
+    (λ c κs. search needs)
+    (λ c κs. search needs)
+    add-i
+    (λ c. search needs)
+    (λ c. search needs)
+    loop-again
+    (λ c. search needs)
+    returns-2)

@@ -1,0 +1,30 @@
+use borrow.Author.Needs.{needs}
+use Rattle.isdb_text.specs.DumpTables.{totText}
+use Rattle.isdb_text.proofs.dump_tables.tot_lines.Statement.{statement}
+use Rattle.isdb_text.proofs.dump_tables.tot_lines.Tie as tie
+
+returns : tie.Need-returns
+unfolding totText
+returns c = rw (← c .before .before .before .before .parse .ensures, c .before .before .enum-told .given .1) (c .place .ensures)
+
+returns-2 : tie.Need-returns-2
+unfolding totText
+returns-2 c = rw (
+  ← c .before .before .before .before .before .before .before .parse .ensures,
+  c .before .before .before .before
+      .before .result .given .1,
+) (c .before .before .tot-table .ensures)
+
+pub tot-lines-spec : {M : Type 1} → statement M
+tot-lines-spec =
+    tie.close
+    (tie.spec
+    (λ c κs. search needs)
+    (λ c. search needs)
+    (λ c κs. search needs)
+    (λ c. search needs)
+    (λ c κs. search needs)
+    (λ c. search needs)
+    returns
+    (λ c. search needs)
+    returns-2)
