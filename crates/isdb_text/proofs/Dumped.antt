@@ -12,15 +12,15 @@ use Rattle.isdb_tlv.proofs.Guards.{either}
 use Rattle.isdb_tlv.specs.Bytes.{be, putBe}
 use Rattle.isdb_tlv.specs.Crc.{crcOf}
 use Rattle.isdb_tlv.specs.Fields.{written, puts, fourFields}
-use Rattle.isdb_mmt.specs.Formats.Ntp.{Seconds}
-use Rattle.isdb_mmt.specs.Formats.Part.{partOf}
-use Rattle.isdb_mmt.specs.Memory.Check.{sound}
-use Rattle.isdb_mmt.specs.Memory.Session.{Session, limitsOf, usedOf, controlPlaceOf}
-use Rattle.isdb_mmt.specs.Memory.Lent.{part, flag, flagByte, namesFrom}
-use Rattle.isdb_mmt.specs.Memory.Layout.{mostControlIds, mostMessageArea, tableIds, controlPlaces, controlSize}
-use Rattle.isdb_mmt.specs.Pushes.Records.{rowSize, noHeader, hasHeader, headerOr, hasItem, itemOr}
-use Rattle.isdb_mmt.specs.Answers.Readings.{leastFrom, nameRead, mostName, nextMediaRead, nextControlRead, mediaRead, heldRead, assetRead}
-use Rattle.isdb_mmt.specs.Answers.Readings.{countersRead, timeRead, countRead, controlRead}
+use Rattle.isdb_mmt.specs.Ntp.{Seconds}
+use Rattle.isdb_mmt.specs.Part.{partOf}
+use Rattle.isdb_mmt.specs.Check.{sound}
+use Rattle.isdb_mmt.specs.Session.{Session, limitsOf, usedOf, controlPlaceOf}
+use Rattle.isdb_mmt.specs.Lent.{part, flag, flagByte, namesFrom}
+use Rattle.isdb_mmt.specs.Layout.{mostControlIds, mostMessageArea, tableIds, controlPlaces, controlSize}
+use Rattle.isdb_mmt.specs.Records.{rowSize, noHeader, hasHeader, headerOr, hasItem, itemOr}
+use Rattle.isdb_mmt.specs.Readings.{nameRead, mostName, nextMediaRead, nextControlRead, mediaRead, heldRead, assetRead}
+use Rattle.isdb_mmt.specs.Readings.{countersRead, timeRead, countRead, controlRead}
 use Rattle.isdb_mmt.specs.declared.maybe.MaybeU32.the-variants.{None as noU32}
 use Rattle.isdb_mmt.specs.declared.mpu.MfuHeader.{MfuHeader}
 use Rattle.isdb_mmt.specs.declared.mpu.MaybeMfu.{MaybeMfu}
@@ -40,22 +40,28 @@ use Rattle.isdb_mmt.specs.declared.decoder.readings.MaybeRange.{MaybeRange}
 use Rattle.isdb_mmt.specs.declared.decoder.readings.MaybeRange.the-variants.{None as noRange, Some as someRange}
 use Rattle.isdb_mmt.specs.declared.decoder.readings.MediaState.{MediaState}
 use Rattle.isdb_mmt.specs.declared.decoder.readings.MediaReading.{MediaReading}
-use Rattle.isdb_mmt.specs.declared.decoder.readings.MediaReading.the-variants.{Refused as mediaRefused, Nothing as noMedia, Media as theMedia}
+use Rattle.isdb_mmt.specs.declared.decoder.readings.MediaReading.the-variants.{Refused as mediaRefused, Nothing as noMedia}
+use Rattle.isdb_mmt.specs.declared.decoder.readings.MediaReading.the-variants.{Media as theMedia}
 use Rattle.isdb_mmt.specs.declared.decoder.readings.HeldObject.{HeldObject}
 use Rattle.isdb_mmt.specs.declared.decoder.readings.HeldReading.{HeldReading}
-use Rattle.isdb_mmt.specs.declared.decoder.readings.HeldReading.the-variants.{Refused as heldRefused, NoId, Nothing as noObject, Object as theObject}
+use Rattle.isdb_mmt.specs.declared.decoder.readings.HeldReading.the-variants.{Refused as heldRefused, NoId, Nothing as noObject}
+use Rattle.isdb_mmt.specs.declared.decoder.readings.HeldReading.the-variants.{Object as theObject}
 use Rattle.isdb_mmt.specs.declared.decoder.readings.CarriedAsset.{CarriedAsset}
 use Rattle.isdb_mmt.specs.declared.decoder.readings.AssetReading.{AssetReading}
-use Rattle.isdb_mmt.specs.declared.decoder.readings.AssetReading.the-variants.{Refused as assetRefused, Nothing as noAsset, Asset as theAsset}
+use Rattle.isdb_mmt.specs.declared.decoder.readings.AssetReading.the-variants.{Refused as assetRefused, Nothing as noAsset}
+use Rattle.isdb_mmt.specs.declared.decoder.readings.AssetReading.the-variants.{Asset as theAsset}
 use Rattle.isdb_mmt.specs.declared.decoder.readings.ControlState.{ControlState}
 use Rattle.isdb_mmt.specs.declared.decoder.readings.ControlReading.{ControlReading}
-use Rattle.isdb_mmt.specs.declared.decoder.readings.ControlReading.the-variants.{Refused as controlRefused, Nothing as noControl, Control as theControl}
+use Rattle.isdb_mmt.specs.declared.decoder.readings.ControlReading.the-variants.{Refused as controlRefused, Nothing as noControl}
+use Rattle.isdb_mmt.specs.declared.decoder.readings.ControlReading.the-variants.{Control as theControl}
 use Rattle.isdb_text.specs.Text.{Wrote, ascii, bytesOf}
 use Rattle.isdb_text.specs.Fill.{filled}
-use Rattle.isdb_text.specs.DumpSession.{dataText, recordText, packetLine, mfuLine, feedCounters, tableCounters, messageCounters, counterLines}
+use Rattle.isdb_text.specs.DumpSession.{dataText, recordText, packetLine, mfuLine, feedCounters, tableCounters, messageCounters}
+use Rattle.isdb_text.specs.DumpSession.{counterLines}
 use Rattle.isdb_text.specs.DumpSession.{unixBits, ntpLine, u32Given, u16Given, u16Or, statsLine, rangeLine, stateLines, mediaLines}
 use Rattle.isdb_text.specs.DumpSession.{flagsOf, heldFields, objectLine, heldLine, carriedLine, assetLine, mediaText}
-use Rattle.isdb_text.specs.DumpSession.{textAndAbove, ascendingText, allMedia, otherLine, otherText, otherLast, otherLines, feedLines, sessionLines}
+use Rattle.isdb_text.specs.DumpSession.{textAndAbove, ascendingText, allMedia, otherLine, otherText, otherLast, otherLines}
+use Rattle.isdb_text.specs.DumpSession.{feedLines, sessionLines}
 use Rattle.isdb_text.specs.DumpSession.{controlLine, indexFrom, controlIndex, joinedLine, messageLine, controlText, allControls}
 use mir.Val.{Fits}
 use mir.Syntax.{w64}
@@ -162,7 +168,8 @@ row-put id o h timed item flags i row a b c d n eh et ei ef en ea eb ec ed =
 
 module _ {l m : List ℕ} {at q : ℕ} (id : ℕ) where
   module _ (r : MaybeRange) where
-    pub wrote-no-range : r ≡ noRange → Wrote l at (filled (ascii "media # mpu_range none\n") (id ∷ [])) m q → Wrote l at (rangeLine id r) m q
+    pub wrote-no-range : r ≡ noRange → Wrote l at (filled (ascii "media # mpu_range none\n") (id ∷ [])) m q
+        → Wrote l at (rangeLine id r) m q
     wrote-no-range e w = rw e w
 
     pub wrote-range : (x : MpuRange) → r ≡ someRange x
@@ -214,7 +221,8 @@ module _ {l m : List ℕ} {at q : ℕ} (id : ℕ) where
   wrote-carried a tables t b g n eg en u et eb v w = rw (← eg, ← en, ← et, ← eb) (wrote-append u (wrote-append v w))
 
   module _ (r : AssetReading) (tables : List ℕ) where
-    pub wrote-asset : (a : CarriedAsset) → r ≡ theAsset a → Wrote l at (carriedLine id a tables) m q → Wrote l at (assetLine id r tables) m q
+    pub wrote-asset : (a : CarriedAsset) → r ≡ theAsset a → Wrote l at (carriedLine id a tables) m q
+        → Wrote l at (assetLine id r tables) m q
     wrote-asset a e w = rw e w
 
     pub wrote-no-asset : r ≡ noAsset → Wrote l at (filled (ascii "media # asset_of none\n") (id ∷ [])) m q
@@ -326,7 +334,8 @@ module _ {l m : List ℕ} {at q : ℕ} (id : ℕ) where
       unfolding messageLine limitsOf
       wrote-no-area g w = rw (lt-leb _ _ h, ← ea, lt-ltb _ _ g) w
 
-      pub wrote-message : a ≤ mostMessageArea → (b : ℕ) (place area : List ℕ) → b ≡ i * a → place ≡ part (controlPlaces + controlSize * i) controlSize state
+      pub wrote-message : a ≤ mostMessageArea → (b : ℕ) (place area : List ℕ) → b ≡ i * a
+          → place ≡ part (controlPlaces + controlSize * i) controlSize state
           → area ≡ drop b messages → Wrote l at (joinedLine id place area) m q → Wrote l at (messageLine id i state messages) m q
       unfolding messageLine limitsOf
       wrote-message g b place area eb ep er w = rw (lt-leb _ _ h, ← ea, le-ltb _ _ g, ← eb, ← ep, ← er) w
@@ -378,7 +387,8 @@ pub wrote-other : {l m : List ℕ} {at q : ℕ} (s : Session) (id : ℕ) (r : Co
 unfolding otherText
 wrote-other s id r e w = rw (← e) w
 
-module _ {l : List ℕ} {at : ℕ} {whole m : List ℕ} {p : ℕ} (s : Session) (id : ℕ) (f : Left l at whole m p (otherLast (tableIds - id) s)) where
+module _ {l : List ℕ} {at : ℕ} {whole m : List ℕ} {p : ℕ} (s : Session) (id : ℕ)
+    (f : Left l at whole m p (otherLast (tableIds - id) s)) where
   pub others-turn : id < tableIds → {m′ : List ℕ} {q : ℕ} → Wrote m p (otherText s id) m′ q
       → Left l at whole m′ q (otherLast (tableIds - (id + 1)) s)
   unfolding otherLast

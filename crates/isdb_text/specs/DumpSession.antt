@@ -8,13 +8,14 @@ use Rattle.isdb_tlv.specs.Guards.{if_then_else_, _<?_, _≤?_, _=?_}
 use Rattle.isdb_tlv.specs.Bytes.{be}
 use Rattle.isdb_tlv.specs.Crc.{crcOf}
 use Rattle.isdb_tlv.specs.Fields.{Field, written}
-use Rattle.isdb_mmt.specs.Formats.Ntp.{ntpToUnix}
-use Rattle.isdb_mmt.specs.Formats.Part.{partOf}
-use Rattle.isdb_mmt.specs.Memory.Lent.{part, flagByte, namesFrom}
-use Rattle.isdb_mmt.specs.Memory.Layout.{mostMediaIds, mostControlIds, mostMessageArea, tableIds, controlPlaces, controlSize}
-use Rattle.isdb_mmt.specs.Memory.Session.{Session, limitsOf, usedOf, controlPlaceOf}
-use Rattle.isdb_mmt.specs.Pushes.Records.{rowFields, hasHeader, headerOr, hasItem, itemOr}
-use Rattle.isdb_mmt.specs.Answers.Readings.{countersRead, timeRead, countRead, nextMediaRead, mediaRead, heldRead, assetRead, nextControlRead, controlRead}
+use Rattle.isdb_mmt.specs.Ntp.{ntpToUnix}
+use Rattle.isdb_mmt.specs.Part.{partOf}
+use Rattle.isdb_mmt.specs.Lent.{part, flagByte, namesFrom}
+use Rattle.isdb_mmt.specs.Layout.{mostMediaIds, mostControlIds, mostMessageArea, tableIds, controlPlaces, controlSize}
+use Rattle.isdb_mmt.specs.Session.{Session, limitsOf, usedOf, controlPlaceOf}
+use Rattle.isdb_mmt.specs.Records.{rowFields, hasHeader, headerOr, hasItem, itemOr}
+use Rattle.isdb_mmt.specs.Readings.{countersRead, timeRead, countRead, nextMediaRead, mediaRead, heldRead, assetRead, nextControlRead}
+use Rattle.isdb_mmt.specs.Readings.{controlRead}
 use Rattle.isdb_mmt.specs.declared.maybe.MaybeU16.{MaybeU16}
 use Rattle.isdb_mmt.specs.declared.maybe.MaybeU16.the-variants.{None as noU16, Some as someU16}
 use Rattle.isdb_mmt.specs.declared.maybe.MaybeU32.{MaybeU32}
@@ -34,16 +35,19 @@ use Rattle.isdb_mmt.specs.declared.decoder.readings.MaybeRange.{MaybeRange}
 use Rattle.isdb_mmt.specs.declared.decoder.readings.MaybeRange.the-variants.{None as noRange, Some as someRange}
 use Rattle.isdb_mmt.specs.declared.decoder.readings.MediaState.{MediaState}
 use Rattle.isdb_mmt.specs.declared.decoder.readings.MediaReading.{MediaReading}
-use Rattle.isdb_mmt.specs.declared.decoder.readings.MediaReading.the-variants.{Refused as mediaRefused, Nothing as noMedia, Media as theMedia}
+use Rattle.isdb_mmt.specs.declared.decoder.readings.MediaReading.the-variants.{Refused as mediaRefused, Nothing as noMedia}
+use Rattle.isdb_mmt.specs.declared.decoder.readings.MediaReading.the-variants.{Media as theMedia}
 use Rattle.isdb_mmt.specs.declared.decoder.readings.HeldObject.{HeldObject}
 use Rattle.isdb_mmt.specs.declared.decoder.readings.HeldReading.{HeldReading}
-use Rattle.isdb_mmt.specs.declared.decoder.readings.HeldReading.the-variants.{Refused as heldRefused, NoId, Nothing as noObject, Object as theObject}
+use Rattle.isdb_mmt.specs.declared.decoder.readings.HeldReading.the-variants.{Refused as heldRefused, NoId, Nothing as noObject}
+use Rattle.isdb_mmt.specs.declared.decoder.readings.HeldReading.the-variants.{Object as theObject}
 use Rattle.isdb_mmt.specs.declared.decoder.readings.CarriedAsset.{CarriedAsset}
 use Rattle.isdb_mmt.specs.declared.decoder.readings.AssetReading.{AssetReading}
-use Rattle.isdb_mmt.specs.declared.decoder.readings.AssetReading.the-variants.{Refused as assetRefused, Nothing as noAsset, Asset as theAsset}
-use Rattle.isdb_mmt.specs.declared.decoder.readings.ControlState.{ControlState}
+use Rattle.isdb_mmt.specs.declared.decoder.readings.AssetReading.the-variants.{Refused as assetRefused, Nothing as noAsset}
+use Rattle.isdb_mmt.specs.declared.decoder.readings.AssetReading.the-variants.{Asset as theAsset}
 use Rattle.isdb_mmt.specs.declared.decoder.readings.ControlReading.{ControlReading}
-use Rattle.isdb_mmt.specs.declared.decoder.readings.ControlReading.the-variants.{Refused as controlRefused, Nothing as noControl, Control as theControl}
+use Rattle.isdb_mmt.specs.declared.decoder.readings.ControlReading.the-variants.{Refused as controlRefused, Nothing as noControl}
+use Rattle.isdb_mmt.specs.declared.decoder.readings.ControlReading.the-variants.{Control as theControl}
 use Rattle.isdb_text.specs.Text.{ascii, bytesOf}
 use Rattle.isdb_text.specs.Fill.{filled}
 

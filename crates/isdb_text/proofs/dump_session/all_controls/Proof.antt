@@ -13,7 +13,8 @@ abbrev Inv-loop : tie.InvT-loop
 Inv-loop state others objects messages tables out₀ at p₀ from₀ left₀ out p from left =
     (length out ≡ length out₀)
     × Left out₀ at (allControls (lent state others objects messages tables)) out p
-    (ascendingText left (nextControlRead (lent state others objects messages tables)) (controlText (lent state others objects messages tables)) from)
+    (ascendingText left (nextControlRead (lent state others objects messages tables))
+    (controlText (lent state others objects messages tables)) from)
 
 abbrev μ-loop : tie.MeasureT-loop
 μ-loop state others objects messages tables out₀ at p₀ from₀ left₀ out p from left = left

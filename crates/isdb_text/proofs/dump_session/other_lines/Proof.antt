@@ -13,7 +13,8 @@ use Rattle.isdb_text.proofs.dump_session.other_lines.Tie as tie
 abbrev Inv-loop : tie.InvT-loop
 Inv-loop state others objects messages tables out₀ at p₀ id₀ out p id =
     (id ≤ tableIds) × (length out ≡ length out₀)
-    × Left out₀ at (otherLines (lent state others objects messages tables)) out p (otherLast (tableIds - id) (lent state others objects messages tables))
+    × Left out₀ at (otherLines (lent state others objects messages tables)) out p
+    (otherLast (tableIds - id) (lent state others objects messages tables))
 
 abbrev μ-loop : tie.MeasureT-loop
 μ-loop state others objects messages tables out₀ at p₀ id₀ out p id = tableIds - id

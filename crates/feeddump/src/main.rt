@@ -1,0 +1,292 @@
+// Lists everything that a recording holds: standard input as TLV packets, pushed into a session one by one.
+use isdb_mmt::decoder;
+use isdb_mmt::decoder::limits::Limits;
+use isdb_text::cut;
+use isdb_text::cut::Cut;
+use isdb_text::dump_session;
+use isdb_tlv::bytes;
+
+// The most data of a packet.
+const MOST: usize = 65535;
+
+// From here on the text is written out before a line is added, of which each is far below 1,024 bytes.
+const FULL: usize = 64512;
+
+// How far reading came: the place in the window, the packets taken, the place in the text, and whether what stands there is no packet.
+struct Passed {
+    at: usize,
+    packets: u64,
+    text: usize,
+    bad: bool,
+}
+
+fn limits() -> Limits {
+    Limits {
+        media_ids: 16,
+        control_ids: 16,
+        sections: 128,
+        mfu_area: 131072,
+        message_area: 65536,
+        table_area: 8192,
+        packets: 4294967295,
+        pass_scrambled: true,
+    }
+}
+
+// Writes out the text in front of a place; the next stands at 0 again.
+fn write_text(text: &[u8; 65536], at: usize) -> usize {
+    io::write_all(1, bytes::part(text, 0, at));
+    0
+}
+
+// A place where a line has room.
+fn make_room(text: &[u8; 65536], at: usize) -> usize {
+    if at < FULL {
+        return at;
+    }
+    write_text(text, at)
+}
+
+// The lines of so many records, of which there are at most 4,096.
+fn mfu_lines(
+    text: &mut [u8; 65536],
+    at: usize,
+    rows: &[u8; 147456],
+    data: &[u8; 262144],
+    records: u64,
+) -> usize {
+    let mut p = at;
+    let mut i: usize = 0;
+    while i < 4096 {
+        if records <= i as u64 {
+            return p;
+        }
+        p = make_room(text, p);
+        p = dump_session::mfu_line(text, p, bytes::part(rows, i * 36, 36), data);
+        i += 1;
+    }
+    p
+}
+
+// Pushes a packet and writes what it gave.
+fn take_packet(
+    state: &mut [u8; 13144],
+    others: &mut [u64; 256],
+    objects: &mut [u8; 2097152],
+    messages: &mut [u8; 1048576],
+    tables: &mut [u8; 1196032],
+    rows: &mut [u8; 147456],
+    data: &mut [u8; 262144],
+    text: &mut [u8; 65536],
+    at: usize,
+    number: u64,
+    kind: u8,
+    packet: &[u8],
+) -> usize {
+    let a = decoder::push(
+        state,
+        others,
+        objects,
+        messages,
+        tables,
+        kind,
+        packet,
+        rows,
+        data,
+    );
+    let p = make_room(text, at);
+    let q = dump_session::packet_line(text, p, number, kind, packet.len() as u64, a);
+    mfu_lines(text, q, rows, data, a.records)
+}
+
+// Takes the packets of a window, one after the other.
+fn pass(
+    state: &mut [u8; 13144],
+    others: &mut [u64; 256],
+    objects: &mut [u8; 2097152],
+    messages: &mut [u8; 1048576],
+    tables: &mut [u8; 1196032],
+    rows: &mut [u8; 147456],
+    data: &mut [u8; 262144],
+    text: &mut [u8; 65536],
+    window: &[u8],
+    packets: u64,
+    place: usize,
+) -> Passed {
+    let mut at: usize = 0;
+    let mut n = packets;
+    let mut p = place;
+    while at < window.len() {
+        match cut::cut_at(window, MOST, at) {
+            Cut::Packet {
+                kind,
+                start,
+                length,
+                next,
+            } => {
+                let packet = bytes::part(window, start, length);
+                p = take_packet(
+                    state,
+                    others,
+                    objects,
+                    messages,
+                    tables,
+                    rows,
+                    data,
+                    text,
+                    p,
+                    n,
+                    kind,
+                    packet,
+                );
+                n = std::num::wrapping_add_u64(n, 1);
+                at = next;
+            }
+            Cut::Bad => return stopped(at, n, p, true),
+            Cut::Short => return stopped(at, n, p, false),
+            Cut::End => return stopped(at, n, p, false),
+        }
+    }
+    stopped(at, n, p, false)
+}
+
+fn stopped(at: usize, packets: u64, text: usize, bad: bool) -> Passed {
+    Passed {
+        at,
+        packets,
+        text,
+        bad,
+    }
+}
+
+// Moves what lies from at to end to the front, and answers how much that is.
+fn to_front(window: &mut [u8; 131072], at: usize, end: usize) -> usize {
+    if end <= at {
+        return 0;
+    }
+    let left = end - at;
+    let mut i: usize = 0;
+    while i < left {
+        let x = bytes::get_u8(window, at + i);
+        bytes::put_u8(window, i, x);
+        i += 1;
+    }
+    left
+}
+
+// Reads more into a window that holds n bytes, and answers how many it holds then.
+fn read_behind(window: &mut [u8], n: usize) -> usize {
+    if window.len() <= n {
+        return n;
+    }
+    let got = libc::read(0, &mut window[n..]);
+    n + io::count(got, &window[n..])
+}
+
+// The line that says how reading ended: with n bytes left from base on.
+fn end_line(text: &mut [u8; 65536], at: usize, n: usize, base: u64, packets: u64) -> usize {
+    let p = make_room(text, at);
+    if n == 0 {
+        return dump_session::end_packets(text, p, packets);
+    }
+    dump_session::end_bad(text, p, base)
+}
+
+// Reads to the end, and answers the place in the text.
+fn read_all(
+    state: &mut [u8; 13144],
+    others: &mut [u64; 256],
+    objects: &mut [u8; 2097152],
+    messages: &mut [u8; 1048576],
+    tables: &mut [u8; 1196032],
+    rows: &mut [u8; 147456],
+    data: &mut [u8; 262144],
+    text: &mut [u8; 65536],
+    window: &mut [u8; 131072],
+) -> usize {
+    let mut base: u64 = 0;
+    let mut n: usize = 0;
+    let mut packets: u64 = 0;
+    let mut p: usize = 0;
+    let mut turns = u64::MAX;
+    while turns > 0 {
+        let m = read_behind(window, n);
+        if m <= n {
+            return end_line(text, p, n, base, packets);
+        }
+        let w = bytes::part(window, 0, m);
+        let x = pass(
+            state,
+            others,
+            objects,
+            messages,
+            tables,
+            rows,
+            data,
+            text,
+            w,
+            packets,
+            p,
+        );
+        packets = x.packets;
+        p = x.text;
+        base = std::num::wrapping_add_u64(base, x.at as u64);
+        if x.bad {
+            return end_line(text, p, 1, base, packets);
+        }
+        n = to_front(window, x.at, m);
+        turns -= 1;
+    }
+    p
+}
+
+// Everything that is kept.
+fn report(
+    state: &[u8; 13144],
+    others: &[u64; 256],
+    objects: &[u8; 2097152],
+    messages: &[u8; 1048576],
+    tables: &[u8; 1196032],
+    text: &mut [u8; 65536],
+    at: usize,
+) {
+    let p = write_text(text, at);
+    let q = dump_session::session_lines(state, others, objects, messages, tables, text, p);
+    write_text(text, q);
+    // THE KEPT TABLES ARE WRITTEN HERE: mpt, plt, eit, sdt, bit, nit, amt, tot.
+}
+
+fn open_session(
+    state: &mut [u8; 13144],
+    others: &mut [u64; 256],
+    objects: &[u8; 2097152],
+    messages: &[u8; 1048576],
+    tables: &[u8; 1196032],
+) {
+    decoder::open(limits(), state, others, objects, messages, tables);
+}
+
+fn main() {
+    let mut state = [0u8; 13144];
+    let mut others = [0u64; 256];
+    let mut objects = [0u8; 2097152];
+    let mut messages = [0u8; 1048576];
+    let mut tables = [0u8; 1196032];
+    let mut rows = [0u8; 147456];
+    let mut data = [0u8; 262144];
+    let mut text = [0u8; 65536];
+    let mut window = [0u8; 131072];
+    open_session(&mut state, &mut others, &objects, &messages, &tables);
+    let at = read_all(
+        &mut state,
+        &mut others,
+        &mut objects,
+        &mut messages,
+        &mut tables,
+        &mut rows,
+        &mut data,
+        &mut text,
+        &mut window,
+    );
+    report(&state, &others, &objects, &messages, &tables, &mut text, at);
+}
