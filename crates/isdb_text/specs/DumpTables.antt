@@ -252,7 +252,8 @@ deliveriesText s n from = texts (λ at. deliveryElement (deliveryAt s at)) n fro
 
 unfoldable pub pltTable : List ℕ → Plt → List ℕ
 pltTable s t =
-    filled (ascii "plt version #\n") (t .version ∷ []) ++ (packagesText s (t .packages) 5 ++ deliveriesText s (t .«ip_deliveries») (t .«deliveries_start»))
+    filled (ascii "plt version #\n") (t .version ∷ [])
+    ++ (packagesText s (t .packages) 5 ++ deliveriesText s (t .«ip_deliveries») (t .«deliveries_start»))
 
 abbrev pub pltGiven : List ℕ → MaybePlt → List ℕ
 pltGiven s noPlt = []
