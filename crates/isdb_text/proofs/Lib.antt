@@ -5,4 +5,5 @@ pub mod Filling
 pub mod Examples
 pub mod Cutting
 pub mod Elements
+pub mod DumpWhole
 pub mod Lists

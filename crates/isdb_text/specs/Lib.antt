@@ -5,4 +5,5 @@ pub mod Cut
 pub mod Elements
 pub mod DumpDescriptors
 pub mod DumpTables
+pub mod DumpWhole
 pub mod Listing
