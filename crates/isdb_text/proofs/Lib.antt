@@ -6,5 +6,6 @@ pub mod Filling
 pub mod Examples
 pub mod Cutting
 pub mod Elements
+pub mod DumpWhole
 pub mod Lists
 pub mod Dumped

@@ -177,7 +177,8 @@ languageOf l = (l .first * 256 + l .second) * 256 + l .third
 
 unfoldable pub shortEventText : List ℕ → Language → Part → Part → List ℕ
 shortEventText s l name text =
-    filled (ascii "short_event %%%%%% name ") (languageOf l ∷ []) ++ (bytesOf (partOf s name) ++ (ascii " text " ++ bytesOf (partOf s text)))
+    filled (ascii "short_event %%%%%% name ") (languageOf l ∷ [])
+    ++ (bytesOf (partOf s name) ++ (ascii " text " ++ bytesOf (partOf s text)))
 
 unfoldable pub otherText : List ℕ → ℕ → Part → List ℕ
 otherText s tag body = filled (ascii "other 0x%%%% ") (tag ∷ []) ++ bytesOf (partOf s body)

@@ -74,8 +74,8 @@ use Rattle.isdb_text.specs.DumpDescriptors.{flagOf, u16Text, addressText
 unfoldable pub keyText : ℕ → SectionHeader → List ℕ
 keyText key h =
     filled (ascii "key 0x%% # # header 0x%% # # last_section_number # version # current #")
-    (key / 0x1000000 ∷ key / 0x100 % 0x10000 ∷ key % 0x100 ∷ h .«table_id» ∷ h .extension ∷ h .«section_number» ∷ h .«last_section_number»
-    ∷ h .version ∷ flagOf (h .current) ∷ [])
+    (key / 0x1000000 ∷ key / 0x100 % 0x10000 ∷ key % 0x100
+    ∷ h .«table_id» ∷ h .extension ∷ h .«section_number» ∷ h .«last_section_number» ∷ h .version ∷ flagOf (h .current) ∷ [])
 
 -- ---- AMT
 
@@ -119,8 +119,8 @@ totText s = totGiven s (totOf s .result)
 unfoldable pub serviceText : List ℕ → SdtService → List ℕ
 serviceText s e =
     filled (ascii "  service # eit_user_defined_flags # eit_schedule # eit_present_following # running_status # free_ca #\n")
-    (e .«service_id» ∷ e .«eit_user_defined_flags» ∷ flagOf (e .«eit_schedule») ∷ flagOf (e .«eit_present_following») ∷ e .«running_status»
-    ∷ flagOf (e .«free_ca») ∷ [])
+    (e .«service_id» ∷ e .«eit_user_defined_flags» ∷ flagOf (e .«eit_schedule») ∷ flagOf (e .«eit_present_following»)
+    ∷ e .«running_status» ∷ flagOf (e .«free_ca») ∷ [])
     ++ descriptorsText (ascii "    ") (partOf s (e .descriptors))
 
 abbrev pub serviceElement : List ℕ → SdtStep → Element
@@ -242,17 +242,20 @@ packageElement s (onePackage p next) = element (packageText s p) next
 abbrev pub packagesText : List ℕ → ℕ → ℕ → List ℕ
 packagesText s n from = texts (λ at. packageElement s (packageAt s at)) n from
 
+abbrev pub deliveryText : IpDelivery → List ℕ
+deliveryText d = filled (ascii "  ip_delivery # location_type #\n") (d .«transport_file_id» ∷ d .«location_type» ∷ [])
+
 abbrev pub deliveryElement : DeliveryStep → Element
 deliveryElement noDelivery = ended
-deliveryElement (delivery d next) =
-    element (filled (ascii "  ip_delivery # location_type #\n") (d .«transport_file_id» ∷ d .«location_type» ∷ [])) next
+deliveryElement (delivery d next) = element (deliveryText d) next
 
 abbrev pub deliveriesText : List ℕ → ℕ → ℕ → List ℕ
 deliveriesText s n from = texts (λ at. deliveryElement (deliveryAt s at)) n from
 
 unfoldable pub pltTable : List ℕ → Plt → List ℕ
 pltTable s t =
-    filled (ascii "plt version #\n") (t .version ∷ []) ++ (packagesText s (t .packages) 5 ++ deliveriesText s (t .«ip_deliveries») (t .«deliveries_start»))
+    filled (ascii "plt version #\n") (t .version ∷ [])
+    ++ (packagesText s (t .packages) 5 ++ deliveriesText s (t .«ip_deliveries») (t .«deliveries_start»))
 
 abbrev pub pltGiven : List ℕ → MaybePlt → List ℕ
 pltGiven s noPlt = []

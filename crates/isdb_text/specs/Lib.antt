@@ -6,5 +6,6 @@ pub mod Digits
 pub mod Elements
 pub mod DumpDescriptors
 pub mod DumpTables
+pub mod DumpWhole
 pub mod Listing
 pub mod DumpSession

@@ -1,5 +1,4 @@
 // The kept tables, as `feeddump` writes them. A table that does not parse has no text.
-ghost use mathlib.Core.Path.{_≡_};
 ghost use Prim.Native.Nat.{_+_};
 ghost use Rattle.isdb_mmt.specs.Formats.Section.{length12};
 ghost use Rattle.isdb_text.specs.Text.{Wrote};

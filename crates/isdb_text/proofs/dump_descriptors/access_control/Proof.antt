@@ -6,8 +6,9 @@ use Rattle.isdb_text.proofs.dump_descriptors.access_control.Tie as tie
 
 returns : tie.Need-returns
 unfolding accessControlText
-returns c = rw (← c .before .before .before .rest .ensures) (wrote-append
-    (c .before .before .before .before .before .before .before .fill .ensures) (c .before .before .ca-location .ensures))
+returns c =
+    let d = c .before .before .before .before .before .before .before in
+    rw (← c .before .before .before .rest .ensures) (wrote-append (d .fill .ensures) (c .before .before .ca-location .ensures))
 
 pub access-control-spec : {M : Type 1} → statement M
 access-control-spec =

@@ -6,7 +6,9 @@ use Rattle.isdb_text.proofs.dump_descriptors.access_unit.Tie as tie
 
 returns : tie.Need-returns
 unfolding unitText
-returns c = wrote-append (c .before .before .before .before .before .before .fill .ensures) (c .before .before .maybe-u16 .ensures)
+returns c =
+    let d = c .before .before .before .before .before .before in
+    wrote-append (d .fill .ensures) (c .before .before .maybe-u16 .ensures)
 
 pub access-unit-spec : {M : Type 1} → statement M
 access-unit-spec =

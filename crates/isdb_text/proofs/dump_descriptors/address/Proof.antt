@@ -4,11 +4,14 @@ use Rattle.isdb_text.proofs.dump_descriptors.address.Statement.{stateme
 use Rattle.isdb_text.proofs.dump_descriptors.address.Tie as tie
 
 returns : tie.Need-returns
-returns c = rw (c .before .before .before .before .before .a .given .1) (c .before .before .hex-digits .ensures)
+returns c =
+    let d = c .before .before .before .before .before in
+    rw (d .a .given .1) (c .before .before .hex-digits .ensures)
 
 returns-2 : tie.Need-returns-2
-returns-2 c = rw (c .before .before .before .before .before .before .before .before .before .a2 .given .1) (wrote-append
-    (c .before .before .before .before .before .before .hex-digits2 .ensures) (c .before .before .hex-digits3 .ensures))
+returns-2 c =
+    let d = c .before .before .before .before .before .before in
+    rw (d .before .before .before .a2 .given .1) (wrote-append (d .hex-digits2 .ensures) (c .before .before .hex-digits3 .ensures))
 
 pub address-spec : {M : Type 1} → statement M
 address-spec =

@@ -6,7 +6,9 @@ use Rattle.isdb_text.proofs.dump_descriptors.broadcaster_name.Tie as ti
 
 returns : tie.Need-returns
 unfolding broadcasterNameText
-returns c = wrote-append (c .before .before .before .before .before .before .put .ensures) (c .before .before .part-hex .ensures)
+returns c =
+    let d = c .before .before .before .before .before .before in
+    wrote-append (d .put .ensures) (c .before .before .part-hex .ensures)
 
 pub broadcaster-name-spec : {M : Type 1} → statement M
 broadcaster-name-spec =

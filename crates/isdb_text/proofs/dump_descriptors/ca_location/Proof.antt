@@ -3,10 +3,14 @@ use Rattle.isdb_text.proofs.dump_descriptors.ca_location.Statement.{sta
 use Rattle.isdb_text.proofs.dump_descriptors.ca_location.Tie as tie
 
 returns : tie.Need-returns
-returns c = rw (c .before .before .before .before .before .enum-told .given .1) (c .before .before .put .ensures)
+returns c =
+    let d = c .before .before .before .before .before in
+    rw (d .enum-told .given .1) (c .before .before .put .ensures)
 
 returns-2 : tie.Need-returns-2
-returns-2 c = rw (c .before .before .before .before .before .l .given .1) (c .before .before .location .ensures)
+returns-2 c =
+    let d = c .before .before .before .before .before in
+    rw (d .l .given .1) (c .before .before .location .ensures)
 
 pub ca-location-spec : {M : Type 1} → statement M
 ca-location-spec =

@@ -6,7 +6,9 @@ use Rattle.isdb_text.proofs.dump_descriptors.content.Tie as tie
 
 returns : tie.Need-returns
 unfolding contentText
-returns c = wrote-append (c .before .before .before .before .before .before .put .ensures) (c .before .before .genres .ensures)
+returns c =
+    let d = c .before .before .before .before .before .before in
+    wrote-append (d .put .ensures) (c .before .before .genres .ensures)
 
 pub content-spec : {M : Type 1} → statement M
 content-spec =

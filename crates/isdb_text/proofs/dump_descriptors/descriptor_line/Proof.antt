@@ -6,11 +6,12 @@ use Rattle.isdb_text.proofs.dump_descriptors.descriptor_line.Tie as tie
 
 returns : tie.Need-returns
 unfolding descriptorLine
-returns c = rw (← c .before .before .before .before .before .before .before .before .decode .ensures) (wrote-append
-    (c .before .before .before .before .before .before .before .before .before .before .before .before .before .before .before
-    .before .before .put .ensures) (wrote-append (c .before .before .before .before .before .before .before .before .before .before
-    .before .before .put2 .ensures) (wrote-append (c .before .before .before .before .before .before .before .descriptor .ensures)
-    (c .before .before .put3 .ensures))))
+returns c =
+    let d = c .before .before .before .before .before .before .before in
+    let e = d .before .before .before .before .before in
+    let f = e .before .before .before .before .before in
+    rw (← d .before .decode .ensures) (wrote-append (f .put .ensures) (wrote-append (e .put2 .ensures) (wrote-append
+    (d .descriptor .ensures) (c .before .before .put3 .ensures))))
 
 pub descriptor-line-spec : {M : Type 1} → statement M
 descriptor-line-spec =

@@ -27,16 +27,13 @@ returns-2 c = texts-ended _ _ _ (c .before .before .before .before .loop .inv .1
     (← c .before .before .next .ensures, c .enum-told2 .given .1) refl)
 
 loop-again : tie.Need-loop-again Inv-loop μ-loop
-loop-again c = (
-  search needs,
-  texts-turn _ _ _ (c .before .before .before .before .before .before .before .before .before .before .loop
-      .inv .1) (c .before .before .before .before .before .before .before .before .before .loop-test .taken) (rw (
-        ← c .before .before .before .before .before .before .before .before .next .ensures,
-        c .before .before .before .before .before
-            .before .tag .given .1,
-        ← c .before .before .before .of .ensures,
-      ) refl) (c .before .before .descriptor-line .ensures),
-)
+loop-again c =
+    let d = c .before .before .before .before .before .before in (
+      search needs,
+      texts-turn _ _ _ (d .before .before .before .before .loop .inv .1) (d .before .before .before .loop-test .taken)
+          (rw (← d .before .before .next .ensures, d .tag .given .1, ← c .before .before .before .of .ensures) refl)
+          (c .before .before .descriptor-line .ensures),
+    )
 
 returns-3 : tie.Need-returns-3 Inv-loop μ-loop
 returns-3 c = texts-end _ _ _ (c .before .loop .inv .1) (c .loop-test .left)

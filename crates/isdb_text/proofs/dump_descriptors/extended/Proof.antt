@@ -6,13 +6,12 @@ use Rattle.isdb_text.proofs.dump_descriptors.extended.Tie as tie
 
 returns : tie.Need-returns
 unfolding extendedText
-returns c = wrote-append (c .before .before .before .before .before .before .before .before .before .before .before .before .before
-    .before .before .before .before .before .before .before .before .before .before .before .put .ensures) (wrote-append
-    (c .before .before .before .before .before .before .before .before .before .before .before .before .before .before .before
-    .before .before .before .before .before .maybe-u32 .ensures) (wrote-append
-    (c .before .before .before .before .before .before .before .before .before .before .before .before .before .before .before
-    .put2 .ensures) (wrote-append (c .before .before .before .before .before .before .before .before .before .before .before
-    .maybe-u16 .ensures) (wrote-append (c .before .before .before .before .before .before .put3 .ensures)
+returns c =
+    let d = c .before .before .before .before .before .before in
+    let e = d .before .before .before .before .before in
+    let f = e .before .before .before .before .before .before .before .before .before in
+    wrote-append (f .before .before .before .before .put .ensures) (wrote-append (f .maybe-u32 .ensures) (wrote-append
+    (e .before .before .before .before .put2 .ensures) (wrote-append (e .maybe-u16 .ensures) (wrote-append (d .put3 .ensures)
     (c .before .before .mpus .ensures)))))
 
 pub extended-spec : {M : Type 1} → statement M

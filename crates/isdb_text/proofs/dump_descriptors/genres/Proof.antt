@@ -28,18 +28,14 @@ returns-2 c = texts-ended _ _ _ (c .before .before .before .before .loop .inv .1
     (← c .before .before .next-genre .ensures, c .enum-told .given .1) refl)
 
 loop-again : tie.Need-loop-again Inv-loop μ-loop
-loop-again c = (
-  search needs,
-  texts-turn _ _ _ (c .before .before .before .before .before .before .before .before .before .before
-      .before .before .before .before .before .loop .inv .1) (c .before .before .before .before .before .before .before .before
-      .before .before .before .before .before .before .loop-test .taken) (rw (
-        ← c .before .before .before .before .before .before .before .before .before .before .before .before .before .next-genre
-            .ensures,
-        c .before .before .before .before .before .before .before .before .before .before .before .x .given .1,
-      ) refl)
-      (wrote-append (c .before .before .before .before .before .before .before .before .comma .ensures)
-      (c .before .before .fill .ensures)),
-)
+loop-again c =
+    let d = c .before .before .before .before .before .before .before .before in
+    let e = d .before .before .before .before .before in (
+      search needs,
+      texts-turn _ _ _ (e .before .before .loop .inv .1) (e .before .loop-test .taken) (rw
+          (← e .next-genre .ensures, d .before .before .before .x .given .1) refl) (wrote-append (d .comma .ensures)
+          (c .before .before .fill .ensures)),
+    )
 
 returns-3 : tie.Need-returns-3 Inv-loop μ-loop
 returns-3 c = texts-end _ _ _ (c .before .loop .inv .1) (c .loop-test .left)

@@ -5,7 +5,9 @@ use Rattle.isdb_text.proofs.dump_descriptors.hevc.Tie as tie
 
 returns : tie.Need-returns
 unfolding hevcText
-returns c = rw (← c .before .before .before .before .before .before .flag .ensures) (c .before .before .fill .ensures)
+returns c =
+    let d = c .before .before .before .before .before .before in
+    rw (← d .flag .ensures) (c .before .before .fill .ensures)
 
 pub hevc-spec : {M : Type 1} → statement M
 hevc-spec =

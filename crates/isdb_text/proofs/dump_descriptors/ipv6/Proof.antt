@@ -6,12 +6,11 @@ use Rattle.isdb_text.proofs.dump_descriptors.ipv6.Tie as tie
 
 returns : tie.Need-returns
 unfolding ipv6Text
-returns c = wrote-append (c .before .before .before .before .before .before .before .before .before .before .before .before .before
-    .before .before .before .before .before .before .before .before .put .ensures) (wrote-append
-    (c .before .before .before .before .before .before .before .before .before .before .before .before .before .before .before
-    .before .before .address .ensures) (wrote-append (c .before .before .before .before .before .before .before .before .before
-    .before .before .before .put2 .ensures) (wrote-append (c .before .before .before .before .before .before .before .before
-    .address2 .ensures) (c .before .before .fill .ensures))))
+returns c =
+    let d = c .before .before .before .before .before .before .before .before in
+    let e = d .before .before .before .before .before .before .before .before .before in
+    wrote-append (e .before .before .before .before .put .ensures) (wrote-append (e .address .ensures) (wrote-append
+    (d .before .before .before .before .put2 .ensures) (wrote-append (d .address2 .ensures) (c .before .before .fill .ensures))))
 
 pub ipv6-spec : {M : Type 1} → statement M
 ipv6-spec =

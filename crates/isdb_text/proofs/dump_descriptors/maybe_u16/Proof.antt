@@ -3,10 +3,14 @@ use Rattle.isdb_text.proofs.dump_descriptors.maybe_u16.Statement.{state
 use Rattle.isdb_text.proofs.dump_descriptors.maybe_u16.Tie as tie
 
 returns : tie.Need-returns
-returns c = rw (c .before .before .before .before .before .enum-told .given .1) (c .before .before .put .ensures)
+returns c =
+    let d = c .before .before .before .before .before in
+    rw (d .enum-told .given .1) (c .before .before .put .ensures)
 
 returns-2 : tie.Need-returns-2
-returns-2 c = rw (c .before .before .before .before .before .n .given .1) (c .before .before .decimal .ensures)
+returns-2 c =
+    let d = c .before .before .before .before .before in
+    rw (d .n .given .1) (c .before .before .decimal .ensures)
 
 pub maybe-u16-spec : {M : Type 1} → statement M
 maybe-u16-spec =

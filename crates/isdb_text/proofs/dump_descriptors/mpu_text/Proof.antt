@@ -6,8 +6,10 @@ use Rattle.isdb_text.proofs.dump_descriptors.mpu_text.Tie as tie
 
 returns : tie.Need-returns
 unfolding mpuText
-returns c = wrote-append (c .before .before .before .before .before .before .before .before .before .before .before .fill .ensures)
-    (wrote-append (c .before .before .before .before .before .before .before .access-units .ensures) (c .before .before .put .ensures))
+returns c =
+    let d = c .before .before .before .before .before .before .before in
+    wrote-append (d .before .before .before .before .fill .ensures) (wrote-append (d .access-units .ensures)
+    (c .before .before .put .ensures))
 
 pub mpu-text-spec : {M : Type 1} → statement M
 mpu-text-spec =

@@ -32,19 +32,14 @@ returns-3 c = texts-ended _ _ _ (c .before .before .before .before .loop .inv .1
     (← c .before .before .next-mpu .ensures, c .enum-told2 .given .1) refl)
 
 loop-again : tie.Need-loop-again Inv-loop μ-loop
-loop-again c = (
-  search needs,
-  texts-turn _ _ _ (c .before .before .before .before .before .before .before .before .before .before
-      .before .before .before .before .loop .inv .1) (c .before .before .before .before .before .before .before .before .before
-      .before .before .before .before .loop-test .taken) (rw (
-        ← c .before .before .before .before .before .before .before .before
-            .before .before .before .before .next-mpu .ensures,
-        c .before .before .before .before .before .before .before .before .before
-            .before .mpu .given .1,
-        ← c .before .before .before .of .ensures,
-      ) refl) (wrote-append
-      (c .before .before .before .before .before .before .before .comma .ensures) (c .before .before .mpu-text .ensures)),
-)
+loop-again c =
+    let d = c .before .before .before .before .before .before .before in
+    let e = d .before .before .before .before .before in (
+      search needs,
+      texts-turn _ _ _ (e .before .before .loop .inv .1) (e .before .loop-test .taken) (rw
+          (← e .next-mpu .ensures, d .before .before .before .mpu .given .1, ← c .before .before .before .of .ensures) refl)
+          (wrote-append (d .comma .ensures) (c .before .before .mpu-text .ensures)),
+    )
 
 returns-4 : tie.Need-returns-4 Inv-loop μ-loop
 returns-4 c = texts-end _ _ _ (c .before .loop .inv .1) (c .loop-test .left)

@@ -6,7 +6,9 @@ use Rattle.isdb_text.proofs.dump_descriptors.other.Tie as tie
 
 returns : tie.Need-returns
 unfolding otherText
-returns c = wrote-append (c .before .before .before .before .before .before .fill .ensures) (c .before .before .part-hex .ensures)
+returns c =
+    let d = c .before .before .before .before .before .before in
+    wrote-append (d .fill .ensures) (c .before .before .part-hex .ensures)
 
 pub other-spec : {M : Type 1} → statement M
 other-spec =

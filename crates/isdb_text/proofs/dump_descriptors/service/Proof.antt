@@ -6,10 +6,11 @@ use Rattle.isdb_text.proofs.dump_descriptors.service.Tie as tie
 
 returns : tie.Need-returns
 unfolding serviceText
-returns c = wrote-append (c .before .before .before .before .before .before .before .before .before .before .before .before .before
-    .before .before .fill .ensures) (wrote-append (c .before .before .before .before .before .before .before .before .before
-    .before .before .part-hex .ensures) (wrote-append (c .before .before .before .before .before .before .put .ensures)
-    (c .before .before .part-hex2 .ensures)))
+returns c =
+    let d = c .before .before .before .before .before .before in
+    let e = d .before .before .before .before .before in
+    wrote-append (e .before .before .before .before .fill .ensures) (wrote-append (e .part-hex .ensures) (wrote-append
+    (d .put .ensures) (c .before .before .part-hex2 .ensures)))
 
 pub service-spec : {M : Type 1} → statement M
 service-spec =

@@ -6,7 +6,9 @@ use Rattle.isdb_text.proofs.dump_descriptors.service_list.Tie as tie
 
 returns : tie.Need-returns
 unfolding serviceList
-returns c = wrote-append (c .before .before .before .before .before .before .put .ensures) (c .before .before .services .ensures)
+returns c =
+    let d = c .before .before .before .before .before .before in
+    wrote-append (d .put .ensures) (c .before .before .services .ensures)
 
 pub service-list-spec : {M : Type 1} → statement M
 service-list-spec =

@@ -6,12 +6,12 @@ use Rattle.isdb_text.proofs.dump_descriptors.short_event.Tie as tie
 
 returns : tie.Need-returns
 unfolding shortEventText
-returns c = rw (← c .before .before .before .before .before .before .before .before .before .before .before .before .before .before
-    .before .before .before .before .before .language-code .ensures) (wrote-append
-    (c .before .before .before .before .before .before .before .before .before .before .before .before .before .before .before
-    .fill .ensures) (wrote-append (c .before .before .before .before .before .before .before .before .before .before .before
-    .part-hex .ensures) (wrote-append (c .before .before .before .before .before .before .put .ensures)
-    (c .before .before .part-hex2 .ensures))))
+returns c =
+    let d = c .before .before .before .before .before .before in
+    let e = d .before .before .before .before .before in
+    let f = e .before .before .before .before .before .before .before .before in
+    rw (← f .language-code .ensures) (wrote-append (e .before .before .before .before .fill .ensures) (wrote-append
+    (e .part-hex .ensures) (wrote-append (d .put .ensures) (c .before .before .part-hex2 .ensures))))
 
 pub short-event-spec : {M : Type 1} → statement M
 short-event-spec =

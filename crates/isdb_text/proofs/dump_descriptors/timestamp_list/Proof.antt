@@ -6,7 +6,9 @@ use Rattle.isdb_text.proofs.dump_descriptors.timestamp_list.Tie as tie
 
 returns : tie.Need-returns
 unfolding timestampList
-returns c = wrote-append (c .before .before .before .before .before .before .put .ensures) (c .before .before .timestamps .ensures)
+returns c =
+    let d = c .before .before .before .before .before .before in
+    wrote-append (d .put .ensures) (c .before .before .timestamps .ensures)
 
 pub timestamp-list-spec : {M : Type 1} → statement M
 timestamp-list-spec =

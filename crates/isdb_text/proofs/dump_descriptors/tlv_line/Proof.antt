@@ -6,12 +6,12 @@ use Rattle.isdb_text.proofs.dump_descriptors.tlv_line.Tie as tie
 
 returns : tie.Need-returns
 unfolding tlvLine
-returns c = wrote-append (c .before .before .before .before .before .before .before .before .before .before .before .before .before
-    .before .before .before .before .before .before .before .before .put .ensures) (wrote-append
-    (c .before .before .before .before .before .before .before .before .before .before .before .before .before .before .before
-    .fill .ensures) (wrote-append (c .before .before .before .before .before .before .before .before .before .before .before .hex
-    .ensures) (wrote-append (c .before .before .before .before .before .before .before .tlv-text .ensures)
-    (c .before .before .put2 .ensures))))
+returns c =
+    let d = c .before .before .before .before .before .before .before in
+    let e = d .before .before .before .before .before .before .before .before in
+    let f = e .before .before .before .before .before .before in
+    wrote-append (f .put .ensures) (wrote-append (e .fill .ensures) (wrote-append (d .before .before .before .before .hex .ensures)
+    (wrote-append (d .tlv-text .ensures) (c .before .before .put2 .ensures))))
 
 pub tlv-line-spec : {M : Type 1} → statement M
 tlv-line-spec =

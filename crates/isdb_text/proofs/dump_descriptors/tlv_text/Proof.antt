@@ -7,29 +7,30 @@ use Rattle.isdb_text.proofs.dump_descriptors.tlv_text.Tie as tie
 
 returns : tie.Need-returns
 unfolding tlvText
-returns c = rw (eq-eqb _ _ (c .before .before .before .before .before .before .before .before .before .if1 .taken)) (wrote-append
-    (c .before .before .before .before .before .before .put .ensures) (c .before .before .services .ensures))
+returns c =
+    let d = c .before .before .before .before .before .before in
+    rw (eq-eqb _ _ (d .before .before .before .if1 .taken)) (wrote-append (d .put .ensures) (c .before .before .services .ensures))
 
 returns-2 : tie.Need-returns-2
 unfolding tlvText
-returns-2 c = rw (
-  ne-eqb _ _ (c .before .before .before .before .before .before .before .before .before .before .if1 .left),
-  eq-eqb _ _
-      (c .before .before .before .before .before .before .before .before .before .if2 .taken),
-) (wrote-append
-    (c .before .before .before .before .before .before .put2 .ensures) (c .before .before .hex .ensures))
+returns-2 c =
+    let d = c .before .before .before .before .before .before in
+    rw (ne-eqb _ _ (d .before .before .before .before .if1 .left), eq-eqb _ _ (d .before .before .before .if2 .taken)) (wrote-append
+    (d .put2 .ensures) (c .before .before .hex .ensures))
 
 returns-3 : tie.Need-returns-3
 unfolding tlvText
-returns-3 c = rw (
-  ne-eqb _ _ (c .before .before .before .before .before .before .before .before .before .before .before .before .if1
-      .left),
-  ne-eqb _ _ (c .before .before .before .before .before .before .before .before .before .before .before .if2 .left),
-  eq-eqb _ _ (c .before .before .before .before .before .before .before .before .before .before .if3 .taken),
-  ← c .before .before
-      .before .satellite-frequency-khz .ensures,
-) (wrote-append (c .before .before .before .before .before .before .before .put3
-    .ensures) (c .before .before .maybe-u64 .ensures))
+returns-3 c =
+    let d = c .before .before .before .before .before .before .before in
+    let e = d .before .before .before .before .before in
+    rw (
+      ne-eqb _ _ (e .if1 .left),
+      ne-eqb _ _ (d .before .before .before .before .if2 .left),
+      eq-eqb _ _
+          (d .before .before .before .if3 .taken),
+      ← c .before .before .before .satellite-frequency-khz .ensures,
+    ) (wrote-append
+    (d .put3 .ensures) (c .before .before .maybe-u64 .ensures))
 
 returns-4 : tie.Need-returns-4
 unfolding tlvText

@@ -6,7 +6,9 @@ use Rattle.isdb_text.proofs.dump_descriptors.url.Tie as tie
 
 returns : tie.Need-returns
 unfolding urlText
-returns c = wrote-append (c .before .before .before .before .before .before .put .ensures) (c .before .before .part-hex .ensures)
+returns c =
+    let d = c .before .before .before .before .before .before in
+    wrote-append (d .put .ensures) (c .before .before .part-hex .ensures)
 
 pub url-spec : {M : Type 1} → statement M
 url-spec =

@@ -9,12 +9,9 @@ returns c = rw (← c .before .before .before .before .parse .ensures, c .before
 
 returns-2 : tie.Need-returns-2
 unfolding amtText
-returns-2 c = rw (
-  ← c .before .before .before .before .before .before .before .before .before .parse .ensures,
-  c .before .before
-      .before .before .before .before .before .h .given .1,
-  ← c .before .before .before .of .ensures,
-)
+returns-2 c =
+    let d = c .before .before .before .before .before .before .before in
+    rw (← d .before .before .parse .ensures, d .h .given .1, ← c .before .before .before .of .ensures)
     (c .before .before .amt-table .ensures)
 
 pub amt-lines-spec : {M : Type 1} → statement M

@@ -6,10 +6,11 @@ use Rattle.isdb_text.proofs.dump_tables.amt_table.Tie as tie
 
 returns : tie.Need-returns
 unfolding amtTable
-returns c = wrote-append (c .before .before .before .before .before .before .before .before .before .before .before .before .before
-    .before .before .put .ensures) (wrote-append (c .before .before .before .before .before .before .before .before .before .before
-    .before .key-text .ensures) (wrote-append (c .before .before .before .before .before .before .put2 .ensures)
-    (c .before .before .flows .ensures)))
+returns c =
+    let d = c .before .before .before .before .before .before in
+    let e = d .before .before .before .before .before in
+    wrote-append (e .before .before .before .before .put .ensures) (wrote-append (e .key-text .ensures) (wrote-append
+    (d .put2 .ensures) (c .before .before .flows .ensures)))
 
 pub amt-table-spec : {M : Type 1} → statement M
 amt-table-spec =

@@ -6,10 +6,10 @@ use Rattle.isdb_text.proofs.dump_tables.asset.Tie as tie
 
 returns : tie.Need-returns
 unfolding assetText
-returns c = rw (← c .before .before .before .of .ensures) (wrote-append
-    (c .before .before .before .before .before .before .before .before .before .before .before .before .asset-line .ensures)
-    (wrote-append (c .before .before .before .before .before .before .before .before .locations .ensures)
-    (c .before .before .descriptors .ensures)))
+returns c =
+    let d = c .before .before .before .before .before .before .before .before in
+    rw (← c .before .before .before .of .ensures) (wrote-append (d .before .before .before .before .asset-line .ensures) (wrote-append
+    (d .locations .ensures) (c .before .before .descriptors .ensures)))
 
 pub asset-spec : {M : Type 1} → statement M
 asset-spec =

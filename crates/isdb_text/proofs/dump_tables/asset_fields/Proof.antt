@@ -6,9 +6,10 @@ use Rattle.isdb_text.proofs.dump_tables.asset_fields.Tie as tie
 
 returns : tie.Need-returns
 unfolding assetFields
-returns c = rw (← c .before .before .before .before .before .before .flag .ensures) (wrote-append
-    (c .before .before .before .before .before .before .before .before .before .before .before .before .before .before .fill
-    .ensures) (wrote-append (c .before .before .before .before .before .before .before .before .before .before .part-hex .ensures)
+returns c =
+    let d = c .before .before .before .before .before .before in
+    let e = d .before .before .before .before .before .before .before .before in
+    rw (← d .flag .ensures) (wrote-append (e .fill .ensures) (wrote-append (d .before .before .before .before .part-hex .ensures)
     (c .before .before .fill2 .ensures)))
 
 pub asset-fields-spec : {M : Type 1} → statement M

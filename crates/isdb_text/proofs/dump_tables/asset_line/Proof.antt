@@ -6,19 +6,14 @@ use Rattle.isdb_text.proofs.dump_tables.asset_line.Tie as tie
 
 returns : tie.Need-returns
 unfolding assetLine
-returns c = rw (
-  ← c .before .before .before .before .before .before .before .before .before .before .before .before .before .before
-      .before .before .before .before .before .packet-id .ensures,
-  ← c .before .before .before .before .before .before .before
-      .before .before .of .ensures,
-  ← c .before .before .before .before .before .before .before .before .component-tag .ensures,
-)
-    (wrote-append (c .before .before .before .before .before .before .before .before .before .before .before .before .before
-    .before .before .before .before .before .before .before .before .before .before .asset-fields .ensures) (wrote-append
-    (c .before .before .before .before .before .before .before .before .before .before .before .before .before .before .before
-    .before .before .before .maybe-u16 .ensures) (wrote-append (c .before .before .before .before .before .before .before .before
-    .before .before .before .before .before .put .ensures) (wrote-append
-    (c .before .before .before .before .before .before .before .maybe-u162 .ensures) (c .before .before .put2 .ensures)))))
+returns c =
+    let d = c .before .before .before .before .before .before .before in
+    let e = d .before .before .before .before .before .before in
+    let f = e .before .before .before .before .before in
+    let g = f .before .before .before .before .before in
+    rw (← f .before .packet-id .ensures, ← d .before .before .of .ensures, ← d .before .component-tag .ensures) (wrote-append
+    (g .asset-fields .ensures) (wrote-append (f .maybe-u16 .ensures) (wrote-append (e .put .ensures) (wrote-append
+    (d .maybe-u162 .ensures) (c .before .before .put2 .ensures)))))
 
 pub asset-line-spec : {M : Type 1} → statement M
 asset-line-spec =

@@ -22,15 +22,12 @@ returns c = texts-ended _ _ _ (c .before .before .before .before .loop .inv .1) 
     (← c .before .before .asset-at .ensures, c .enum-told .given .1) refl)
 
 loop-again : tie.Need-loop-again Inv-loop μ-loop
-loop-again c = (
-  search needs,
-  texts-turn _ _ _ (c .before .before .before .before .before .before .before .before .before .loop .inv
-      .1) (c .before .before .before .before .before .before .before .before .loop-test .taken) (rw (
-        ← c .before .before .before .before .before .before .before .asset-at .ensures,
-        c .before .before .before .before .before .a
-            .given .1,
-      ) refl) (c .before .before .asset .ensures),
-)
+loop-again c =
+    let d = c .before .before .before .before .before in (
+      search needs,
+      texts-turn _ _ _ (d .before .before .before .before .loop .inv .1) (d .before .before .before .loop-test .taken)
+          (rw (← d .before .before .asset-at .ensures, d .a .given .1) refl) (c .before .before .asset .ensures),
+    )
 
 returns-2 : tie.Need-returns-2 Inv-loop μ-loop
 returns-2 c = texts-end _ _ _ (c .before .loop .inv .1) (c .loop-test .left)

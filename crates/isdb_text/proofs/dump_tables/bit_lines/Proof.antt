@@ -9,12 +9,9 @@ returns c = rw (← c .before .before .before .before .parse .ensures, c .before
 
 returns-2 : tie.Need-returns-2
 unfolding bitText
-returns-2 c = rw (
-  ← c .before .before .before .before .before .before .before .before .before .parse .ensures,
-  c .before .before
-      .before .before .before .before .before .result .given .1,
-  ← c .before .before .before .of .ensures,
-)
+returns-2 c =
+    let d = c .before .before .before .before .before .before .before in
+    rw (← d .before .before .parse .ensures, d .result .given .1, ← c .before .before .before .of .ensures)
     (c .before .before .bit-table .ensures)
 
 pub bit-lines-spec : {M : Type 1} → statement M

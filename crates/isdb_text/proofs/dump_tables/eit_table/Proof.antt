@@ -6,10 +6,11 @@ use Rattle.isdb_text.proofs.dump_tables.eit_table.Tie as tie
 
 returns : tie.Need-returns
 unfolding eitTable
-returns c = wrote-append (c .before .before .before .before .before .before .before .before .before .before .before .before .before
-    .before .put .ensures) (wrote-append (c .before .before .before .before .before .before .before .before .before .before
-    .key-text .ensures) (wrote-append (c .before .before .before .before .before .before .eit-fields .ensures)
-    (c .before .before .events .ensures)))
+returns c =
+    let d = c .before .before .before .before .before .before in
+    let e = d .before .before .before .before .before .before .before .before in
+    wrote-append (e .put .ensures) (wrote-append (d .before .before .before .before .key-text .ensures) (wrote-append
+    (d .eit-fields .ensures) (c .before .before .events .ensures)))
 
 pub eit-table-spec : {M : Type 1} → statement M
 eit-table-spec =

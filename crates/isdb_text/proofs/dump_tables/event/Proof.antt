@@ -6,12 +6,10 @@ use Rattle.isdb_text.proofs.dump_tables.event.Tie as tie
 
 returns : tie.Need-returns
 unfolding eventText
-returns c = rw (
-  ← c .before .before .before .before .before .before .before .before .before .before .before .before .flag .ensures,
-  ← c
-      .before .before .before .of .ensures,
-) (wrote-append (c .before .before .before .before .before .before .before .before .fill
-    .ensures) (c .before .before .descriptors .ensures))
+returns c =
+    let d = c .before .before .before .before .before .before .before .before in
+    rw (← d .before .before .before .before .flag .ensures, ← c .before .before .before .of .ensures) (wrote-append (d .fill .ensures)
+    (c .before .before .descriptors .ensures))
 
 pub event-spec : {M : Type 1} → statement M
 event-spec =

@@ -26,15 +26,12 @@ returns-2 c = texts-ended _ _ _ (c .before .before .before .before .loop .inv .1
     (← c .before .before .next-event .ensures, c .enum-told2 .given .1) refl)
 
 loop-again : tie.Need-loop-again Inv-loop μ-loop
-loop-again c = (
-  search needs,
-  texts-turn _ _ _ (c .before .before .before .before .before .before .before .before .before .loop .inv
-      .1) (c .before .before .before .before .before .before .before .before .loop-test .taken) (rw (
-        ← c .before .before .before .before .before .before .before .next-event .ensures,
-        c .before .before .before .before .before .e
-            .given .1,
-      ) refl) (c .before .before .event .ensures),
-)
+loop-again c =
+    let d = c .before .before .before .before .before in (
+      search needs,
+      texts-turn _ _ _ (d .before .before .before .before .loop .inv .1) (d .before .before .before .loop-test .taken)
+          (rw (← d .before .before .next-event .ensures, d .e .given .1) refl) (c .before .before .event .ensures),
+    )
 
 returns-3 : tie.Need-returns-3 Inv-loop μ-loop
 returns-3 c = texts-end _ _ _ (c .before .loop .inv .1) (c .loop-test .left)

@@ -6,13 +6,11 @@ use Rattle.isdb_text.proofs.dump_tables.flow.Tie as tie
 
 returns : tie.Need-returns
 unfolding flowText
-returns c = wrote-append (c .before .before .before .before .before .before .before .before .before .before .before .before .before
-    .before .before .before .before .before .before .before .before .before .before .before .fill .ensures) (wrote-append
-    (c .before .before .before .before .before .before .before .before .before .before .before .before .before .before .before
-    .before .before .before .before .before .address .ensures) (wrote-append
-    (c .before .before .before .before .before .before .before .before .before .before .before .before .before .fill2 .ensures)
-    (wrote-append (c .before .before .before .before .before .before .before .before .before .address2 .ensures)
-    (c .before .before .fill3 .ensures))))
+returns c =
+    let d = c .before .before .before .before .before .before .before .before .before in
+    let e = d .before .before .before .before .before .before .before .before .before .before .before in
+    wrote-append (e .before .before .before .before .fill .ensures) (wrote-append (e .address .ensures) (wrote-append
+    (d .before .before .before .before .fill2 .ensures) (wrote-append (d .address2 .ensures) (c .before .before .fill3 .ensures))))
 
 pub flow-spec : {M : Type 1} → statement M
 flow-spec =

@@ -6,8 +6,9 @@ use Rattle.isdb_text.proofs.dump_tables.location_line.Tie as tie
 
 returns : tie.Need-returns
 unfolding locationLine
-returns c = wrote-append (c .before .before .before .before .before .before .before .before .before .before .before .put .ensures)
-    (wrote-append (c .before .before .before .before .before .before .before .location .ensures) (c .before .before .put2 .ensures))
+returns c =
+    let d = c .before .before .before .before .before .before .before in
+    wrote-append (d .before .before .before .before .put .ensures) (wrote-append (d .location .ensures) (c .before .before .put2 .ensures))
 
 pub location-line-spec : {M : Type 1} → statement M
 location-line-spec =

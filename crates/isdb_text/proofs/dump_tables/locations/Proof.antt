@@ -25,21 +25,19 @@ returns c = texts-ended _ _ _ (c .before .before .before .before .loop .inv .1) 
     (← c .before .before .location-at .ensures, c .enum-told .given .1) refl)
 
 add-i : tie.Need-add-i Inv-loop μ-loop
-add-i c = let w = location-within _ (c .before .before .before .before .before .before .before .before .before .before .loop .i) (sym
-    (c .before .before .before .before .before .before .before .before .location-at .ensures) ∙ c .before .before .before .before
-    .before .before .l .given .1) in omega arith
+add-i c =
+    let d = c .before .before .before .before .before .before in
+    let w = location-within _ (d .before .before .before .before .loop .i) (sym
+    (d .before .before .location-at .ensures) ∙ d .l .given .1) in omega arith
 
 loop-again : tie.Need-loop-again Inv-loop μ-loop
-loop-again c = (
-  search needs,
-  texts-turn _ _ _ (c .before .before .before .before .before .before .before .before .before .before .loop
-      .inv .1) (c .before .before .before .before .before .before .before .before .before .loop-test .taken) (rw (
-        ← c .before .before .before .before .before .before .before .before .location-at .ensures,
-        c .before .before .before .before
-            .before .before .l .given .1,
-        ← c .before .before .before .rest .ensures,
-      ) refl) (c .before .before .location-line .ensures),
-)
+loop-again c =
+    let d = c .before .before .before .before .before .before in (
+      search needs,
+      texts-turn _ _ _ (d .before .before .before .before .loop .inv .1) (d .before .before .before .loop-test .taken)
+          (rw (← d .before .before .location-at .ensures, d .l .given .1, ← c .before .before .before .rest .ensures) refl)
+          (c .before .before .location-line .ensures),
+    )
 
 returns-2 : tie.Need-returns-2 Inv-loop μ-loop
 returns-2 c = texts-end _ _ _ (c .before .loop .inv .1) (c .loop-test .left)

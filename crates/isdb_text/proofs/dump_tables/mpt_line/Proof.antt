@@ -6,13 +6,12 @@ use Rattle.isdb_text.proofs.dump_tables.mpt_line.Tie as tie
 
 returns : tie.Need-returns
 unfolding mptLine
-returns c = rw (← c .before .before .before .before .before .before .before .before .service-id .ensures) (wrote-append
-    (c .before .before .before .before .before .before .before .before .before .before .before .before .before .before .before
-    .before .before .before .before .before .before .fill .ensures) (wrote-append
-    (c .before .before .before .before .before .before .before .before .before .before .before .before .before .before .before
-    .before .before .part-hex .ensures) (wrote-append (c .before .before .before .before .before .before .before .before .before
-    .before .before .before .put .ensures) (wrote-append (c .before .before .before .before .before .before .before .maybe-u16
-    .ensures) (c .before .before .put2 .ensures)))))
+returns c =
+    let d = c .before .before .before .before .before .before .before in
+    let e = d .before .before .before .before .before in
+    let f = e .before .before .before .before .before in
+    rw (← d .before .service-id .ensures) (wrote-append (f .before .before .before .before .fill .ensures) (wrote-append
+    (f .part-hex .ensures) (wrote-append (e .put .ensures) (wrote-append (d .maybe-u16 .ensures) (c .before .before .put2 .ensures)))))
 
 pub mpt-line-spec : {M : Type 1} → statement M
 mpt-line-spec =

@@ -9,11 +9,9 @@ returns c = rw (← c .before .before .before .before .parse .ensures, c .before
 
 returns-2 : tie.Need-returns-2
 unfolding mptText
-returns-2 c = rw (
-  ← c .before .before .before .before .before .before .before .parse .ensures,
-  c .before .before .before .before
-      .before .m .given .1,
-) (c .before .before .mpt-table .ensures)
+returns-2 c =
+    let d = c .before .before .before .before .before in
+    rw (← d .before .before .parse .ensures, d .m .given .1) (c .before .before .mpt-table .ensures)
 
 pub mpt-lines-spec : {M : Type 1} → statement M
 mpt-lines-spec =

@@ -6,9 +6,11 @@ use Rattle.isdb_text.proofs.dump_tables.mpt_table.Tie as tie
 
 returns : tie.Need-returns
 unfolding mptTable
-returns c = rw (← c .before .before .before .before .before .before .before .of .ensures) (wrote-append
-    (c .before .before .before .before .before .before .before .before .before .before .before .before .mpt-line .ensures)
-    (wrote-append (c .before .before .before .before .before .before .descriptors .ensures) (c .before .before .assets .ensures)))
+returns c =
+    let d = c .before .before .before .before .before .before in
+    let e = d .before .before .before .before .before .before in
+    rw (← d .before .of .ensures) (wrote-append (e .mpt-line .ensures) (wrote-append (d .descriptors .ensures)
+    (c .before .before .assets .ensures)))
 
 pub mpt-table-spec : {M : Type 1} → statement M
 mpt-table-spec =

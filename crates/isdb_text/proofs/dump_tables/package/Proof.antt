@@ -6,13 +6,12 @@ use Rattle.isdb_text.proofs.dump_tables.package.Tie as tie
 
 returns : tie.Need-returns
 unfolding packageText
-returns c = rw (← c .before .before .before .before .before .before .before .before .rest .ensures) (wrote-append
-    (c .before .before .before .before .before .before .before .before .before .before .before .before .before .before .before
-    .before .before .before .before .before .before .put .ensures) (wrote-append
-    (c .before .before .before .before .before .before .before .before .before .before .before .before .before .before .before
-    .before .before .part-hex .ensures) (wrote-append (c .before .before .before .before .before .before .before .before .before
-    .before .before .before .put2 .ensures) (wrote-append (c .before .before .before .before .before .before .before .location
-    .ensures) (c .before .before .put3 .ensures)))))
+returns c =
+    let d = c .before .before .before .before .before .before .before in
+    let e = d .before .before .before .before .before in
+    let f = e .before .before .before .before .before in
+    rw (← d .before .rest .ensures) (wrote-append (f .before .before .before .before .put .ensures) (wrote-append
+    (f .part-hex .ensures) (wrote-append (e .put2 .ensures) (wrote-append (d .location .ensures) (c .before .before .put3 .ensures)))))
 
 pub package-spec : {M : Type 1} → statement M
 package-spec =

@@ -22,15 +22,12 @@ returns c = texts-ended _ _ _ (c .before .before .before .before .loop .inv .1) 
     (← c .before .before .package-at .ensures, c .enum-told .given .1) refl)
 
 loop-again : tie.Need-loop-again Inv-loop μ-loop
-loop-again c = (
-  search needs,
-  texts-turn _ _ _ (c .before .before .before .before .before .before .before .before .before .loop .inv
-      .1) (c .before .before .before .before .before .before .before .before .loop-test .taken) (rw (
-        ← c .before .before .before .before .before .before .before .package-at .ensures,
-        c .before .before .before .before .before .k
-            .given .1,
-      ) refl) (c .before .before .«package» .ensures),
-)
+loop-again c =
+    let d = c .before .before .before .before .before in (
+      search needs,
+      texts-turn _ _ _ (d .before .before .before .before .loop .inv .1) (d .before .before .before .loop-test .taken)
+          (rw (← d .before .before .package-at .ensures, d .k .given .1) refl) (c .before .before .«package» .ensures),
+    )
 
 returns-2 : tie.Need-returns-2 Inv-loop μ-loop
 returns-2 c = texts-end _ _ _ (c .before .loop .inv .1) (c .loop-test .left)

@@ -9,11 +9,9 @@ returns c = rw (← c .before .before .before .before .parse .ensures, c .before
 
 returns-2 : tie.Need-returns-2
 unfolding pltText
-returns-2 c = rw (
-  ← c .before .before .before .before .before .before .before .parse .ensures,
-  c .before .before .before .before
-      .before .t .given .1,
-) (c .before .before .plt-table .ensures)
+returns-2 c =
+    let d = c .before .before .before .before .before in
+    rw (← d .before .before .parse .ensures, d .t .given .1) (c .before .before .plt-table .ensures)
 
 pub plt-lines-spec : {M : Type 1} → statement M
 plt-lines-spec =

@@ -6,8 +6,10 @@ use Rattle.isdb_text.proofs.dump_tables.plt_table.Tie as tie
 
 returns : tie.Need-returns
 unfolding pltTable
-returns c = wrote-append (c .before .before .before .before .before .before .before .before .before .before .fill .ensures)
-    (wrote-append (c .before .before .before .before .before .before .packages .ensures) (c .before .before .deliveries .ensures))
+returns c =
+    let d = c .before .before .before .before .before .before in
+    wrote-append (d .before .before .before .before .fill .ensures) (wrote-append (d .packages .ensures)
+    (c .before .before .deliveries .ensures))
 
 pub plt-table-spec : {M : Type 1} → statement M
 plt-table-spec =

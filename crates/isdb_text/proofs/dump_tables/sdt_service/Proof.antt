@@ -6,16 +6,16 @@ use Rattle.isdb_text.proofs.dump_tables.sdt_service.Tie as tie
 
 returns : tie.Need-returns
 unfolding serviceText
-returns c = rw (
-  ← c .before .before .before .before .before .before .before .before .before .before .before .before .before .before
-      .before .flag .ensures,
-  ← c .before .before .before .before .before .before .before .before .before .before .before .before
-      .before .before .flag2 .ensures,
-  ← c .before .before .before .before .before .before .before .before .before .before .before
-      .before .flag3 .ensures,
-  ← c .before .before .before .of .ensures,
-) (wrote-append
-    (c .before .before .before .before .before .before .before .before .fill .ensures) (c .before .before .descriptors .ensures))
+returns c =
+    let d = c .before .before .before .before .before .before .before .before in
+    let e = d .before .before .before .before .before .before in
+    rw (
+      ← e .before .flag .ensures,
+      ← e .flag2 .ensures,
+      ← d .before .before .before .before .flag3 .ensures,
+      ← c .before .before
+          .before .of .ensures,
+    ) (wrote-append (d .fill .ensures) (c .before .before .descriptors .ensures))
 
 pub sdt-service-spec : {M : Type 1} → statement M
 sdt-service-spec =

@@ -6,10 +6,11 @@ use Rattle.isdb_text.proofs.dump_tables.sdt_table.Tie as tie
 
 returns : tie.Need-returns
 unfolding sdtTable
-returns c = wrote-append (c .before .before .before .before .before .before .before .before .before .before .before .before .before
-    .before .before .before .before .put .ensures) (wrote-append (c .before .before .before .before .before .before .before .before
-    .before .before .before .before .before .key-text .ensures) (wrote-append
-    (c .before .before .before .before .before .before .fill .ensures) (c .before .before .sdt-services .ensures)))
+returns c =
+    let d = c .before .before .before .before .before .before in
+    let e = d .before .before .before .before .before .before .before in
+    wrote-append (e .before .before .before .before .put .ensures) (wrote-append (e .key-text .ensures) (wrote-append
+    (d .fill .ensures) (c .before .before .sdt-services .ensures)))
 
 pub sdt-table-spec : {M : Type 1} → statement M
 sdt-table-spec =

@@ -6,8 +6,9 @@ use Rattle.isdb_text.proofs.dump_tables.stream.Tie as tie
 
 returns : tie.Need-returns
 unfolding streamText
-returns c = rw (← c .before .before .before .of .ensures) (wrote-append
-    (c .before .before .before .before .before .before .before .before .fill .ensures) (c .before .before .tlv-descriptors .ensures))
+returns c =
+    let d = c .before .before .before .before .before .before .before .before in
+    rw (← c .before .before .before .of .ensures) (wrote-append (d .fill .ensures) (c .before .before .tlv-descriptors .ensures))
 
 pub stream-spec : {M : Type 1} → statement M
 stream-spec =

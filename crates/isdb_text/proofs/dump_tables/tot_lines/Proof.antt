@@ -9,11 +9,9 @@ returns c = rw (← c .before .before .before .before .parse .ensures, c .before
 
 returns-2 : tie.Need-returns-2
 unfolding totText
-returns-2 c = rw (
-  ← c .before .before .before .before .before .before .before .parse .ensures,
-  c .before .before .before .before
-      .before .result .given .1,
-) (c .before .before .tot-table .ensures)
+returns-2 c =
+    let d = c .before .before .before .before .before in
+    rw (← d .before .before .parse .ensures, d .result .given .1) (c .before .before .tot-table .ensures)
 
 pub tot-lines-spec : {M : Type 1} → statement M
 tot-lines-spec =

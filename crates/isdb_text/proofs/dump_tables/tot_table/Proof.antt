@@ -6,8 +6,9 @@ use Rattle.isdb_text.proofs.dump_tables.tot_table.Tie as tie
 
 returns : tie.Need-returns
 unfolding totTable
-returns c = rw (← c .before .before .before .of .ensures) (wrote-append
-    (c .before .before .before .before .before .before .before .before .fill .ensures) (c .before .before .descriptors .ensures))
+returns c =
+    let d = c .before .before .before .before .before .before .before .before in
+    rw (← c .before .before .before .of .ensures) (wrote-append (d .fill .ensures) (c .before .before .descriptors .ensures))
 
 pub tot-table-spec : {M : Type 1} → statement M
 tot-table-spec =
