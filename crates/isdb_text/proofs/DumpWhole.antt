@@ -3,16 +3,16 @@ use Prim.Native.Nat.{ℕ}
 use mathlib.Core.Path.{_≡_, refl, ap}
 use mathlib.Core.List.{List, [], _∷_, _++_}
 use lib.ListN.{length}
-use Rattle.isdb_mmt.specs.Steps.{Stood, Gives, Counts, AllOf}
-use Rattle.isdb_mmt.specs.Whole.{WholeAsset, assetTold, assetSeen, deliveryTold, deliverySeen}
-use Rattle.isdb_mmt.specs.WholeSections.{Described, WholeStream, flowTold, flowSeen, eventTold, eventSeen, serviceTold, serviceSeen, streamTold, streamSeen}
-use Rattle.isdb_mmt.specs.Part.{partOf}
-use Rattle.isdb_mmt.specs.Mpt.{assetAt}
-use Rattle.isdb_mmt.specs.Plt.{deliveryAt}
-use Rattle.isdb_mmt.specs.Amt.{serviceAt}
-use Rattle.isdb_mmt.specs.Eit.{eventStep}
-use Rattle.isdb_mmt.specs.Sdt.{serviceStep}
-use Rattle.isdb_mmt.specs.Nit.{streamStep}
+use Rattle.isdb_mmt.specs.WholeValues.Steps.{Stood, Gives, Counts, AllOf}
+use Rattle.isdb_mmt.specs.WholeValues.Whole.{WholeAsset, assetTold, assetSeen, deliveryTold, deliverySeen}
+use Rattle.isdb_mmt.specs.WholeValues.WholeSections.{Described, WholeStream, flowTold, flowSeen, eventTold, eventSeen, serviceTold, serviceSeen, streamTold, streamSeen}
+use Rattle.isdb_mmt.specs.Formats.Part.{partOf}
+use Rattle.isdb_mmt.specs.Formats.Mpt.{assetAt}
+use Rattle.isdb_mmt.specs.Formats.Plt.{deliveryAt}
+use Rattle.isdb_mmt.specs.Formats.Amt.{serviceAt}
+use Rattle.isdb_mmt.specs.Formats.Eit.{eventStep}
+use Rattle.isdb_mmt.specs.Formats.Sdt.{serviceStep}
+use Rattle.isdb_mmt.specs.Formats.Nit.{streamStep}
 use Rattle.isdb_mmt.specs.declared.table.amt.AmtStep.{AmtStep}
 use Rattle.isdb_mmt.specs.declared.table.amt.AmtStep.the-variants.{Malformed as noFlow, Service as flow}
 use Rattle.isdb_mmt.specs.declared.table.sdt.SdtService.{SdtService}

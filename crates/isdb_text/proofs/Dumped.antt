@@ -12,15 +12,15 @@ use Rattle.isdb_tlv.proofs.Guards.{either}
 use Rattle.isdb_tlv.specs.Bytes.{be, putBe}
 use Rattle.isdb_tlv.specs.Crc.{crcOf}
 use Rattle.isdb_tlv.specs.Fields.{written, puts, fourFields}
-use Rattle.isdb_mmt.specs.Ntp.{Seconds}
-use Rattle.isdb_mmt.specs.Part.{partOf}
-use Rattle.isdb_mmt.specs.Check.{sound}
-use Rattle.isdb_mmt.specs.Session.{Session, limitsOf, usedOf, controlPlaceOf}
-use Rattle.isdb_mmt.specs.Lent.{part, flag, flagByte, namesFrom}
-use Rattle.isdb_mmt.specs.Layout.{mostControlIds, mostMessageArea, tableIds, controlPlaces, controlSize}
-use Rattle.isdb_mmt.specs.Records.{rowSize, noHeader, hasHeader, headerOr, hasItem, itemOr}
-use Rattle.isdb_mmt.specs.Readings.{nameRead, mostName, nextMediaRead, nextControlRead, mediaRead, heldRead, assetRead}
-use Rattle.isdb_mmt.specs.Readings.{countersRead, timeRead, countRead, controlRead}
+use Rattle.isdb_mmt.specs.Formats.Ntp.{Seconds}
+use Rattle.isdb_mmt.specs.Formats.Part.{partOf}
+use Rattle.isdb_mmt.specs.Memory.Check.{sound}
+use Rattle.isdb_mmt.specs.Memory.Session.{Session, limitsOf, usedOf, controlPlaceOf}
+use Rattle.isdb_mmt.specs.Memory.Lent.{part, flag, flagByte, namesFrom}
+use Rattle.isdb_mmt.specs.Memory.Layout.{mostControlIds, mostMessageArea, tableIds, controlPlaces, controlSize}
+use Rattle.isdb_mmt.specs.Pushes.Records.{rowSize, noHeader, hasHeader, headerOr, hasItem, itemOr}
+use Rattle.isdb_mmt.specs.Answers.Readings.{nameRead, mostName, nextMediaRead, nextControlRead, mediaRead, heldRead, assetRead}
+use Rattle.isdb_mmt.specs.Answers.Readings.{countersRead, timeRead, countRead, controlRead}
 use Rattle.isdb_mmt.specs.declared.maybe.MaybeU32.the-variants.{None as noU32}
 use Rattle.isdb_mmt.specs.declared.mpu.MfuHeader.{MfuHeader}
 use Rattle.isdb_mmt.specs.declared.mpu.MaybeMfu.{MaybeMfu}

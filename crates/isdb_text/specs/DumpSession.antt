@@ -8,14 +8,14 @@ use Rattle.isdb_tlv.specs.Guards.{if_then_else_, _<?_, _≤?_, _=?_}
 use Rattle.isdb_tlv.specs.Bytes.{be}
 use Rattle.isdb_tlv.specs.Crc.{crcOf}
 use Rattle.isdb_tlv.specs.Fields.{Field, written}
-use Rattle.isdb_mmt.specs.Ntp.{ntpToUnix}
-use Rattle.isdb_mmt.specs.Part.{partOf}
-use Rattle.isdb_mmt.specs.Lent.{part, flagByte, namesFrom}
-use Rattle.isdb_mmt.specs.Layout.{mostMediaIds, mostControlIds, mostMessageArea, tableIds, controlPlaces, controlSize}
-use Rattle.isdb_mmt.specs.Session.{Session, limitsOf, usedOf, controlPlaceOf}
-use Rattle.isdb_mmt.specs.Records.{rowFields, hasHeader, headerOr, hasItem, itemOr}
-use Rattle.isdb_mmt.specs.Readings.{countersRead, timeRead, countRead, nextMediaRead, mediaRead, heldRead, assetRead, nextControlRead}
-use Rattle.isdb_mmt.specs.Readings.{controlRead}
+use Rattle.isdb_mmt.specs.Formats.Ntp.{ntpToUnix}
+use Rattle.isdb_mmt.specs.Formats.Part.{partOf}
+use Rattle.isdb_mmt.specs.Memory.Lent.{part, flagByte, namesFrom}
+use Rattle.isdb_mmt.specs.Memory.Layout.{mostMediaIds, mostControlIds, mostMessageArea, tableIds, controlPlaces, controlSize}
+use Rattle.isdb_mmt.specs.Memory.Session.{Session, limitsOf, usedOf, controlPlaceOf}
+use Rattle.isdb_mmt.specs.Pushes.Records.{rowFields, hasHeader, headerOr, hasItem, itemOr}
+use Rattle.isdb_mmt.specs.Answers.Readings.{countersRead, timeRead, countRead, nextMediaRead, mediaRead, heldRead, assetRead, nextControlRead}
+use Rattle.isdb_mmt.specs.Answers.Readings.{controlRead}
 use Rattle.isdb_mmt.specs.declared.maybe.MaybeU16.{MaybeU16}
 use Rattle.isdb_mmt.specs.declared.maybe.MaybeU16.the-variants.{None as noU16, Some as someU16}
 use Rattle.isdb_mmt.specs.declared.maybe.MaybeU32.{MaybeU32}

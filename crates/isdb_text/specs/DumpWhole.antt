@@ -2,16 +2,16 @@
 use Prim.Native.Nat.{ℕ}
 use mathlib.Core.Path.{_≡_}
 use mathlib.Core.List.{List, [], _∷_, _++_}
-use Rattle.isdb_mmt.specs.Part.{partOf}
-use Rattle.isdb_mmt.specs.Mpt.{mptOf}
-use Rattle.isdb_mmt.specs.Plt.{pltOf}
-use Rattle.isdb_mmt.specs.Amt.{amtOf}
-use Rattle.isdb_mmt.specs.Eit.{eitOf}
-use Rattle.isdb_mmt.specs.Sdt.{sdtOf}
-use Rattle.isdb_mmt.specs.Nit.{nitOf}
-use Rattle.isdb_mmt.specs.Steps.{Stood, atEnd, malformed, element}
-use Rattle.isdb_mmt.specs.Whole.{WholeAsset, wholeMpt, wholePlt}
-use Rattle.isdb_mmt.specs.WholeSections.{Described, WholeStream, wholeAmt, wholeEit, wholeSdt, wholeNit}
+use Rattle.isdb_mmt.specs.Formats.Part.{partOf}
+use Rattle.isdb_mmt.specs.Formats.Mpt.{mptOf}
+use Rattle.isdb_mmt.specs.Formats.Plt.{pltOf}
+use Rattle.isdb_mmt.specs.Formats.Amt.{amtOf}
+use Rattle.isdb_mmt.specs.Formats.Eit.{eitOf}
+use Rattle.isdb_mmt.specs.Formats.Sdt.{sdtOf}
+use Rattle.isdb_mmt.specs.Formats.Nit.{nitOf}
+use Rattle.isdb_mmt.specs.WholeValues.Steps.{Stood, atEnd, malformed, element}
+use Rattle.isdb_mmt.specs.WholeValues.Whole.{WholeAsset, wholeMpt, wholePlt}
+use Rattle.isdb_mmt.specs.WholeValues.WholeSections.{Described, WholeStream, wholeAmt, wholeEit, wholeSdt, wholeNit}
 use Rattle.isdb_mmt.specs.declared.table.section.SectionHeader.{SectionHeader}
 use Rattle.isdb_mmt.specs.declared.table.mpt.Mpt.{Mpt}
 use Rattle.isdb_mmt.specs.declared.table.mpt.MaybeMpt.the-variants.{Some as someMpt}
