@@ -1,4 +1,6 @@
 // Lists everything that a recording holds: standard input as TLV packets, pushed into a session one by one.
+mod tables;
+
 use isdb_mmt::decoder;
 use isdb_mmt::decoder::limits::Limits;
 use isdb_text::cut;
@@ -253,7 +255,7 @@ fn report(
     let p = write_text(text, at);
     let q = dump_session::session_lines(state, others, objects, messages, tables, text, p);
     write_text(text, q);
-    // THE KEPT TABLES ARE WRITTEN HERE: mpt, plt, eit, sdt, bit, nit, amt, tot.
+    tables::write_tables(state, others, objects, messages, tables);
 }
 
 fn open_session(
