@@ -48,7 +48,8 @@ use Rattle.isdb_text.specs.DumpTables.{flowText, flowElement, serviceTex
 use Rattle.isdb_text.specs.DumpWhole.{joined, shownBy, WholeShown}
 
 -- a walk whose steps give a list has the texts of that list
-module _ {A : Type 0} (step : ℕ → Stood A) (text : A → List ℕ) (own : ℕ → Element) (same : (p : ℕ) → own p ≡ shownBy text (step p)) where
+module _ {A : Type 0} (step : ℕ → Stood A) (text : A → List ℕ) (own : ℕ → Element)
+    (same : (p : ℕ) → own p ≡ shownBy text (step p)) where
   texts-given : (l : List A) (at stop : ℕ) → Gives step at l stop → texts own (length l) at ≡ joined text l
   unfolding texts
   texts-given [] at stop g = refl
@@ -129,7 +130,8 @@ whole-shown =
       sdt = λ s h t e. texts-all (serviceSeen (partOf s (h .body))) (λ d. serviceText (partOf s (h .body)) (d .value))
           (λ at. serviceElement (partOf s (h .body)) (serviceStep (partOf s (h .body)) at))
           (λ p. as-service (partOf s (h .body)) (serviceStep (partOf s (h .body)) p)) (walks .sdt s h t e);
-      bit = λ s h t e. rw (← starts s h t e) (texts-all (broadcasterSeen (partOf s (h .body))) (λ d. broadcasterText (partOf s (h .body)) (d .value))
+      bit = λ s h t e. rw (← starts s h t e) (texts-all (broadcasterSeen (partOf s (h .body)))
+          (λ d. broadcasterText (partOf s (h .body)) (d .value))
           (λ at. broadcasterElement (partOf s (h .body)) (broadcasterStep (partOf s (h .body)) at))
           (λ p. as-broadcaster (partOf s (h .body)) (broadcasterStep (partOf s (h .body)) p)) (walks .bit s h t e));
       nit = λ s h t e. let b = partOf (partOf s (h .body)) (t .«loop_part») in
