@@ -27,7 +27,7 @@ use Rattle.isdb_mmt.specs.declared.desc.ServiceStep.the-variants.{Service as se
 use Rattle.isdb_mmt.specs.declared.desc.GenreStep.the-variants.{End as noGenre}
 
 -- Location::parse: a URL's place counts from the location's first byte
--- wrong: part 2 3 => part 0 3 (from the URL's own)
+-- wrong: partAt 2 3 => partAt 0 3 (from the URL's own)
 -- wrong: 5 => 6 (with the byte behind it)
 pub location-parse : locationOf (bytesOf 6 0x0503616263EE) ≡ located (Url (partAt 2 3)) 5
 unfolding bytesOf sized urlOf locationOf
@@ -47,7 +47,7 @@ unfolding lengthWidth
 length-width = refl
 
 -- desc::next: a length of two bytes behind a tag of F001h
--- wrong: part 4 1 => part 3 0 (a length of one byte)
+-- wrong: partAt 4 1 => partAt 3 0 (a length of one byte)
 -- wrong: 5 => 4 (the body's start)
 pub desc-next : stepAt (bytesOf 5 0xF00100017A) 0 ≡ Raw 0xF001 (partAt 4 1) 5
 unfolding bytesOf be lengthWidth stepAt
@@ -61,8 +61,8 @@ unfolding bytesOf be lengthWidth stepAt splitFrom splitOf counted isSome
 decode-all = refl
 
 -- Descriptor::decode: a body too short for its structure
--- wrong: Other 0x8011 (part 0 1) => StreamIdentifier 0 (the missing byte read as 0)
--- wrong: part 0 1 => part 0 0 (the body lost)
+-- wrong: Other 0x8011 (partAt 0 1) => StreamIdentifier 0 (the missing byte read as 0)
+-- wrong: partAt 0 1 => partAt 0 0 (the body lost)
 pub decode : descriptorOf 0x8011 (0x00 ∷ []) ≡ Other 0x8011 (partAt 0 1)
 unfolding streamIdentifier descriptorOf
 decode = refl
@@ -78,8 +78,8 @@ pub is-other-body : isOther (Other 0x8011 (partAt 0 1)) ≡ true
 is-other-body = refl
 
 -- desc::first_of: the first that could be decoded
--- wrong: found (StreamIdentifier 16) (part 7 2) => notFound (the first of the tag could not)
--- wrong: part 7 2 => part 3 2 (the first's place)
+-- wrong: found (StreamIdentifier 16) (partAt 7 2) => notFound (the first of the tag could not)
+-- wrong: partAt 7 2 => partAt 3 2 (the first's place)
 pub first-of : firstOf 0x8011 (bytesOf 9 0x801101008011020010) 0 ≡ found (StreamIdentifier 16) (partAt 7 2)
 unfolding bytesOf be lengthWidth stepAt splitFrom streamIdentifier descriptorOf firstOf
 first-of = refl
@@ -106,7 +106,7 @@ unfolding bytesOf be timestampAt
 next-timestamp = refl
 
 -- timestamp::next_mpu: one access unit with a PTS offset of its own
--- wrong: part 8 4 => part 8 2 (without it)
+-- wrong: partAt 8 4 => partAt 8 2 (without it)
 -- wrong: 7 1 100 => 7 64 100 (the leap indicator in the low bits)
 pub next-mpu : mpuAt (bytesOf 12 0x000000074000640100010002) true 0 ≡ Mpu 7 1 100 1 (partAt 8 4) 12
 unfolding bytesOf be mpuAt

@@ -86,8 +86,8 @@ unfolding told
 media-state = refl
 
 -- decoder::ids::held: the bytes lie in the area of the id's place, here the second
--- wrong: bytes = part 2 2 => bytes = part 0 2 (the first area)
--- wrong: bytes = part 2 2 => bytes = part 4 2 (areas counted from one)
+-- wrong: bytes = partAt 2 2 => bytes = partAt 0 2 (the first area)
+-- wrong: bytes = partAt 2 2 => bytes = partAt 4 2 (areas counted from one)
 pub held-object : told (heldIn units 0xF100)
     ≡ object (theObject (record {
       «mpu_sequence_number» = 7;
@@ -101,7 +101,7 @@ held-object = refl
 
 -- decoder::ids::held, of an id that was never seen
 -- wrong: NoId => noObject (an id that holds nothing)
--- wrong: NoId => theObject (record { «mpu_sequence_number» = 0; rap = false; mfu = noMfu; «item_id» = noU32; bytes = part 0 0 }) (an empty object)
+-- wrong: NoId => theObject (record { «mpu_sequence_number» = 0; rap = false; mfu = noMfu; «item_id» = noU32; bytes = partAt 0 0 }) (an empty object)
 pub held-unknown : told (heldIn units 0xF102) ≡ object NoId
 unfolding told
 held-unknown = refl

@@ -71,7 +71,7 @@ unfolding bytesOf be longSectionOf
 long-section-short = refl
 
 -- section::next_entry: one byte of fields, a length of 12 bits behind four reserved bits
--- wrong: part 3 2 => part 2 2 (a length of one byte)
+-- wrong: partAt 3 2 => partAt 2 2 (a length of one byte)
 -- wrong: 5 => 3 (the descriptors' start)
 pub next-entry : entryAt (bytesOf 5 0x01F0027A7A) 1 0 ≡ entry (record { at = 0; descriptors = partAt 3 2 }) 5
 unfolding bytesOf be entryAt
@@ -122,7 +122,7 @@ unfolding bytesOf be entryAt eventStep
 next-event = refl
 
 -- eit::short_event: the first that could be decoded
--- wrong: (part 11 15) => (part 4 3) (the first)
+-- wrong: (partAt 11 15) => (partAt 4 3) (the first)
 -- wrong: first = 0x6A; second = 0x70; third = 0x6E => first = 0x6E; second = 0x70; third = 0x6A (backwards)
 pub short-event : firstOf 0xF001 (bytesOf 26 0xF00100036A706EF001000F6A706E05546F64617900046E657773) 0
     ≡ found (ShortEvent (record { first = 0x6A; second = 0x70; third = 0x6E }) (partAt 4 5) (partAt 11 4)) (partAt 11 15)
@@ -153,8 +153,8 @@ unfolding bytesOf be entryAt serviceStep
 sdt-service = refl
 
 -- sdt::service_descriptor: the first that could be decoded
--- wrong: (part 7 10) => (part 3 1) (the first)
--- wrong: (part 2 3) (part 6 4) => (part 6 4) (part 2 3) (name and provider exchanged)
+-- wrong: (partAt 7 10) => (partAt 3 1) (the first)
+-- wrong: (partAt 2 3) (partAt 6 4) => (partAt 6 4) (partAt 2 3) (name and provider exchanged)
 pub service-descriptor : firstOf 0x8019 (bytesOf 17 0x8019010180190A01034E484B044253344B) 0 ≡ found (Service 1 (partAt 2 3) (partAt 6 4)) (partAt 7 10)
 unfolding bytesOf be lengthWidth stepAt splitFrom serviceText descriptorOf firstOf
 service-descriptor = refl
@@ -178,22 +178,22 @@ unfolding bytesOf be feed feedByte crcOf lengthWidth stepAt splitFrom splitOf lo
 bit-parse = refl
 
 -- bit::next_broadcaster
--- wrong: broadcaster (record { «broadcaster_id» = 2; descriptors = part 3 0 }) 3 => noBroadcaster (an empty loop is none)
+-- wrong: broadcaster (record { «broadcaster_id» = 2; descriptors = partAt 3 0 }) 3 => noBroadcaster (an empty loop is none)
 -- wrong: «broadcaster_id» = 2 => «broadcaster_id» = 0xF0 (one byte further)
 pub next-broadcaster : broadcasterStep (bytesOf 3 0x02F000) 0 ≡ broadcaster (record { «broadcaster_id» = 2; descriptors = partAt 3 0 }) 3
 unfolding bytesOf be entryAt broadcasterStep
 next-broadcaster = refl
 
 -- nit::read: a loop of streams that does not end with a stream
--- wrong: noNit Malformed => nitOk (header 0x40 4 3 5) (record { descriptors = part 2 0; «loop_part» = part 4 1; streams = 0 }) (the rest passed over)
+-- wrong: noNit Malformed => nitOk (header 0x40 4 3 5) (record { descriptors = partAt 2 0; «loop_part» = partAt 4 1; streams = 0 }) (the rest passed over)
 -- wrong: noNit Malformed => noNit Truncated (the section too short)
 pub nit-read : nitBody (header 0x40 4 3 5) (bytesOf 5 0xF000F00100) ≡ noNit Malformed
 unfolding bytesOf be entryAt entriesFrom nitBody
 nit-read = refl
 
 -- nit::parse: bytes behind the loop of streams
--- wrong: nitOk (header 0x41 4 3 6) (record { descriptors = part 2 0; «loop_part» = part 4 0; streams = 0 }) => noNit Malformed (the loop must end with the body)
--- wrong: «loop_part» = part 4 0 => «loop_part» = part 4 2 (to the body's end)
+-- wrong: nitOk (header 0x41 4 3 6) (record { descriptors = partAt 2 0; «loop_part» = partAt 4 0; streams = 0 }) => noNit Malformed (the loop must end with the body)
+-- wrong: «loop_part» = partAt 4 0 => «loop_part» = partAt 4 2 (to the body's end)
 pub nit-parse : nitOf (bytesOf 18 0x41F00F0004C70000F000F0007A7A40613946)
     ≡ nitOk (header 0x41 4 3 6) (record { descriptors = partAt 2 0; «loop_part» = partAt 4 0; streams = 0 })
 unfolding bytesOf be feed feedByte crcOf longSectionOf entryAt entriesFrom nitBody nitOf
@@ -201,15 +201,15 @@ nit-parse = refl
 
 -- nit::next_stream
 -- wrong: «tlv_stream_id» = 11; «original_network_id» = 4 => «tlv_stream_id» = 4; «original_network_id» = 11 (exchanged)
--- wrong: part 6 0 => part 4 0 (without the length)
+-- wrong: partAt 6 0 => partAt 4 0 (without the length)
 pub next-stream : streamStep (bytesOf 6 0x000B0004F000) 0
     ≡ stream (record { «tlv_stream_id» = 11; «original_network_id» = 4; descriptors = partAt 6 0 }) 6
 unfolding bytesOf be entryAt streamStep
 next-stream = refl
 
 -- nit::next_tlv: a descriptor that does not fit ends the loop
--- wrong: noDescriptor => descriptor 0x40 (part 2 1) 3 (as much as is there)
--- wrong: noDescriptor => descriptor 0x40 (part 2 2) 4 (beyond the end)
+-- wrong: noDescriptor => descriptor 0x40 (partAt 2 1) 3 (as much as is there)
+-- wrong: noDescriptor => descriptor 0x40 (partAt 2 2) 4 (beyond the end)
 pub next-tlv : tlvStepAt (bytesOf 3 0x400242) 0 ≡ noDescriptor
 unfolding bytesOf tlvStepAt
 next-tlv = refl
@@ -222,15 +222,15 @@ unfolding bytesOf frequencyOf
 frequency = refl
 
 -- nit::network_name: another tag
--- wrong: noPart => somePart (part 0 2) (any tag)
--- wrong: noPart => somePart (part 0 0) (an empty name)
+-- wrong: noPart => somePart (partAt 0 2) (any tag)
+-- wrong: noPart => somePart (partAt 0 0) (an empty name)
 pub network-name : networkName 0x41 (bytesOf 2 0x4253) ≡ noPart
 unfolding wholeBody
 network-name = refl
 
 -- nit::service_list
--- wrong: somePart (part 0 6) => noPart (another tag)
--- wrong: part 0 6 => part 0 2 (how many services)
+-- wrong: somePart (partAt 0 6) => noPart (another tag)
+-- wrong: partAt 0 6 => partAt 0 2 (how many services)
 pub service-list : serviceList 0x41 (bytesOf 6 0x006501006602) ≡ somePart (partAt 0 6)
 unfolding bytesOf wholeBody
 service-list = refl
@@ -258,7 +258,7 @@ unfolding bytesOf be feed feedByte crcOf longSectionOf servicesWhole amtBody amt
 amt-parse = refl
 
 -- tot::parse: the descriptors may run into the CRC
--- wrong: totOk (record { jst = 0xE3B9123456; descriptors = part 10 4 }); breaks = 1 => noTot Malformed; breaks = 0 (they may not)
+-- wrong: totOk (record { jst = 0xE3B9123456; descriptors = partAt 10 4 }); breaks = 1 => noTot Malformed; breaks = 0 (they may not)
 -- wrong: breaks = 1 => breaks = 0 (a break in the CRC's bytes not counted)
 pub tot-parse : totOf (bytesOf 14 0xA1700BE3B9123456F004A4B4A880) ≡ record { result = totOk (record { jst = 0xE3B9123456; descriptors = partAt 10 4 }); breaks = 1 }
 unfolding bytesOf be feed feedByte crcOf lengthWidth stepAt splitFrom splitOf totFields totOf isSome
@@ -279,7 +279,7 @@ unfolding bytesOf be sized locationOf
 location-at = refl
 
 -- mpt::asset_at
--- wrong: «asset_id» = part 15 1 => «asset_id» = part 14 1 (with its length)
+-- wrong: «asset_id» = partAt 15 1 => «asset_id» = partAt 14 1 (with its length)
 -- wrong: «locations_start» = 22 => «locations_start» = 21 (with their number)
 pub asset-at : assetAt (bytesOf 24 0x20030014FE000000010000000000017873747070FE000000) 9
     ≡ asset (record { «identifier_type» = 0; «asset_id_scheme» = 0; «asset_id» = partAt 15 1; «asset_type» = 0x73747070; «clock_relation» = false; locations = 0; «locations_start» = 22; descriptors = partAt 24 0 }) 24
@@ -288,7 +288,7 @@ asset-at = refl
 
 -- mpt::parse: a broken loop counts also where the table then fails
 -- wrong: breaks = 1 => breaks = 0 (it does not)
--- wrong: mpt = noMpt; breaks = 1 => mpt = someMpt (record { «table_id» = 0x20; version = 3; mode = 1; «package_id» = part 6 2; descriptors = part 10 1; assets = 0; start = 12 }); breaks = 1 (the missing number of assets read as 0)
+-- wrong: mpt = noMpt; breaks = 1 => mpt = someMpt (record { «table_id» = 0x20; version = 3; mode = 1; «package_id» = partAt 6 2; descriptors = partAt 10 1; assets = 0; start = 12 }); breaks = 1 (the missing number of assets read as 0)
 pub mpt-parse : mptOf (bytesOf 11 0x20030007FD020065000100) ≡ record { mpt = noMpt; breaks = 1 }
 unfolding bytesOf be lengthWidth stepAt splitFrom splitOf declaredLength mptAssets mptTable mptOf isSome
 mpt-parse = refl

@@ -78,7 +78,7 @@ unfolding bytesOf be
 declared = refl
 
 -- mpu::next_unit: an untimed unit of five bytes behind its length
--- wrong: part 14 1 => part 10 5 (the item id taken for data)
+-- wrong: partAt 14 1 => partAt 10 5 (the item id taken for data)
 -- wrong: 15 => 13 (the length without its own two bytes)
 pub next-unit : unitStep (bytesOf 15 0x000D21000000000700050000000AAA) false true 8
     ≡ unit (record { mfu = noMfu; «item_id» = someU32 10; «data» = partAt 14 1 }) 15
@@ -119,7 +119,7 @@ unfolding divisionOf
 fragment-of = refl
 
 -- message::next_message: a message of one byte behind a length of two
--- wrong: part 2 1 => part 0 3 (with its length)
+-- wrong: partAt 2 1 => partAt 0 3 (with its length)
 -- wrong: 3 => 2 (behind the length)
 pub next-message : aggregatedAt (bytesOf 3 0x000190) false 0 ≡ Message (partAt 2 1) 3
 unfolding bytesOf be aggregatedAt
@@ -133,14 +133,14 @@ next-message-tail = refl
 
 -- message::content_of: the tables of a PA message stand behind 1 + 4n bytes
 -- wrong: 5 => 4 (without n itself)
--- wrong: part 7 9 => part 7 255 (as its length says)
+-- wrong: partAt 7 9 => partAt 7 255 (as its length says)
 pub content-of : contentOf (bytesOf 16 0x000000000000FF012000000020000000) ≡ Tables (partAt 7 9) 5
 unfolding bytesOf be paTables contentOf
 content-of = refl
 
 -- message::next_table: one that runs past the body's end
 -- wrong: badTable => noTable (the end)
--- wrong: badTable => table (part 0 5) 5 (as much as is there)
+-- wrong: badTable => table (partAt 0 5) 5 (as much as is there)
 pub next-table : tableAt (bytesOf 5 0x2001000200) 0 ≡ badTable
 unfolding bytesOf be tableAt
 next-table = refl

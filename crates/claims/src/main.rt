@@ -92,7 +92,7 @@ fn section_bytes(b: &[u8]) -> &[u8]
         table_id: 0x40,
         extension: 4,
         version: 1,
-        length: 16,
+        size: 16,
     };
     s.bytes(b)
 }
