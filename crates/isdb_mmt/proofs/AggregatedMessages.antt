@@ -36,10 +36,10 @@ pub length-is : (s : List ℕ) → ((i : ℕ) → Fits w8 (getD s i 0)) → (at 
     → r ≡ be w s at
 length-is s h at long {w} e n = n ∙ be-whole s h w at (omega (arith, width-le long))
 
-abbrev pub PieceInside : List ℕ → ℕ → MessageStep → Type 0
-PieceInside s at End = Unit {0}
-PieceInside s at Malformed = Unit {0}
-PieceInside s at (Message p next) = Lies s at p next
+abbrev pub AggregatedInside : List ℕ → ℕ → MessageStep → Type 0
+AggregatedInside s at End = Unit {0}
+AggregatedInside s at Malformed = Unit {0}
+AggregatedInside s at (Message p next) = Lies s at p next
 
 abbrev pub TableInside : List ℕ → ℕ → TableStep → Type 0
 TableInside s at noMore = Unit {0}
@@ -47,31 +47,31 @@ TableInside s at badTable = Unit {0}
 TableInside s at (table p next) = Lies s at p next
 
 module _ (s : List ℕ) (long : Bool) where
-  pub piece-inside : (at : ℕ) → PieceInside s at (aggregatedAt s long at)
+  pub aggregated-inside : (at : ℕ) → AggregatedInside s at (aggregatedAt s long at)
   unfolding aggregatedAt
-  piece-inside at =
+  aggregated-inside at =
       let w = prefixWidth long in
       let n = be w s at in
-      cond-elim (PieceInside s at) (ltb (length s - at) w) (λ e. tt) (λ e.
-      cond-elim (PieceInside s at) (ltb (length s - (at + w)) n) (λ d. tt) (λ d.
+      cond-elim (AggregatedInside s at) (ltb (length s - at) w) (λ e. tt) (λ e.
+      cond-elim (AggregatedInside s at) (ltb (length s - (at + w)) n) (λ d. tt) (λ d.
       let a = ltb-false (length s - at) w e in
       let b = ltb-false (length s - (at + w)) n d in
       let g = width-ge long in
       record { ahead = omega arith; within = omega arith; starts = omega arith; ends = refl }))
 
-  pub piece-lies : {at next : ℕ} {p : Part} → aggregatedAt s long at ≡ Message p next → Lies s at p next
-  piece-lies {at} e = rw e at (piece-inside at)
+  pub aggregated-lies : {at next : ℕ} {p : Part} → aggregatedAt s long at ≡ Message p next → Lies s at p next
+  aggregated-lies {at} e = rw e at (aggregated-inside at)
 
-  piece-ahead : (at : ℕ) (r : MessageStep) → PieceInside s at r → Ahead (length s) at (aggregatedItem r)
-  piece-ahead at End l = tt
-  piece-ahead at Malformed l = tt
-  piece-ahead at (Message p next) l = (omega (arith, l .ahead, l .within), l .ahead)
+  aggregated-ahead : (at : ℕ) (r : MessageStep) → AggregatedInside s at r → Ahead (length s) at (aggregatedItem r)
+  aggregated-ahead at End l = tt
+  aggregated-ahead at Malformed l = tt
+  aggregated-ahead at (Message p next) l = (omega (arith, l .ahead, l .within), l .ahead)
 
   -- the messages from a place on: what stands there, and the messages from where it leads
-  pub pieces-at : (at : ℕ) → aggregatedFrom s long at ≡ turn (aggregatedFrom s long) (aggregatedItem (aggregatedAt s long at))
+  pub aggregated-at : (at : ℕ) → aggregatedFrom s long at ≡ turn (aggregatedFrom s long) (aggregatedItem (aggregatedAt s long at))
   unfolding aggregatedFrom
-  pieces-at at =
-      walk-at (λ q. aggregatedItem (aggregatedAt s long q)) (record { found = []; malformed = 0 }) (length s) (λ q. piece-ahead q (aggregatedAt s long q) (piece-inside q)) at
+  aggregated-at at =
+      walk-at (λ q. aggregatedItem (aggregatedAt s long q)) (record { found = []; malformed = 0 }) (length s) (λ q. aggregated-ahead q (aggregatedAt s long q) (aggregated-inside q)) at
 
 module _ (s : List ℕ) where
   pub table-inside : (at : ℕ) → TableInside s at (tableAt s at)

@@ -135,9 +135,9 @@ abbrev covered : Aggregated → ℕ
 covered l = totalParts (l .found)
 
 module _ (s : Bytes) (long : Bool) where
-  piece-grows : (at : ℕ) → Grows spread (length s) at (aggregatedItem (aggregatedAt s long at))
+  aggregated-grows : (at : ℕ) → Grows spread (length s) at (aggregatedItem (aggregatedAt s long at))
   unfolding aggregatedAt
-  piece-grows at =
+  aggregated-grows at =
       let w = prefixWidth long in
       let n = be w s at in
       let G : MessageStep → Type 0 = λ d. Grows spread (length s) at (aggregatedItem d) in
@@ -148,10 +148,10 @@ module _ (s : Bytes) (long : Bool) where
       let b = ltb-false (length s - (at + w)) n d in
       (omega arith, omega arith, λ r. omega arith)))
 
-  pieces-le : spread (aggregatedFrom s long 0) ≤ length s
+  aggregated-le : spread (aggregatedFrom s long 0) ≤ length s
   unfolding aggregatedFrom
-  pieces-le =
-      omega (arith, grows-within spread (length s) (λ p. aggregatedItem (aggregatedAt s long p)) (λ p. record { found = []; malformed = 0 }) (λ p. refl) piece-grows (suc (length s)) 0)
+  aggregated-le =
+      omega (arith, grows-within spread (length s) (λ p. aggregatedItem (aggregatedAt s long p)) (λ p. record { found = []; malformed = 0 }) (λ p. refl) aggregated-grows (suc (length s)) 0)
 
 module _ (s : Bytes) where
   table-counts : (at : ℕ) → Grows count (length s) at (tableItem (tableAt s at))
@@ -246,7 +246,7 @@ pub fills-cut : (j : PartialMessage) → Fills (length (j .bytes)) (suc (length 
 unfolding cutOf messagesOf
 fills-cut j =
     let ps = aggregatedFrom (j .bytes) (j .long) 0 in
-    let h = pieces-le (j .bytes) (j .long) in
+    let h = aggregated-le (j .bytes) (j .long) in
     let x = fills-all (partsOf (j .bytes) (ps .found)) in
     let t = total-parts (j .bytes) (ps .found) in
     let k = length-parts (j .bytes) (ps .found) in

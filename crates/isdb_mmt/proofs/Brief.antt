@@ -126,18 +126,18 @@ drop-short n b l = omega (arith, length-drop n b)
 
 -- a media payload
 
-length-pieces : (h : PayloadHeader) (q : Bytes) (us : List DataUnit) → length (map (payloadUnit h q) us) ≡ length us
-length-pieces h q [] = refl
-length-pieces h q (u ∷ us) = omega (arith, length-pieces h q us)
+length-payload-units : (h : PayloadHeader) (q : Bytes) (us : List DataUnit) → length (map (payloadUnit h q) us) ≡ length us
+length-payload-units h q [] = refl
+length-payload-units h q (u ∷ us) = omega (arith, length-payload-units h q us)
 
-clear-pieces : (h : PayloadHeader) (q : Bytes) (o : Option (List DataUnit)) → unitCount o < 65536 → length (clear false (payloadUnits h q o)) < 65536
+clear-payload-units : (h : PayloadHeader) (q : Bytes) (o : Option (List DataUnit)) → unitCount o < 65536 → length (clear false (payloadUnits h q o)) < 65536
 unfolding clear
-clear-pieces h q none l = omega arith
-clear-pieces h q (some us) l = omega (arith, length-pieces h q us)
+clear-payload-units h q none l = omega arith
+clear-payload-units h q (some us) l = omega (arith, length-payload-units h q us)
 
 clear-units : (h : PayloadHeader) (t : FragmentType) (q : Bytes) → length q < 65536 → length (clear false (unitsFor h t q)) < 65536
 unfolding clear
-clear-units h Mfu q l = clear-pieces h q (unitsOf q (h .timed) (h .aggregated)) (omega (arith, units-le q (h .timed) (h .aggregated)))
+clear-units h Mfu q l = clear-payload-units h q (unitsOf q (h .timed) (h .aggregated)) (omega (arith, units-le q (h .timed) (h .aggregated)))
 clear-units h MpuMetadata q l = omega arith
 clear-units h MovieFragmentMetadata q l = omega arith
 clear-units h (reservedType c) q l = omega arith

@@ -30,7 +30,7 @@ use Rattle.isdb_mmt.specs.Pushes.Leaves.{packetLeaves}
 use Rattle.isdb_tlv.specs.Guards.{_<?_, _≤?_}
 use Rattle.isdb_mmt.specs.Decoder.Needs.{needs}
 use Rattle.isdb_mmt.specs.Pushes.Push.{Input, packetOf, mostBytes, hasPlaces, hasAreas, hasOutputs, asksOf, asks, Taken, handed as handedBy}
-use Rattle.isdb_mmt.specs.Answers.Readings.{mediaFound, controlFound, countersRead, timeRead, timeAt, countRead, mediaNames, controlNames, keysIn, leastFrom, mostName, nameTold, nextMediaRead, nextControlRead, nextKeyRead, mediaIf, mediaRead, heldAt, heldIf, heldRead, controlIf, controlRead, sectionRead, mptRead, pltRead, totRead, assetRead, timeNumber, nameNumber, mediaNumber, heldNumber, controlNumber, tableNumber, assetNumber, Told, refused, nothing, these, toldBy}
+use Rattle.isdb_mmt.specs.Answers.Readings.{mediaFound, controlFound, countersRead, timeRead, timeAt, countRead, mediaNames, controlNames, keysIn, leastFrom, mostName, nameTold, nextMediaRead, nextControlRead, nextKeyRead, mediaIf, mediaRead, heldAt, heldIf, heldRead, controlIf, controlRead, sectionRead, mptRead, pltRead, totRead, assetRead, timeNumber, nameNumber, mediaNumber, heldNumber, controlNumber, tableNumber, assetNumber, TableTold, refused, nothing, these, toldBy}
 use Rattle.isdb_mmt.specs.Answers.TableReadingLaws.{sectionBytes, mptBytes, handsOut, AsKept}
 use Rattle.isdb_mmt.specs.Theorems.Calls.{keptIn, droppedIn, lostIn, heldIn, Reading, counters, time, count, nextMedia, nextControl, nextKey, mediaOf, held, controlOf, mpt, plt, tot, section, assetOf, readingNumber, Call, push, read, after, pushes, accepted, handed, AllBytes, leavesOf, replyOf, decoder, PushDetermined, Tells, none-kept, kept, After, Demand3, AllAsModel, AnswersAsModel}
 use Rattle.isdb_mmt.specs.declared.maybe.MaybeU32.{MaybeU32}
@@ -221,7 +221,7 @@ never-5 s ok x e =
 
 -- ---- readings
 
-abbrev keptTold : Option Kept → Told
+abbrev keptTold : Option Kept → TableTold
 keptTold none = nothing
 keptTold (some x) = these (x .bytes)
 
@@ -233,7 +233,7 @@ tells : (o : Option Kept) (xs : List Section) → Keeps o xs → Tells (keptTold
 tells _ _ never = none-kept
 tells _ _ (keeps x f) = kept x f
 
-abbrev numbered : Told → ℕ
+abbrev numbered : TableTold → ℕ
 numbered (refused n) = 1
 numbered nothing = 0
 numbered (these b) = 0

@@ -51,7 +51,7 @@ use Rattle.isdb_mmt.proofs.EffectsModelled.{Told}
 use Rattle.isdb_mmt.proofs.Placed.{start-held, start-object, start-zero}
 use Rattle.isdb_mmt.proofs.MediaOutcomes.{outcome-is}
 use Rattle.isdb_mmt.proofs.Gives.{complete-gives}
-use Rattle.isdb_mmt.proofs.MediaUnits.{piece, units-held, complete-held, head-gives, head-held, head-fits, middle-gives, middle-none, middle-held, last-held, Ended, last-given}
+use Rattle.isdb_mmt.proofs.MediaUnits.{unitAs, units-held, complete-held, head-gives, head-held, head-fits, middle-gives, middle-none, middle-held, last-held, Ended, last-given}
 
 -- ---- the one record of a packet
 
@@ -301,9 +301,9 @@ module _ (x : PayloadHeader) (at : ℕ) (p : Media) (r : MediaOutcome) (h : Head
   unfolding mediaOf
   mpu-is = ap (λ (k : MaybeHeader). mpuNumber (headerIn k)) header-is
 
-  pieces-are : readable pk ≡ map (payloadUnit x q) us
+  payload-units-are : readable pk ≡ map (payloadUnit x q) us
   unfolding readable mediaOf clear
-  pieces-are =
+  payload-units-are =
       ap (λ y. clear y (unitsRead b (headerIn (payloadHeader b)))) (taken-x .0)
       ∙ ap (λ (k : MaybeHeader). clear false (unitsRead b (headerIn k))) header-is
       ∙ ap (λ (k : FragmentType). clear false (unitsFor x k q)) (taken-x .1 .kind)
@@ -324,18 +324,18 @@ module _ (x : PayloadHeader) (at : ℕ) (p : Media) (r : MediaOutcome) (h : Head
 
   -- the object after the units, and what they give
   abbrev heldBy : FragmentationIndicator → Option Mfu
-  heldBy f = afterUnits pk a1 (map (piece f q) us) .held
+  heldBy f = afterUnits pk a1 (map (unitAs f q) us) .held
 
   abbrev givenBy : FragmentationIndicator → List Mfu
-  givenBy f = deliveredBy pk a1 (map (piece f q) us)
+  givenBy f = deliveredBy pk a1 (map (unitAs f q) us)
 
   area-is : heldOver at (assetAfter a0 pk .held) objects ≡ heldOver at (heldBy (x .fragmentation)) objects
   unfolding assetAfter
-  area-is = ap (λ (ps : List PayloadUnit). heldOver at (afterUnits pk a1 ps .held) objects) pieces-are
+  area-is = ap (λ (ps : List PayloadUnit). heldOver at (afterUnits pk a1 ps .held) objects) payload-units-are
 
   gives-is : givesFrom at false p h b objects ≡ tagged (pk .id) (givenBy (x .fragmentation))
   unfolding mediaGives passes
-  gives-is = ap (λ (ps : List PayloadUnit). tagged (pk .id) (deliveredBy pk a1 ps)) pieces-are
+  gives-is = ap (λ (ps : List PayloadUnit). tagged (pk .id) (deliveredBy pk a1 ps)) payload-units-are
 
   -- nothing handed out
   module _ (f : FragmentationIndicator) (e : x .fragmentation ≡ f) where
@@ -424,7 +424,7 @@ module _ (x : PayloadHeader) (at : ℕ) (p : Media) (r : MediaOutcome) (h : Head
   module _ (e : x .fragmentation ≡ Middle) where
     held-told : r .units .held ≡ isSome (heldBy Middle)
     held-told =
-        told .held ∙ ap (λ (ps : List PayloadUnit). isSome (afterUnits pk a1 ps .held)) pieces-are ∙ ap (λ (k : FragmentationIndicator). isSome (heldBy k)) e
+        told .held ∙ ap (λ (ps : List PayloadUnit). isSome (afterUnits pk a1 ps .held)) payload-units-are ∙ ap (λ (k : FragmentationIndicator). isSome (heldBy k)) e
 
     pub middle-idle : r .units .held ≡ false → Committed at false p h b objects rows bytes objects rows bytes
     middle-idle z = silent Middle e (middle-gives pk q at objects us a1) objects (none-held at objects (heldBy Middle) (sym held-told ∙ z))
@@ -460,11 +460,11 @@ module _ (x : PayloadHeader) (at : ℕ) (p : Media) (r : MediaOutcome) (h : Head
       room-grown =
           let g = grows in
           let w = held-was at p h b objects fits (g .object) (g .was) in
-          let k = units-held pk (map (piece Middle q) us) a1 in
+          let k = units-held pk (map (unitAs Middle q) us) a1 in
           let n : heldLength (heldBy Middle) ≡ p .object .length + length (dataIn q us) = grown-length g in
           let o : heldLength (a1 .held) ≡ p .object .length = ap heldLength (g .was) ∙ g .long in
-          let u : unitsNeed pk a1 (readable pk) ≡ unitsNeed pk a1 (map (piece Middle q) us) =
-          ap (unitsNeed pk a1) pieces-are ∙ ap (λ (f : FragmentationIndicator). unitsNeed pk a1 (map (piece f q) us)) e in
+          let u : unitsNeed pk a1 (readable pk) ≡ unitsNeed pk a1 (map (unitAs Middle q) us) =
+          ap (unitsNeed pk a1) payload-units-are ∙ ap (λ (f : FragmentationIndicator). unitsNeed pk a1 (map (unitAs f q) us)) e in
           omega (arith, k, n, o, u, told .longest, zeros .1 .1, can .can .room, fits (w .0))
         where
           grown-length : (g : Grows) → heldLength (heldBy Middle) ≡ p .object .length + length (dataIn q us)
@@ -505,7 +505,7 @@ module _ (x : PayloadHeader) (at : ℕ) (p : Media) (r : MediaOutcome) (h : Head
     effect-last = effect-is ∙ ap (λ (f : FragmentationIndicator). withEachUnit f (x .«mpu_sequence_number») (h .rap) q t0 us) e
 
     given-last : deliveredBy pk a1 (readable pk) ≡ givenBy Last
-    given-last = ap (deliveredBy pk a1) pieces-are ∙ ap givenBy e
+    given-last = ap (deliveredBy pk a1) payload-units-are ∙ ap givenBy e
 
     area-last : heldOver at (heldBy Last) objects ≡ objects
     area-last = last-held pk q at objects us a1 still

@@ -36,7 +36,7 @@ use Rattle.isdb_mmt.specs.Pushes.Placed.{joinOf, placed, placedIn, place
 use Rattle.isdb_mmt.specs.Pushes.TableOutcome.{indexOf, tableOutcome, CanDecide}
 use Rattle.isdb_mmt.specs.Pushes.PendingTables.{mostAdded, mostBefore, Room, CanApply, cutShort, Applied, Walked, CanTake, CanWalk, inBody}
 use Rattle.isdb_mmt.proofs.Places.{Lies}
-use Rattle.isdb_mmt.proofs.AggregatedMessages.{width-ge, piece-lies, pieces-at, table-lies, tables-at}
+use Rattle.isdb_mmt.proofs.AggregatedMessages.{width-ge, aggregated-lies, aggregated-at, table-lies, tables-at}
 use Rattle.isdb_mmt.proofs.TableOutcomes.{length-index}
 use Rattle.isdb_mmt.proofs.Breaks.{small-told}
 use Rattle.isdb_mmt.proofs.Joined.{pieces, both-fit}
@@ -291,9 +291,9 @@ BehindIn p noMore = Unit {0}
 BehindIn p pastEnd = Unit {0}
 BehindIn p (messageStep q next) = p + 2 ≤ q .start
 
-piece-starts : (m : Bytes) (long : Bool) (p : ℕ) → BehindIn p (aggregatedAt m long p)
+aggregated-starts : (m : Bytes) (long : Bool) (p : ℕ) → BehindIn p (aggregatedAt m long p)
 unfolding aggregatedAt
-piece-starts m long p =
+aggregated-starts m long p =
     cond-elim (BehindIn p) (length m - p <? prefixWidth long) (λ e. tt) (λ e.
     cond-elim (BehindIn p) (length m - (p + prefixWidth long) <? be (prefixWidth long) m p) (λ e. tt) (λ e. omega (arith, width-ge long)))
 
@@ -327,43 +327,43 @@ module _ (ix₀ log₀ others₀ assembled₀ : List ℕ) (g₀ : WalkState) (a 
   messages-cut-can = omega (arith, messages-room .bad)
 
   module _ (s : MessageStep) (es : s ≡ aggregatedAt all long p) (z : MessageStep) (e : s ≡ z) where
-    piece-of : aggregatedFrom all long p ≡ turn (aggregatedFrom all long) (aggregatedItem z)
-    piece-of = pieces-at all long p ∙ ap (λ (z : MessageStep). turn (aggregatedFrom all long) (aggregatedItem z)) (sym es ∙ e)
+    aggregated-of : aggregatedFrom all long p ≡ turn (aggregatedFrom all long) (aggregatedItem z)
+    aggregated-of = aggregated-at all long p ∙ ap (λ (z : MessageStep). turn (aggregatedFrom all long) (aggregatedItem z)) (sym es ∙ e)
 
-    pieces-rest : placedFrom all long p ≡ placedOfAll all (turn (aggregatedFrom all long) (aggregatedItem z) .found)
-    pieces-rest = ap (λ (q : Aggregated). placedOfAll all (q .found)) piece-of
+    aggregated-rest : placedFrom all long p ≡ placedOfAll all (turn (aggregatedFrom all long) (aggregatedItem z) .found)
+    aggregated-rest = ap (λ (q : Aggregated). placedOfAll all (q .found)) aggregated-of
 
-    pieces-left : malformedFrom all long p
+    aggregated-left : malformedFrom all long p
         ≡ turn (aggregatedFrom all long) (aggregatedItem z) .malformed + tablesOfAll (partsOf all (turn (aggregatedFrom all long) (aggregatedItem z) .found)) .malformed
-    pieces-left = ap (λ (q : Aggregated). q .malformed + tablesOfAll (partsOf all (q .found)) .malformed) piece-of
+    aggregated-left = ap (λ (q : Aggregated). q .malformed + tablesOfAll (partsOf all (q .found)) .malformed) aggregated-of
 
   module _ (s : MessageStep) (es : s ≡ aggregatedAt all long p) where
     pub messages-end : s ≡ noMore → Walked tableRead ix₀ log₀ others₀ g₀ (placedFrom all long 0) (length all + 1) (malformedFrom all long 0) g ix log others
     unfolding placedOfAll tablesOfAll
     messages-end e =
         goes-end tableRead ix₀ log₀ others₀ g₀ (placedFrom all long 0) (malformedFrom all long 0) ix log others g (placedFrom all long p)
-        (malformedFrom all long p) (min p (length all)) (go .goes) (pieces-rest s es noMore e) (pieces-left s es noMore e) (length all + 1) (omega arith)
+        (malformedFrom all long p) (min p (length all)) (go .goes) (aggregated-rest s es noMore e) (aggregated-left s es noMore e) (length all + 1) (omega arith)
 
     pub messages-cut : s ≡ pastEnd → (r : WalkState) → r ≡ cutShort g
         → Walked tableRead ix₀ log₀ others₀ g₀ (placedFrom all long 0) (length all + 1) (malformedFrom all long 0) r ix log others
     unfolding placedOfAll tablesOfAll
     messages-cut e r er =
         goes-cut tableRead ix₀ log₀ others₀ g₀ (placedFrom all long 0) (malformedFrom all long 0) ix log others g (placedFrom all long p)
-        (malformedFrom all long p) (min p (length all)) (go .goes) (pieces-rest s es pastEnd e) (pieces-left s es pastEnd e) (length all + 1) (omega arith) r er
+        (malformedFrom all long p) (min p (length all)) (go .goes) (aggregated-rest s es pastEnd e) (aggregated-left s es pastEnd e) (length all + 1) (omega arith) r er
 
     module _ (q : Part) (next : ℕ) (e : s ≡ messageStep q next) where
-      piece-in : Lies all p q next
-      piece-in = piece-lies all long (sym es ∙ e)
+      aggregated-in : Lies all p q next
+      aggregated-in = aggregated-lies all long (sym es ∙ e)
 
       pub messages-less : length all - next < length all - p
-      messages-less = omega (arith, piece-in .ahead, piece-in .within)
+      messages-less = omega (arith, aggregated-in .ahead, aggregated-in .within)
 
-      piece-behind : p + 2 ≤ q .start
-      piece-behind = subst (BehindIn p) (sym es ∙ e) (piece-starts all long p)
+      aggregated-behind : p + 2 ≤ q .start
+      aggregated-behind = subst (BehindIn p) (sym es ∙ e) (aggregated-starts all long p)
 
       module _ (d : Part) (ed : d ≡ behind (length a) q) (x y : Bytes) (ex : x ≡ partOf a q) (ey : y ≡ partOf b d) where
-        piece-whole : x ++ y ≡ partOf all q
-        piece-whole = rw (ex, ey, ed) (pieces a b q)
+        aggregated-whole : x ++ y ≡ partOf all q
+        aggregated-whole = rw (ex, ey, ed) (pieces a b q)
 
         pub messages-can : CanWalk ix log others assembled g (x ++ y) (q .start) (2 * mostCount)
         messages-can =
@@ -371,7 +371,7 @@ module _ (ix₀ log₀ others₀ assembled₀ : List ℕ) (g₀ : WalkState) (a 
               copies = go .goes .copies;
               assembledLong = go .assembledLong;
               room = messages-room;
-              short = rw piece-whole (omega (arith, part-short all q, piece-in .within, piece-in .ends, go .can .short));
+              short = rw aggregated-whole (omega (arith, part-short all q, aggregated-in .within, aggregated-in .ends, go .can .short));
             }
 
         pub messages-on : (r : WalkState) (ix′ log′ others′ assembled′ : List ℕ)
@@ -381,16 +381,16 @@ module _ (ix₀ log₀ others₀ assembled₀ : List ℕ) (g₀ : WalkState) (a 
         unfolding placedOfAll tablesOfAll
         messages-on r ix′ log′ others′ assembled′ w li ll lo ls =
             let w′ : Walked tableRead ix log others g (placedOf (q .start) (partOf all q)) (length (x ++ y) + 1) (tablesOf (partOf all q) .malformed) r ix′ log′ others′ =
-            subst (λ (z : Bytes). Walked tableRead ix log others g (placedOf (q .start) z) (length (x ++ y) + 1) (tablesOf z .malformed) r ix′ log′ others′) piece-whole w in
-            let n : length (x ++ y) ≤ q .length = rw piece-whole (part-short all q) in
+            subst (λ (z : Bytes). Walked tableRead ix log others g (placedOf (q .start) z) (length (x ++ y) + 1) (tablesOf z .malformed) r ix′ log′ others′) aggregated-whole w in
+            let n : length (x ++ y) ≤ q .length = rw aggregated-whole (part-short all q) in
             record {
               goes =
                   in-sequence tableRead ix₀ log₀ others₀ g₀ (placedFrom all long 0) (malformedFrom all long 0) ix log others g (placedFrom all long p)
                   (malformedFrom all long p) (min p (length all)) (go .goes) (placedOf (q .start) (partOf all q)) (placedFrom all long next)
-                  (pieces-rest s es (messageStep q next) e) (tablesOf (partOf all q) .malformed) (malformedFrom all long next)
-                  (pieces-left s es (messageStep q next) e
+                  (aggregated-rest s es (messageStep q next) e) (tablesOf (partOf all q) .malformed) (malformedFrom all long next)
+                  (aggregated-left s es (messageStep q next) e
                   ∙ swap (aggregatedFrom all long next .malformed) (tablesOf (partOf all q) .malformed) (tablesOfAll (partsOf all (aggregatedFrom all long next .found)) .malformed))
-                  (length (x ++ y) + 1) (min next (length all)) (omega (arith, n, piece-behind, piece-in .within, piece-in .ends)) r ix′ log′ others′ w′ li ll lo;
+                  (length (x ++ y) + 1) (min next (length all)) (omega (arith, n, aggregated-behind, aggregated-in .within, aggregated-in .ends)) r ix′ log′ others′ w′ li ll lo;
               assembledLong = ls ∙ go .assembledLong;
               can = go .can;
             }

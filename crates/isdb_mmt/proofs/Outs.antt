@@ -95,14 +95,14 @@ abbrev pub AllOk : List Mfu → Type 0
 AllOk [] = Unit {0}
 AllOk (h ∷ hs) = ObjectOk h × AllOk hs
 
-pub record PieceOk (u : PayloadUnit) : Type 0 where
+pub record PayloadUnitOk (u : PayloadUnit) : Type 0 where
   pub mfu : MfuOk (u .mfu)
   pub itemId : ItemOk (u .itemId)
   pub octets : Octets (u .bytes)
 
-abbrev pub AllPieces : List PayloadUnit → Type 0
-AllPieces [] = Unit {0}
-AllPieces (u ∷ us) = PieceOk u × AllPieces us
+abbrev pub AllPayloadUnits : List PayloadUnit → Type 0
+AllPayloadUnits [] = Unit {0}
+AllPayloadUnits (u ∷ us) = PayloadUnitOk u × AllPayloadUnits us
 
 abbrev pub unitBytes : List PayloadUnit → ℕ
 unitBytes [] = 0
@@ -209,19 +209,19 @@ unit-ok Middle (some h) u p q = on-ok (leb (length (h .bytes) + length (u .bytes
 unit-ok Last none u p q = record { held = tt; outs = tt }
 unit-ok Last (some h) u p q = on-ok (leb (length (h .bytes) + length (u .bytes)) mostObject) true (grown h (u .bytes)) (grown-ok h (u .bytes) p (q .octets))
 
-begun-ok : (m : MpuPacket) (u : PayloadUnit) → mpuNumber (m .header) < 4294967296 → PieceOk u → ObjectOk (objectOf m u)
+begun-ok : (m : MpuPacket) (u : PayloadUnit) → mpuNumber (m .header) < 4294967296 → PayloadUnitOk u → ObjectOk (objectOf m u)
 unfolding objectOf
 begun-ok m u n p = record { mpu = n; mfu = p .mfu; itemId = p .itemId; octets = p .octets }
 
 -- what units leave held
-pub held-after : (m : MpuPacket) (us : List PayloadUnit) (a : Asset) → mpuNumber (m .header) < 4294967296 → HeldOk (a .held) → AllPieces us
+pub held-after : (m : MpuPacket) (us : List PayloadUnit) (a : Asset) → mpuNumber (m .header) < 4294967296 → HeldOk (a .held) → AllPayloadUnits us
     → HeldOk (afterUnits m a us .held)
 unfolding afterUnits afterUnit unitEffect
 held-after m [] a n h p = h
 held-after m (u ∷ us) a n h p =
     held-after m us (afterUnit a (unitEffect m a u)) n (unit-ok (u .fragment) (a .held) (objectOf m u) h (begun-ok m u n (p .0)) .held) (p .1)
 
-units-ok : (m : MpuPacket) (us : List PayloadUnit) (a : Asset) → mpuNumber (m .header) < 4294967296 → HeldOk (a .held) → AllPieces us → AllOk (deliveredBy m a us)
+units-ok : (m : MpuPacket) (us : List PayloadUnit) (a : Asset) → mpuNumber (m .header) < 4294967296 → HeldOk (a .held) → AllPayloadUnits us → AllOk (deliveredBy m a us)
 unfolding deliveredBy afterUnit unitEffect objectOf
 units-ok m [] a n h p = tt
 units-ok m (u ∷ us) a n h p =
@@ -312,7 +312,7 @@ pub record MediaOk (m : MpuPacket) : Type 0 where
   pub id : m .id < 65536
   pub number : m .number < 4294967296
   pub mpu : mpuNumber (m .header) < 4294967296
-  pub pieces : AllPieces (readable m)
+  pub payload-units : AllPayloadUnits (readable m)
   pub long : unitBytes (readable m) < 65536
   pub raw : length (m .raw) < 65536
   pub octets : Octets (m .raw)
@@ -324,7 +324,7 @@ gives-fit pass a m o h n =
     let us = deliveredBy m (afterHeaders a m) (readable m) in
     let w = units-within m (readable m) (afterHeaders a m) in
     let gone : HeldOk (afterHeaders a m .held) = cond-elim HeldOk (gap (a .number) (m .number)) (λ e. tt) (λ e. h) in
-    let k = units-ok m (readable m) (afterHeaders a m) (o .mpu) gone (o .pieces) in
+    let k = units-ok m (readable m) (afterHeaders a m) (o .mpu) gone (o .payload-units) in
     cond-elim (λ (rs : List Rec). AllFit 0 (rs ++ tagged (m .id) us)) (pass && (m .scrambled && isSome (m .header)))
     (λ e. (
       row-fits
@@ -428,38 +428,38 @@ module _ (s : Bytes) (o : Octets s) (timed aggregated : Bool) where
       let h = grows-within dataBytes (length s) (λ p. item (unitStep s timed aggregated p)) (λ p. none) (λ p. refl) (λ p. unit-covers p (unitStep s timed aggregated p) (unit-inside s timed aggregated p)) (suc (length s)) 8 in
       omega (arith, h)
 
-pieces-ok : (h : PayloadHeader) (q : Bytes) → Octets q → (us : List DataUnit) → AllUnits (some us) → AllPieces (map (payloadUnit h q) us)
-pieces-ok h q o [] a = tt
-pieces-ok h q o (u ∷ us) a = (
+payload-units-ok : (h : PayloadHeader) (q : Bytes) → Octets q → (us : List DataUnit) → AllUnits (some us) → AllPayloadUnits (map (payloadUnit h q) us)
+payload-units-ok h q o [] a = tt
+payload-units-ok h q o (u ∷ us) a = (
   record {
     mfu = a .0 .mfu;
     itemId = a .0 .itemId;
     octets = octets-take (u .«data» .length) (drop (u .«data» .start) q) (octets-drop (u .«data» .start) q o);
   },
-  pieces-ok h q o us (a .1),
+  payload-units-ok h q o us (a .1),
 )
 
-pieces-long : (h : PayloadHeader) (q : Bytes) (us : List DataUnit) → unitBytes (map (payloadUnit h q) us) ≤ dataBytes (some us)
-pieces-long h q [] = omega arith
-pieces-long h q (u ∷ us) = omega (arith, pieces-long h q us, length-take (u .«data» .length) (drop (u .«data» .start) q))
+payload-units-long : (h : PayloadHeader) (q : Bytes) (us : List DataUnit) → unitBytes (map (payloadUnit h q) us) ≤ dataBytes (some us)
+payload-units-long h q [] = omega arith
+payload-units-long h q (u ∷ us) = omega (arith, payload-units-long h q us, length-take (u .«data» .length) (drop (u .«data» .start) q))
 
 -- the units that are taken
 record ClearOk (us : List PayloadUnit) : Type 0 where
-  pieces : AllPieces us
+  payload-units : AllPayloadUnits us
   long : unitBytes us < 65536
 
 no-units : ClearOk []
-no-units = record { pieces = tt; long = omega arith }
+no-units = record { payload-units = tt; long = omega arith }
 
-clear-pieces : (h : PayloadHeader) (q : Bytes) → Octets q → (r : Option (List DataUnit)) → AllUnits r → dataBytes r < 65536 → ClearOk (clear false (payloadUnits h q r))
+clear-payload-units : (h : PayloadHeader) (q : Bytes) → Octets q → (r : Option (List DataUnit)) → AllUnits r → dataBytes r < 65536 → ClearOk (clear false (payloadUnits h q r))
 unfolding clear
-clear-pieces h q o none a l = no-units
-clear-pieces h q o (some us) a l = record { pieces = pieces-ok h q o us a; long = omega (arith, pieces-long h q us) }
+clear-payload-units h q o none a l = no-units
+clear-payload-units h q o (some us) a l = record { payload-units = payload-units-ok h q o us a; long = omega (arith, payload-units-long h q us) }
 
 clear-units : (h : PayloadHeader) (t : FragmentType) (q : Bytes) → length q < 65536 → Octets q → ClearOk (clear false (unitsFor h t q))
 unfolding clear
 clear-units h mfuType q l o =
-    clear-pieces h q o (unitsOf q (h .timed) (h .aggregated)) (all-units q o (h .timed) (h .aggregated)) (omega (arith, all-bytes q o (h .timed) (h .aggregated)))
+    clear-payload-units h q o (unitsOf q (h .timed) (h .aggregated)) (all-units q o (h .timed) (h .aggregated)) (omega (arith, all-bytes q o (h .timed) (h .aggregated)))
 clear-units h MpuMetadata q l o = no-units
 clear-units h MovieFragmentMetadata q l o = no-units
 clear-units h (reservedType c) q l o = no-units
@@ -485,7 +485,7 @@ media-ok : (h : Header) (payload : Bytes) → h .«packet_id» < 65536 → h .se
 unfolding mediaOf readable
 media-ok h payload i n l o =
     let c = clear-read (h .«scramble_info») payload (headerIn (payloadHeader payload)) l o in
-    record { id = i; number = n; mpu = mpu-small payload o; pieces = c .pieces; long = c .long; raw = omega (arith, length-drop 8 payload); octets = octets-drop 8 payload o }
+    record { id = i; number = n; mpu = mpu-small payload o; payload-units = c .payload-units; long = c .long; raw = omega (arith, length-drop 8 payload); octets = octets-drop 8 payload o }
 
 -- a timestamp of 8 bytes, where there is one
 abbrev pub TimeOk : Option ℕ → Type 0

@@ -101,7 +101,7 @@ asset-after area n a m h o q k =
       number = rw (s .number) (o .number);
       mpu = rw (s .mpu) (mpu-after (a .mpu) (m .header) (h .mpu) (o .mpu));
       first = rw (s .range) (range-first (newMpu (a .mpu) (mpuIn (m .header))) (a .range) (m .header) (h .first) (o .mpu));
-      held = held-after m (readable m) (afterHeaders a m) (o .mpu) gone (o .pieces);
+      held = held-after m (readable m) (afterHeaders a m) (o .mpu) gone (o .payload-units);
     }
 
 zero-object : Fit (objectFields noObject)

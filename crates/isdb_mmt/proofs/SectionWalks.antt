@@ -16,9 +16,9 @@ use Rattle.isdb_mmt.specs.Decoder.Maps.{isSome}
 use Rattle.isdb_mmt.specs.Formats.Desc.{Loop}
 use Rattle.isdb_mmt.specs.Formats.Section.{length12, longSectionOf, entryAt, entryAs, entryItem, entriesFrom}
 use Rattle.isdb_mmt.specs.Formats.Amt.{serviceAt, serviceItem, servicesFrom, servicesWhole, amtBody, amtOf}
-use Rattle.isdb_mmt.specs.Formats.Eit.{told as eitRefused, eventOf, eventStep, eitBody, eitOf}
-use Rattle.isdb_mmt.specs.Formats.Sdt.{told as sdtRefused, serviceOf, serviceStep, sdtBody, sdtOf}
-use Rattle.isdb_mmt.specs.Formats.Bit.{told as bitRefused, broadcasterOf, broadcasterStep, bitBody, bitOf}
+use Rattle.isdb_mmt.specs.Formats.Eit.{eitParsed, eventOf, eventStep, eitBody, eitOf}
+use Rattle.isdb_mmt.specs.Formats.Sdt.{sdtParsed, serviceOf, serviceStep, sdtBody, sdtOf}
+use Rattle.isdb_mmt.specs.Formats.Bit.{bitParsed, broadcasterOf, broadcasterStep, bitBody, bitOf}
 use Rattle.isdb_mmt.specs.Formats.Nit.{streamsPart, streamOf, streamStep, nitBody, nitOf}
 use Rattle.isdb_mmt.specs.WholeValues.Steps.{Stood, atEnd, malformed, element, Found, counted, onward, toEnd, AllOf}
 use Rattle.isdb_mmt.specs.WholeValues.WholeSections.{described, flowTold, flowSeen, eventTold, eventSeen, serviceTold, serviceSeen, broadcasterTold, broadcasterSeen, WholeStream, wholeStream, streamTold, streamSeen}
@@ -167,7 +167,7 @@ eit-body s h =
 
 pub eit : EitTheorem
 unfolding eitOf
-eit s h t e = rw e at (section-elim (λ (r : EitParsed). EitGood s (r .result)) (λ x. eitRefused (eitErr x) 0) eitBody s (λ x. tt) (eit-body s) (longSectionOf s))
+eit s h t e = rw e at (section-elim (λ (r : EitParsed). EitGood s (r .result)) (λ x. eitParsed (eitErr x) 0) eitBody s (λ x. tt) (eit-body s) (longSectionOf s))
 
 -- ---- SDT
 
@@ -185,7 +185,7 @@ sdt-body s h =
 
 pub sdt : SdtTheorem
 unfolding sdtOf
-sdt s h t e = rw e at (section-elim (λ (r : SdtParsed). SdtGood s (r .result)) (λ x. sdtRefused (sdtErr x) 0) sdtBody s (λ x. tt) (sdt-body s) (longSectionOf s))
+sdt s h t e = rw e at (section-elim (λ (r : SdtParsed). SdtGood s (r .result)) (λ x. sdtParsed (sdtErr x) 0) sdtBody s (λ x. tt) (sdt-body s) (longSectionOf s))
 
 -- ---- BIT
 
@@ -208,7 +208,7 @@ bit-body s h =
 
 pub bit : BitTheorem
 unfolding bitOf
-bit s h t e = rw e at (section-elim (λ (r : BitParsed). BitGood s (r .result)) (λ x. bitRefused (bitErr x) 0) bitBody s (λ x. tt) (bit-body s) (longSectionOf s))
+bit s h t e = rw e at (section-elim (λ (r : BitParsed). BitGood s (r .result)) (λ x. bitParsed (bitErr x) 0) bitBody s (λ x. tt) (bit-body s) (longSectionOf s))
 
 -- ---- NIT
 

@@ -37,25 +37,25 @@ drop-small n b l = omega (arith, length-drop n b)
 
 -- a media payload
 
-pieces-small : (h : PayloadHeader) (q : Bytes) (us : List DataUnit) → length q < 65536 → AllSmall (map (payloadUnit h q) us)
-pieces-small h q [] l = tt
-pieces-small h q (u ∷ us) l = (
+units-small : (h : PayloadHeader) (q : Bytes) (us : List DataUnit) → length q < 65536 → AllSmall (map (payloadUnit h q) us)
+units-small h q [] l = tt
+units-small h q (u ∷ us) l = (
   take-small (u .«data» .length) (drop (u .«data» .start) q) (drop-small (u .«data» .start) q l),
-  pieces-small h q us l,
+  units-small h q us l,
 )
 
-clear-pieces : (scrambled : Bool) (h : PayloadHeader) (q : Bytes) (o : Option (List DataUnit)) → length q < 65536
+clear-payload-units : (scrambled : Bool) (h : PayloadHeader) (q : Bytes) (o : Option (List DataUnit)) → length q < 65536
     → AllSmall (clear scrambled (payloadUnits h q o))
 unfolding clear
-clear-pieces true h q o l = tt
-clear-pieces false h q none l = tt
-clear-pieces false h q (some us) l = pieces-small h q us l
+clear-payload-units true h q o l = tt
+clear-payload-units false h q none l = tt
+clear-payload-units false h q (some us) l = units-small h q us l
 
 clear-units : (scrambled : Bool) (h : PayloadHeader) (t : FragmentType) (q : Bytes) → length q < 65536
     → AllSmall (clear scrambled (unitsFor h t q))
 unfolding clear
 clear-units true h t q l = tt
-clear-units false h Mfu q l = clear-pieces false h q (unitsOf q (h .timed) (h .aggregated)) l
+clear-units false h Mfu q l = clear-payload-units false h q (unitsOf q (h .timed) (h .aggregated)) l
 clear-units false h MpuMetadata q l = tt
 clear-units false h MovieFragmentMetadata q l = tt
 clear-units false h (reservedType c) q l = tt

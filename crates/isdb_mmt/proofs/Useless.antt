@@ -22,7 +22,7 @@ use Rattle.isdb_mmt.specs.Memory.Check.{lengthsOf}
 use Rattle.isdb_mmt.specs.Memory.Octets.{Octets, Lent}
 use Rattle.isdb_mmt.specs.Pushes.Records.{readRows}
 use Rattle.isdb_mmt.specs.Pushes.Push.{Input, packetOf, asks}
-use Rattle.isdb_mmt.specs.Answers.Readings.{sectionRead, Told, refused, nothing, these, toldBy}
+use Rattle.isdb_mmt.specs.Answers.Readings.{sectionRead, TableTold, refused, nothing, these, toldBy}
 use Rattle.isdb_mmt.specs.Theorems.Calls.{lostIn, heldIn, push, Decoder, after, pushes, accepted, handed, Tells, none-kept, kept, After, Demand3, decoder, leavesOf}
 use Rattle.isdb_mmt.specs.Examples.Cases.{ab, cd}
 use Rattle.isdb_mmt.specs.Examples.PushCases.{small, blank, told}
@@ -89,12 +89,12 @@ bytes-nit = octets-of (nit .bytes) refl
 
 -- ---- decoders
 
-abbrev is-told : Told → ℕ
+abbrev is-told : TableTold → ℕ
 is-told (refused n) = 0
 is-told nothing = 0
 is-told (these b) = 1
 
-tells-one : {t : Told} {xs : List Section} → Tells t xs → length xs ≡ 1 → t ≡ nothing → ⊥
+tells-one : {t : TableTold} {xs : List Section} → Tells t xs → length xs ≡ 1 → t ≡ nothing → ⊥
 tells-one none-kept e t = omega arith
 tells-one (kept x f) e t = omega (arith, ap is-told t)
 

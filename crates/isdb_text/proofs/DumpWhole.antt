@@ -17,7 +17,7 @@ use Rattle.isdb_mmt.specs.Formats.Eit.{eventStep}
 use Rattle.isdb_mmt.specs.Formats.Sdt.{serviceStep}
 use Rattle.isdb_mmt.specs.Formats.Nit.{streamStep}
 use Rattle.isdb_mmt.specs.Formats.Section.{length12, longSectionOf, inSection, entriesFrom}
-use Rattle.isdb_mmt.specs.Formats.Bit.{told, broadcasterStep, bitBody, bitOf}
+use Rattle.isdb_mmt.specs.Formats.Bit.{bitParsed, broadcasterStep, bitBody, bitOf}
 use Rattle.isdb_mmt.specs.declared.table.section.SectionHeader.{SectionHeader}
 use Rattle.isdb_mmt.specs.declared.table.section.LongSection.{LongSection}
 use Rattle.isdb_mmt.specs.declared.table.section.LongSection.the-variants.{Ok as good, Err as bad}
@@ -110,7 +110,7 @@ starts-body s h =
     cond-elim (λ (r : BitParsed). Starts s (r .result)) (ltb (length b) n) (λ e1. tt) (λ e1.
     cond-elim (Starts s) (entriesFrom b 1 n .whole) (λ w. omega arith) (λ w. tt)))
 
-starts-section : (s : List ℕ) (d : LongSection) → Starts s (inSection (λ x. told (bitErr x) 0) bitBody s d .result)
+starts-section : (s : List ℕ) (d : LongSection) → Starts s (inSection (λ x. bitParsed (bitErr x) 0) bitBody s d .result)
 starts-section s (bad e) = tt
 starts-section s (good h) = starts-body s h
 

@@ -54,7 +54,7 @@ use Rattle.isdb_mmt.specs.declared.decoder.readings.ControlState.{ControlState}
 use Rattle.isdb_mmt.specs.declared.decoder.readings.ControlReading.{ControlReading}
 use Rattle.isdb_mmt.specs.declared.decoder.readings.ControlReading.the-variants.{Refused as controlRefused, Nothing as noControl}
 use Rattle.isdb_mmt.specs.declared.decoder.readings.ControlReading.the-variants.{Control as theControl}
-use Rattle.isdb_text.specs.Text.{Wrote, ascii, bytesOf}
+use Rattle.isdb_text.specs.Text.{Wrote, ascii, bytesAsHex}
 use Rattle.isdb_text.specs.Fill.{filled}
 use Rattle.isdb_text.specs.DumpSession.{dataText, recordText, packetLine, mfuLine, feedCounters, tableCounters, messageCounters}
 use Rattle.isdb_text.specs.DumpSession.{counterLines}
@@ -94,7 +94,7 @@ module _ {l m : List ℕ} {at q : ℕ} where
   wrote-data b k e w = rw (← e) w
 
   module _ {k : List ℕ} {p : ℕ} where
-    pub wrote-record : (row b : List ℕ) → Wrote l at (bytesOf row) k p → Wrote k p (dataText b) m q → Wrote l at (recordText row b) m q
+    pub wrote-record : (row b : List ℕ) → Wrote l at (bytesAsHex row) k p → Wrote k p (dataText b) m q → Wrote l at (recordText row b) m q
     unfolding recordText
     wrote-record row b v w = wrote-append v w
 
@@ -215,7 +215,7 @@ module _ {l m : List ℕ} {at q : ℕ} (id : ℕ) where
   pub wrote-carried : {j k : List ℕ} {o p : ℕ} (a : CarriedAsset) (tables t b : List ℕ) (g n : ℕ) → g ≡ u16Given (a .«service_id»)
       → n ≡ u16Or (a .«service_id»)
       → Wrote l at (filled (ascii "media # asset_of service ? type %%%%%%%% id ") (id ∷ g ∷ n ∷ a .asset .«asset_type» ∷ [])) j o
-      → t ≡ partOf tables (a .mpt) → b ≡ partOf t (a .asset .«asset_id») → Wrote j o (bytesOf b) k p → Wrote k p (10 ∷ []) m q
+      → t ≡ partOf tables (a .mpt) → b ≡ partOf t (a .asset .«asset_id») → Wrote j o (bytesAsHex b) k p → Wrote k p (10 ∷ []) m q
       → Wrote l at (carriedLine id a tables) m q
   unfolding carriedLine
   wrote-carried a tables t b g n eg en u et eb v w = rw (← eg, ← en, ← et, ← eb) (wrote-append u (wrote-append v w))

@@ -2,7 +2,7 @@
 use mathlib.Core.Path.{_≡_, refl}
 use mathlib.Core.List.{[], _∷_, _++_}
 use Rattle.isdb_tlv.specs.Bytes.{be}
-use Rattle.isdb_text.specs.Text.{ascii, decimalOf, hexDigit, hexOf, pairsOf, bytesOf}
+use Rattle.isdb_text.specs.Text.{ascii, decimalOf, hexDigit, hexOf, pairsOf, bytesAsHex}
 use Rattle.isdb_text.specs.Fill.{places, spelled, taken, filled}
 use Rattle.isdb_text.specs.Cut.{cutAt, recordingFrom, recordingOf}
 use Rattle.isdb_text.specs.Listing.{stopText}
@@ -12,8 +12,8 @@ numbers : decimalOf 18446744073709551615 ≡ ascii "18446744073709551615"
 unfolding decimalOf
 numbers = refl
 
-bytes : bytesOf (0x00 ∷ 0x7F ∷ 0xA0 ∷ []) ≡ ascii "007fa0"
-unfolding bytesOf pairsOf hexOf hexDigit
+bytes : bytesAsHex (0x00 ∷ 0x7F ∷ 0xA0 ∷ []) ≡ ascii "007fa0"
+unfolding bytesAsHex pairsOf hexOf hexDigit
 bytes = refl
 
 line : filled (ascii "id # start %%%%%%%%%% pid 0x%%%% last ? next ?\n") (61696 ∷ 0xE8D4123456 ∷ 0x1f ∷ 0 ∷ 5 ∷ 1 ∷ 0 ∷ [])

@@ -10,7 +10,7 @@ use lib.ListN.{length, getD, drop, drop-of-length-le}
 use lib.Seq.{drop-cons}
 use borrow.Author.Tests.{lt-ltb, le-ltb, ltb-false}
 use Rattle.isdb_tlv.proofs.Guards.{either}
-use Rattle.isdb_text.specs.Text.{Wrote, digit, decimalIn, decimalOf, hexDigit, hexOf, pairsOf, bytesOf}
+use Rattle.isdb_text.specs.Text.{Wrote, digit, decimalIn, decimalOf, hexDigit, hexOf, pairsOf, bytesAsHex}
 use Rattle.isdb_text.proofs.Written.{wrote-append, Left, left-less, left-none}
 
 -- how many steps are allowed makes no difference, once they suffice
@@ -99,10 +99,10 @@ module _ {l : List ℕ} {at : ℕ} {whole m : List ℕ} {p : ℕ} where
   pairs-end s i f h = left-none f (rw (drop-none s i h))
 
 module _ {l m : List ℕ} {at r : ℕ} (s : List ℕ) where
-  pub hex-none : length s < 1 → Wrote l at (45 ∷ []) m r → Wrote l at (bytesOf s) m r
-  unfolding bytesOf
+  pub hex-none : length s < 1 → Wrote l at (45 ∷ []) m r → Wrote l at (bytesAsHex s) m r
+  unfolding bytesAsHex
   hex-none h w = rw (lt-ltb (length s) 1 h) w
 
-  pub hex-some : 1 ≤ length s → Wrote l at (pairsOf s) m r → Wrote l at (bytesOf s) m r
-  unfolding bytesOf
+  pub hex-some : 1 ≤ length s → Wrote l at (pairsOf s) m r → Wrote l at (bytesAsHex s) m r
+  unfolding bytesAsHex
   hex-some h w = rw (le-ltb (length s) 1 h) w

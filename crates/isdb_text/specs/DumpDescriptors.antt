@@ -40,7 +40,7 @@ use Rattle.isdb_mmt.specs.declared.desc.Descriptor.{Descriptor}
 use Rattle.isdb_mmt.specs.declared.desc.Descriptor.the-variants.{MpuTimestamp, ExtendedTimestamp, AccessControl, Scrambler, StreamIdentifier, Service, ServiceList, ShortEvent, Content, Hevc, BroadcasterName, Other}
 use Rattle.isdb_mmt.specs.declared.table.nit.TlvStep.{TlvStep}
 use Rattle.isdb_mmt.specs.declared.table.nit.TlvStep.the-variants.{End as noTlv, Descriptor as tlvDescriptor}
-use Rattle.isdb_text.specs.Text.{ascii, decimalOf, hexOf, bytesOf}
+use Rattle.isdb_text.specs.Text.{ascii, decimalOf, hexOf, bytesAsHex}
 use Rattle.isdb_text.specs.Fill.{filled}
 use Rattle.isdb_text.specs.Elements.{Element, ended, element, texts}
 
@@ -74,7 +74,7 @@ ipv6Text src dst port id =
     ascii "ipv6 " ++ (addressText src ++ (ascii " " ++ (addressText dst ++ filled (ascii " # #") (port ∷ id ∷ []))))
 
 unfoldable pub urlText : List ℕ → Part → List ℕ
-urlText s p = ascii "url " ++ bytesOf (partOf s p)
+urlText s p = ascii "url " ++ bytesAsHex (partOf s p)
 
 -- a location whose first byte is that of `s`, which a URL's place counts from
 abbrev pub locationText : List ℕ → Location → List ℕ
@@ -169,7 +169,7 @@ accessControlText s ca l = filled (ascii "access_control # location ") (ca ∷ [
 
 unfoldable pub serviceText : List ℕ → ℕ → Part → Part → List ℕ
 serviceText s type provider name =
-    filled (ascii "service # provider ") (type ∷ []) ++ (bytesOf (partOf s provider) ++ (ascii " name " ++ bytesOf (partOf s name)))
+    filled (ascii "service # provider ") (type ∷ []) ++ (bytesAsHex (partOf s provider) ++ (ascii " name " ++ bytesAsHex (partOf s name)))
 
 -- the three bytes of a language
 abbrev pub languageOf : Language → ℕ
@@ -178,16 +178,16 @@ languageOf l = (l .first * 256 + l .second) * 256 + l .third
 unfoldable pub shortEventText : List ℕ → Language → Part → Part → List ℕ
 shortEventText s l name text =
     filled (ascii "short_event %%%%%% name ") (languageOf l ∷ [])
-    ++ (bytesOf (partOf s name) ++ (ascii " text " ++ bytesOf (partOf s text)))
+    ++ (bytesAsHex (partOf s name) ++ (ascii " text " ++ bytesAsHex (partOf s text)))
 
 unfoldable pub otherText : List ℕ → ℕ → Part → List ℕ
-otherText s tag body = filled (ascii "other 0x%%%% ") (tag ∷ []) ++ bytesOf (partOf s body)
+otherText s tag body = filled (ascii "other 0x%%%% ") (tag ∷ []) ++ bytesAsHex (partOf s body)
 
 unfoldable pub hevcText : ℕ → Bool → ℕ → List ℕ
 hevcText profile tier level = filled (ascii "hevc # # #") (profile ∷ flagOf tier ∷ level ∷ [])
 
 unfoldable pub broadcasterNameText : List ℕ → Part → List ℕ
-broadcasterNameText s name = ascii "broadcaster_name " ++ bytesOf (partOf s name)
+broadcasterNameText s name = ascii "broadcaster_name " ++ bytesAsHex (partOf s name)
 
 -- lists behind their names
 unfoldable pub timestampList : List ℕ → List ℕ
@@ -235,12 +235,12 @@ descriptorsText pad s = descriptorsFrom pad s (length s) 0
 unfoldable pub tlvText : ℕ → List ℕ → List ℕ
 tlvText tag s =
     if tag =? 0x41 then ascii " service_list " ++ servicesText s
-    else if tag =? 0x40 then ascii " network_name " ++ bytesOf s
+    else if tag =? 0x40 then ascii " network_name " ++ bytesAsHex s
     else if tag =? 0x43 then ascii " frequency_khz " ++ u64Text (frequencyOf tag s)
     else []
 
 unfoldable pub tlvLine : List ℕ → ℕ → List ℕ → List ℕ
-tlvLine pad tag s = pad ++ (filled (ascii "descriptor 0x%% ") (tag ∷ []) ++ (bytesOf s ++ (tlvText tag s ++ ascii "\n")))
+tlvLine pad tag s = pad ++ (filled (ascii "descriptor 0x%% ") (tag ∷ []) ++ (bytesAsHex s ++ (tlvText tag s ++ ascii "\n")))
 
 abbrev pub tlvElement : List ℕ → List ℕ → TlvStep → Element
 tlvElement pad s noTlv = ended

@@ -48,7 +48,7 @@ use Rattle.isdb_mmt.specs.declared.decoder.readings.AssetReading.the-variants.{
 use Rattle.isdb_mmt.specs.declared.decoder.readings.ControlReading.{ControlReading}
 use Rattle.isdb_mmt.specs.declared.decoder.readings.ControlReading.the-variants.{Refused as controlRefused, Nothing as noControl}
 use Rattle.isdb_mmt.specs.declared.decoder.readings.ControlReading.the-variants.{Control as theControl}
-use Rattle.isdb_text.specs.Text.{ascii, bytesOf}
+use Rattle.isdb_text.specs.Text.{ascii, bytesAsHex}
 use Rattle.isdb_text.specs.Fill.{filled}
 
 -- ---- a packet
@@ -66,7 +66,7 @@ dataText b = filled (ascii " # %%%%%%%%\n") (length b ∷ crcOf b ∷ [])
 
 -- RECORD LENGTH CRC
 unfoldable pub recordText : List ℕ → List ℕ → List ℕ
-recordText row b = bytesOf row ++ dataText b
+recordText row b = bytesAsHex row ++ dataText b
 
 -- a record that a push handed out: its last two fields say where its data lie among those of all
 unfoldable pub mfuLine : List ℕ → List ℕ → List ℕ
@@ -174,7 +174,7 @@ unfoldable pub carriedLine : ℕ → CarriedAsset → List ℕ → List ℕ
 carriedLine id a tables =
     filled (ascii "media # asset_of service ? type %%%%%%%% id ")
     (id ∷ u16Given (a .«service_id») ∷ u16Or (a .«service_id») ∷ a .asset .«asset_type» ∷ [])
-    ++ (bytesOf (partOf (partOf tables (a .mpt)) (a .asset .«asset_id»)) ++ ascii "\n")
+    ++ (bytesAsHex (partOf (partOf tables (a .mpt)) (a .asset .«asset_id»)) ++ ascii "\n")
 
 abbrev pub assetLine : ℕ → AssetReading → List ℕ → List ℕ
 assetLine id (theAsset a) tables = carriedLine id a tables

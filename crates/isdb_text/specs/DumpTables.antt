@@ -65,7 +65,7 @@ use Rattle.isdb_mmt.specs.declared.table.mpt.AssetStep.{AssetStep}
 use Rattle.isdb_mmt.specs.declared.table.mpt.AssetStep.the-variants.{Malformed as noAsset, Asset as asset}
 use Rattle.isdb_mmt.specs.declared.table.mpt.MaybeMpt.{MaybeMpt}
 use Rattle.isdb_mmt.specs.declared.table.mpt.MaybeMpt.the-variants.{None as noMpt, Some as someMpt}
-use Rattle.isdb_text.specs.Text.{ascii, bytesOf}
+use Rattle.isdb_text.specs.Text.{ascii, bytesAsHex}
 use Rattle.isdb_text.specs.Fill.{filled}
 use Rattle.isdb_text.specs.Elements.{Element, ended, element, texts}
 use Rattle.isdb_text.specs.DumpDescriptors.{flagOf, u16Text, addressText, locationText, descriptorsText, tlvsText}
@@ -232,7 +232,7 @@ nitText key s = nitGiven key s (nitOf s)
 
 unfoldable pub packageText : List ℕ → Package → List ℕ
 packageText s p =
-    ascii "  package " ++ (bytesOf (partOf s (p .«package_id»))
+    ascii "  package " ++ (bytesAsHex (partOf s (p .«package_id»))
     ++ (ascii " location " ++ (locationText (drop (p .«location_start») s) (p .location) ++ ascii "\n")))
 
 abbrev pub packageElement : List ℕ → PackageStep → Element
@@ -280,7 +280,7 @@ locationsText s n from = texts (λ at. locationElement s at (locationOf (drop at
 unfoldable pub assetFields : List ℕ → Asset → List ℕ
 assetFields s a =
     filled (ascii "  asset identifier_type # scheme # id ") (a .«identifier_type» ∷ a .«asset_id_scheme» ∷ [])
-    ++ (bytesOf (partOf s (a .«asset_id»))
+    ++ (bytesAsHex (partOf s (a .«asset_id»))
     ++ filled (ascii " type %%%%%%%% clock_relation # packet_id ") (a .«asset_type» ∷ flagOf (a .«clock_relation») ∷ []))
 
 unfoldable pub assetLine : List ℕ → Asset → List ℕ
@@ -302,7 +302,7 @@ assetsText s n from = texts (λ at. assetElement s (assetAt s at)) n from
 unfoldable pub mptLine : ℕ → List ℕ → Mpt → List ℕ
 mptLine control s t =
     filled (ascii "mpt # table_id 0x%% version # mode # package_id ") (control ∷ t .«table_id» ∷ t .version ∷ t .mode ∷ [])
-    ++ (bytesOf (partOf s (t .«package_id»)) ++ (ascii " service_id " ++ (u16Text (serviceId s (t .«package_id»)) ++ ascii "\n")))
+    ++ (bytesAsHex (partOf s (t .«package_id»)) ++ (ascii " service_id " ++ (u16Text (serviceId s (t .«package_id»)) ++ ascii "\n")))
 
 unfoldable pub mptTable : ℕ → List ℕ → Mpt → List ℕ
 mptTable control s t =

@@ -48,5 +48,5 @@ pairsOf [] = []
 pairsOf (b ∷ s) = hexOf 2 b ++ pairsOf s
 
 -- bytes as HEX: two digits each, `-` where there are none
-unfoldable pub bytesOf : List ℕ → List ℕ
-bytesOf s = if length s <? 1 then ascii "-" else pairsOf s
+unfoldable pub bytesAsHex : List ℕ → List ℕ
+bytesAsHex s = if length s <? 1 then ascii "-" else pairsOf s

@@ -1,6 +1,6 @@
 // Locations and descriptors, as `feeddump` writes them.
 ghost use mathlib.Core.Path.{_≡_};
-ghost use Rattle.isdb_text.specs.Text.{Wrote, bytesOf};
+ghost use Rattle.isdb_text.specs.Text.{Wrote, bytesAsHex};
 ghost use Rattle.isdb_mmt.specs.Formats.Part.{partOf};
 ghost use Rattle.isdb_text.specs.DumpDescriptors.{accessControlText, addressText, broadcasterNameText};
 ghost use Rattle.isdb_text.specs.DumpDescriptors.{caLocationText, contentText, descriptorLine, descriptorText};
@@ -76,7 +76,7 @@ pub fn maybe_u64(out: &mut [u8], at: usize, n: MaybeU64) -> usize
 
 // A part of some bytes, as HEX.
 pub fn part_hex(out: &mut [u8], at: usize, b: &[u8], p: Part) -> usize
-    ensures { λ r. ⌜ Wrote (now (out .entry)) at (bytesOf (partOf (now (b .entry)) p)) (now (out .exit)) r ⌝ }
+    ensures { λ r. ⌜ Wrote (now (out .entry)) at (bytesAsHex (partOf (now (b .entry)) p)) (now (out .exit)) r ⌝ }
 {
     text::hex(out, at, p.of(b))
 }

@@ -3,7 +3,7 @@
 ghost use mathlib.Core.Path.{_≡_};
 ghost use mathlib.Core.List.{[], _∷_};
 ghost use Prim.Native.Nat.{_+_, _<_};
-ghost use Rattle.isdb_text.specs.Text.{Wrote, digit, decimalOf, hexOf, pairsOf, bytesOf};
+ghost use Rattle.isdb_text.specs.Text.{Wrote, digit, decimalOf, hexOf, pairsOf, bytesAsHex};
 ghost use Rattle.isdb_text.specs.Text.{hexDigit as hexDigitOf};
 
 // The place itself, where nothing is written.
@@ -105,7 +105,7 @@ fn pairs(out: &mut [u8], at: usize, bytes: &[u8]) -> usize
 
 // Bytes, two digits each; a dash where there are none.
 pub fn hex(out: &mut [u8], at: usize, bytes: &[u8]) -> usize
-    ensures { λ r. ⌜ Wrote (now (out .entry)) at (bytesOf (now (bytes .entry))) (now (out .exit)) r ⌝ }
+    ensures { λ r. ⌜ Wrote (now (out .entry)) at (bytesAsHex (now (bytes .entry))) (now (out .exit)) r ⌝ }
 {
     if bytes.len() < 1 {
         return put_byte(out, at, b'-');

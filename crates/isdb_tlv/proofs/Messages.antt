@@ -15,7 +15,7 @@ use borrow.Author.Tests.{ltb-false, leb-true, eqb-true, eqb-false, eq-eqb, ne-eq
 use Rattle.isdb_tlv.specs.Bytes.{be, withBit}
 use Rattle.isdb_tlv.specs.Walk.{more, turn}
 use Rattle.isdb_tlv.proofs.Walk.{Ahead, walk-at, run-more, plus, one-more as one-more-item}
-use Rattle.isdb_tlv.specs.Messages.{noTableIds, wordOf, has, withWord, insert, insertAll, setOf, member, listedAt, listedFrom, tableAt, walkedFrom, messageOf, behind, messageIn, prefixedAt, messageAt, messageStep, item, messagesFrom}
+use Rattle.isdb_tlv.specs.Messages.{noTableIds, wordOf, has, withWord, insert, insertAll, setOf, member, listedAt, listedFrom, tableIdAt, walkedFrom, messageOf, behind, messageIn, prefixedAt, messageAt, messageStep, item, messagesFrom}
 use Rattle.isdb_tlv.specs.declared.mmtp.TableIds.{TableIds}
 use Rattle.isdb_tlv.specs.declared.mmtp.Message.{Message}
 use Rattle.isdb_tlv.specs.declared.mmtp.MaybeMessage.{MaybeMessage}
@@ -118,14 +118,14 @@ module _ (s : List ℕ) (at : ℕ) where
 
 -- the tables: the next one, and their end
 module _ (s : List ℕ) where
-  table-ahead : (at : ℕ) → Ahead (length s) at (tableAt s at)
+  table-ahead : (at : ℕ) → Ahead (length s) at (tableIdAt s at)
   table-ahead at =
       cond-elim (Ahead (length s) at) (ltb (length s - at) 4) (λ e. tt)
       (λ e. let l = ltb-false (length s - at) 4 e in omega arith)
 
-  walked-at : (at : ℕ) → walkedFrom s at ≡ turn (walkedFrom s) (tableAt s at)
+  walked-at : (at : ℕ) → walkedFrom s at ≡ turn (walkedFrom s) (tableIdAt s at)
   unfolding walkedFrom
-  walked-at at = walk-at (tableAt s) [] (length s) table-ahead at
+  walked-at at = walk-at (tableIdAt s) [] (length s) table-ahead at
 
   pub walked-next : (at n : ℕ) (t u : TableIds) → 4 ≤ length s - at → u ≡ insert (getD s at 0) t → n ≡ be 2 s (at + 2)
       → insertAll (walkedFrom s (at + 4 + n)) u ≡ insertAll (walkedFrom s at) t

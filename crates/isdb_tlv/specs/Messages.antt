@@ -77,14 +77,14 @@ abbrev pub listedFrom : ℕ → List ℕ → ℕ → List ℕ
 listedFrom n s at = run (listedAt s) (λ p. []) n at
 
 -- a table: its id, a version, a length of 16 bits and so many bytes
-abbrev pub tableAt : List ℕ → ℕ → Next (List ℕ)
-tableAt s at =
+abbrev pub tableIdAt : List ℕ → ℕ → Next (List ℕ)
+tableIdAt s at =
     if length s - at <? 4 then stop []
     else more (at + 4 + be 2 s (at + 2)) (λ ids. getD s at 0 ∷ ids)
 
 -- the ids of the tables from `at` on, the last of which may run past the end
 unfoldable pub walkedFrom : List ℕ → ℕ → List ℕ
-walkedFrom s at = walk (tableAt s) [] (length s) at
+walkedFrom s at = walk (tableIdAt s) [] (length s) at
 
 -- the table ids of a PA message's body: those of its table list, whose length is the first byte, and those of the tables
 -- behind it

@@ -321,12 +321,12 @@ assetNumber noAsset = 0
 assetNumber (theAsset a) = 0
 
 -- what an answer about a table tells its caller: a number, that nothing is kept, or bytes, taken from the lent tables
-pub data Told : Type 0 where
-  refused : ℕ → Told
-  nothing : Told
-  these : Bytes → Told
+pub data TableTold : Type 0 where
+  refused : ℕ → TableTold
+  nothing : TableTold
+  these : Bytes → TableTold
 
-abbrev pub toldBy : Bytes → TableReading → Told
+abbrev pub toldBy : Bytes → TableReading → TableTold
 toldBy tables (tableRefused n) = refused n
 toldBy tables noTable = nothing
 toldBy tables (theBytes p) = these (partOf tables p)

@@ -17,7 +17,7 @@ use Rattle.isdb_mmt.specs.Decoder.Model.{State, Control}
 use Rattle.isdb_mmt.specs.Memory.Session.{Session}
 use Rattle.isdb_mmt.specs.Memory.Check.{sound}
 use Rattle.isdb_mmt.specs.Memory.View.{view}
-use Rattle.isdb_mmt.specs.Answers.Readings.{tableIdOf, sectionRead, mptRead, pltRead, totRead, firstCarried, ascending, assetRead, Told, refused, nothing, these, toldBy}
+use Rattle.isdb_mmt.specs.Answers.Readings.{tableIdOf, sectionRead, mptRead, pltRead, totRead, firstCarried, ascending, assetRead, TableTold, refused, nothing, these, toldBy}
 use Rattle.isdb_mmt.specs.Memory.Octets.{Octets}
 use Rattle.isdb_mmt.specs.Answers.ReadingLaws.{namesIn}
 use Rattle.isdb_mmt.specs.declared.maybe.MaybeU16.{MaybeU16}
@@ -31,7 +31,7 @@ use Rattle.isdb_mmt.specs.declared.decoder.readings.TableReading.{TableR
 use Rattle.isdb_mmt.specs.declared.decoder.readings.TableReading.the-variants.{Refused as tableRefused, Nothing as noTable, Bytes as theBytes}
 
 -- what is to be said of a table that may be kept: one that does not parse is damaged, which is 5
-abbrev pub saysOf : (Bytes → Bool) → Option Bytes → Told
+abbrev pub saysOf : (Bytes → Bool) → Option Bytes → TableTold
 saysOf parses none = nothing
 saysOf parses (some b) = if parses b then these b else refused 5
 
@@ -147,7 +147,7 @@ FirstCarriers = (s : Session) → sound s ≡ true → Octets (s .state) → (p 
 
 -- ---- where nothing that is kept is damaged
 
-abbrev pub handsOut : Option Bytes → Told
+abbrev pub handsOut : Option Bytes → TableTold
 handsOut none = nothing
 handsOut (some b) = these b
 

@@ -15,7 +15,7 @@ use Rattle.isdb_mmt.specs.Memory.Layout.{tableIds, stateSize}
 use Rattle.isdb_mmt.specs.Memory.Session.{Session}
 use Rattle.isdb_mmt.specs.Memory.Opening.{lent, openedSession}
 use Rattle.isdb_mmt.specs.Pushes.Push.{leavesAll}
-use Rattle.isdb_mmt.specs.Answers.Readings.{mediaFound, controlFound, sectionFound, countersRead, timeRead, countRead, leastFrom, ascendingFrom, nextMediaRead, nextControlRead, nextKeyRead, mediaRead, heldRead, controlRead, sectionRead, mptRead, pltRead, totRead, firstCarried, assetAmong, assetRead, Told as TableTold, refused, nothing, these, toldBy}
+use Rattle.isdb_mmt.specs.Answers.Readings.{mediaFound, controlFound, sectionFound, countersRead, timeRead, countRead, leastFrom, ascendingFrom, nextMediaRead, nextControlRead, nextKeyRead, mediaRead, heldRead, controlRead, sectionRead, mptRead, pltRead, totRead, firstCarried, assetAmong, assetRead, TableTold, refused, nothing, these, toldBy}
 use Rattle.isdb_mmt.specs.Theorems.Calls.{Reading, counters, time, count, nextMedia, nextControl, nextKey, mediaOf, held, controlOf, plt, tot, section, assetOf, readingNumber}
 use Rattle.isdb_mmt.specs.Examples.Cases.{completeOf, headOf, compressed, payload, ab}
 use Rattle.isdb_mmt.specs.Examples.ControlCases.{fragment, firstPart, nit1, nitNext, mpt, tableMessage}

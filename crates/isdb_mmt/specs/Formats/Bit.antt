@@ -17,8 +17,8 @@ use Rattle.isdb_mmt.specs.declared.table.bit.Broadcaster.{Broadcaster}
 use Rattle.isdb_mmt.specs.declared.table.bit.BroadcasterStep.{BroadcasterStep}
 use Rattle.isdb_mmt.specs.declared.table.bit.BroadcasterStep.the-variants.{End, Malformed as notWhole, Broadcaster as broadcaster}
 
-abbrev pub told : BitResult → ℕ → BitParsed
-told r n = record { result = r; breaks = n }
+abbrev pub bitParsed : BitResult → ℕ → BitParsed
+bitParsed r n = record { result = r; breaks = n }
 
 -- reserved 3 bits, broadcast view propriety 1, length of the first descriptor loop 12, that loop, then broadcasters, which
 -- are to end with the body
@@ -32,16 +32,16 @@ bitFields s l =
 
 abbrev pub bitLoop : SectionHeader → List ℕ → Loop Entry → BitParsed
 bitLoop h s l =
-    told (if l .whole then Ok h (bitFields s l) else Err Malformed) (broken (take (length12 s 0) (drop 2 s)) + l .breaks)
+    bitParsed (if l .whole then Ok h (bitFields s l) else Err Malformed) (broken (take (length12 s 0) (drop 2 s)) + l .breaks)
 
 unfoldable pub bitBody : SectionHeader → List ℕ → BitParsed
 bitBody h s =
-    if length s <? 2 then told (Err Malformed) 0
-    else if length s <? length12 s 0 + 2 then told (Err Malformed) 0
+    if length s <? 2 then bitParsed (Err Malformed) 0
+    else if length s <? length12 s 0 + 2 then bitParsed (Err Malformed) 0
     else bitLoop h s (entriesFrom s 1 (length12 s 0 + 2))
 
 unfoldable pub bitOf : List ℕ → BitParsed
-bitOf s = inSection (λ e. told (Err e) 0) bitBody s (longSectionOf s)
+bitOf s = inSection (λ e. bitParsed (Err e) 0) bitBody s (longSectionOf s)
 
 -- a broadcaster: id 8 bits, reserved 4, descriptors' length 12
 abbrev pub broadcasterOf : List ℕ → Entry → Broadcaster

@@ -17,8 +17,8 @@ use Rattle.isdb_mmt.specs.declared.table.eit.Event.{Event}
 use Rattle.isdb_mmt.specs.declared.table.eit.EventStep.{EventStep}
 use Rattle.isdb_mmt.specs.declared.table.eit.EventStep.the-variants.{End, Malformed as broken, Event as event}
 
-abbrev pub told : EitResult → ℕ → EitParsed
-told r n = record { result = r; breaks = n }
+abbrev pub eitParsed : EitResult → ℕ → EitParsed
+eitParsed r n = record { result = r; breaks = n }
 
 -- TLV stream id 16 bits, original network id 16, segment last section number 8, last table id 8, then events
 abbrev pub eitFields : List ℕ → Loop Entry → Eit
@@ -33,13 +33,13 @@ eitFields s l =
 
 -- the events are to end with the body
 abbrev pub eitLoop : SectionHeader → List ℕ → Loop Entry → EitParsed
-eitLoop h s l = told (if l .whole then Ok h (eitFields s l) else Err Malformed) (l .breaks)
+eitLoop h s l = eitParsed (if l .whole then Ok h (eitFields s l) else Err Malformed) (l .breaks)
 
 unfoldable pub eitBody : SectionHeader → List ℕ → EitParsed
-eitBody h s = if length s <? 6 then told (Err Malformed) 0 else eitLoop h s (entriesFrom s 10 6)
+eitBody h s = if length s <? 6 then eitParsed (Err Malformed) 0 else eitLoop h s (entriesFrom s 10 6)
 
 unfoldable pub eitOf : List ℕ → EitParsed
-eitOf s = inSection (λ e. told (Err e) 0) eitBody s (longSectionOf s)
+eitOf s = inSection (λ e. eitParsed (Err e) 0) eitBody s (longSectionOf s)
 
 -- an event: event id 16 bits, start time 40, duration 24, running status 3, free CA mode 1, descriptors' length 12
 abbrev pub eventOf : List ℕ → Entry → Event

@@ -101,8 +101,8 @@ loopTold l = record { whole = l .whole; breaks = l .breaks }
 unfoldable pub assetsTold : ℕ → List ℕ → ℕ → AssetLoop
 assetsTold n s at = loopTold (assetsFrom n s at)
 
-abbrev pub told : MaybeMpt → ℕ → MptParsed
-told m n = record { mpt = m; breaks = n }
+abbrev pub mptParsed : MaybeMpt → ℕ → MptParsed
+mptParsed m n = record { mpt = m; breaks = n }
 
 -- table id 8 bits, version 8, length 16, reserved 6, MPT mode 2, package id behind a length of 8, descriptors behind a length
 -- of 16, number of assets 8, assets; bytes behind those are not looked at
@@ -121,23 +121,23 @@ mptFields s start n =
 -- a descriptor loop counts as broken also where the table then fails
 abbrev pub mptLoop : List ℕ → ℕ → ℕ → Loop Asset → MptParsed
 mptLoop s start n l =
-    told (if l .whole then Some (mptFields s start n) else None) (broken (take n (drop start s)) + l .breaks)
+    mptParsed (if l .whole then Some (mptFields s start n) else None) (broken (take n (drop start s)) + l .breaks)
 
 unfoldable pub mptAssets : List ℕ → ℕ → ℕ → MptParsed
 mptAssets s start n =
-    if length s - (start + n) <? 1 then told None (broken (take n (drop start s)))
+    if length s - (start + n) <? 1 then mptParsed None (broken (take n (drop start s)))
     else mptLoop s start n (assetsFrom (getD s (start + n) 0) s (start + n + 1))
 
 -- a table cut to its declared bytes
 unfoldable pub mptTable : List ℕ → MptParsed
 mptTable s =
-    if length s <? 6 then told None 0
-    else if length s <? getD s 5 0 + 8 then told None 0
-    else if length s - (getD s 5 0 + 8) <? be 2 s (getD s 5 0 + 6) then told None 0
+    if length s <? 6 then mptParsed None 0
+    else if length s <? getD s 5 0 + 8 then mptParsed None 0
+    else if length s - (getD s 5 0 + 8) <? be 2 s (getD s 5 0 + 6) then mptParsed None 0
     else mptAssets s (getD s 5 0 + 8) (be 2 s (getD s 5 0 + 6))
 
 abbrev pub mptIn : List ℕ → MaybeUsize → MptParsed
-mptIn s nowhere = told None 0
+mptIn s nowhere = mptParsed None 0
 mptIn s (At n) = mptTable (take n s)
 
 unfoldable pub mptOf : List ℕ → MptParsed

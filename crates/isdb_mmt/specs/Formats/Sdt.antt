@@ -16,20 +16,20 @@ use Rattle.isdb_mmt.specs.declared.table.sdt.SdtService.{SdtService}
 use Rattle.isdb_mmt.specs.declared.table.sdt.SdtStep.{SdtStep}
 use Rattle.isdb_mmt.specs.declared.table.sdt.SdtStep.the-variants.{End, Malformed as broken, Service as service}
 
-abbrev pub told : SdtResult → ℕ → SdtParsed
-told r n = record { result = r; breaks = n }
+abbrev pub sdtParsed : SdtResult → ℕ → SdtParsed
+sdtParsed r n = record { result = r; breaks = n }
 
 -- original network id 16 bits, reserved 8, then services, which are to end with the body; the reserved byte may be missing
 -- where there are none
 abbrev pub sdtLoop : SectionHeader → List ℕ → Loop Entry → SdtParsed
 sdtLoop h s l =
-    told (if l .whole then Ok h (record { «original_network_id» = be 2 s 0; services = length (l .found) }) else Err Malformed) (l .breaks)
+    sdtParsed (if l .whole then Ok h (record { «original_network_id» = be 2 s 0; services = length (l .found) }) else Err Malformed) (l .breaks)
 
 unfoldable pub sdtBody : SectionHeader → List ℕ → SdtParsed
-sdtBody h s = if length s <? 2 then told (Err Malformed) 0 else sdtLoop h s (entriesFrom s 3 3)
+sdtBody h s = if length s <? 2 then sdtParsed (Err Malformed) 0 else sdtLoop h s (entriesFrom s 3 3)
 
 unfoldable pub sdtOf : List ℕ → SdtParsed
-sdtOf s = inSection (λ e. told (Err e) 0) sdtBody s (longSectionOf s)
+sdtOf s = inSection (λ e. sdtParsed (Err e) 0) sdtBody s (longSectionOf s)
 
 -- a service: service id 16 bits, reserved 3, EIT user defined flags 3, EIT schedule flag 1, EIT present following flag 1,
 -- running status 3, free CA mode 1, descriptors' length 12

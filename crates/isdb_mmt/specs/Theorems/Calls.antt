@@ -25,7 +25,7 @@ use Rattle.isdb_mmt.specs.Pushes.Records.{rowsFrom, dataFrom, readRows}
 use Rattle.isdb_mmt.specs.Pushes.Leaves.{packetLeaves}
 use Rattle.isdb_mmt.specs.Pushes.Push.{Input, packetOf, asks, Pushed}
 use Rattle.isdb_mmt.specs.Answers.TableReadingLaws.{AsKept}
-use Rattle.isdb_mmt.specs.Answers.Readings.{mediaFound, sectionFound, countersRead, timeRead, countRead, nextMediaRead, nextControlRead, nextKeyRead, mediaRead, heldRead, controlRead, sectionRead, mptRead, pltRead, totRead, assetRead, countersNumber, timeNumber, countNumber, nameNumber, mediaNumber, heldNumber, controlNumber, tableNumber, assetNumber, Told, nothing, these, toldBy}
+use Rattle.isdb_mmt.specs.Answers.Readings.{mediaFound, sectionFound, countersRead, timeRead, countRead, nextMediaRead, nextControlRead, nextKeyRead, mediaRead, heldRead, controlRead, sectionRead, mptRead, pltRead, totRead, assetRead, countersNumber, timeNumber, countNumber, nameNumber, mediaNumber, heldNumber, controlNumber, tableNumber, assetNumber, TableTold, nothing, these, toldBy}
 use Rattle.isdb_mmt.specs.declared.decoder.place.Found.{Found}
 use Rattle.isdb_mmt.specs.declared.decoder.place.Found.the-variants.{At, Nothing as nowhere}
 use Rattle.isdb_mmt.specs.declared.decoder.limits.Limits.{Limits}
@@ -183,7 +183,7 @@ PushDetermined = (s : Session) (x : Input) (r records bytes : ℕ) (s′ : Sessi
 -- ---- the claim
 
 -- it tells the first of the last run of equal version among a key's well-formed sections, and nothing exactly where there are none
-pub data Tells : Told → List Section → Type 0 where
+pub data Tells : TableTold → List Section → Type 0 where
   none-kept : Tells nothing []
   kept : {xs : List Section} (x : Section) → FirstOfLastRun x xs → Tells (these (x .bytes)) xs
 

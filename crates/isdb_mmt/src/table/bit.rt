@@ -1,7 +1,7 @@
 // MH-BIT (ARIB STD-B60, Table 7-21): the broadcasters of a network.
 // Translated from table.rs of isdb-rs (Apache-2.0, see NOTICE) and changed.
 ghost use mathlib.Core.Path.{_≡_};
-ghost use Rattle.isdb_mmt.specs.Formats.Bit.{told, bitBody, bitOf, broadcasterOf, broadcasterStep};
+ghost use Rattle.isdb_mmt.specs.Formats.Bit.{bitParsed, bitBody, bitOf, broadcasterOf, broadcasterStep};
 use crate::part::Part;
 use crate::table::section;
 use crate::table::section::Entry;
@@ -30,7 +30,7 @@ pub struct BitParsed {
 }
 
 fn refused(e: SectionError, breaks: usize) -> BitParsed
-    ensures { λ r. ⌜ r ≡ told (BitResult.Err e) breaks ⌝ }
+    ensures { λ r. ⌜ r ≡ bitParsed (BitResult.Err e) breaks ⌝ }
 {
     BitParsed {
         result: BitResult::Err(e),

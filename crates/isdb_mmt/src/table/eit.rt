@@ -3,7 +3,7 @@
 ghost use mathlib.Core.Path.{_≡_};
 ghost use Rattle.isdb_mmt.specs.Formats.Desc.{firstOf};
 ghost use Rattle.isdb_mmt.specs.Formats.Tags.{shortEventTag};
-ghost use Rattle.isdb_mmt.specs.Formats.Eit.{told, eitBody, eitOf, eventOf, eventStep};
+ghost use Rattle.isdb_mmt.specs.Formats.Eit.{eitParsed, eitBody, eitOf, eventOf, eventStep};
 use crate::desc;
 use crate::desc::Found;
 use crate::desc::tag;
@@ -37,7 +37,7 @@ pub struct EitParsed {
 }
 
 fn refused(e: SectionError, breaks: usize) -> EitParsed
-    ensures { λ r. ⌜ r ≡ told (EitResult.Err e) breaks ⌝ }
+    ensures { λ r. ⌜ r ≡ eitParsed (EitResult.Err e) breaks ⌝ }
 {
     EitParsed {
         result: EitResult::Err(e),

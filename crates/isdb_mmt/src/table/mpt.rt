@@ -4,7 +4,7 @@ ghost use mathlib.Core.Path.{_≡_};
 ghost use Prim.Native.Nat.{_+_, _≤_};
 ghost use lib.ListN.{length, drop};
 ghost use Rattle.isdb_mmt.specs.Formats.Location.{locationOf};
-ghost use Rattle.isdb_mmt.specs.Formats.Mpt.{declaredLength, locationsEnd, assetFields, assetAt, assetsTold, told, mptAssets, mptTable, mptOf, serviceId, firstPacketId, locationsOf, componentTag};
+ghost use Rattle.isdb_mmt.specs.Formats.Mpt.{declaredLength, locationsEnd, assetFields, assetAt, assetsTold, mptParsed, mptAssets, mptTable, mptOf, serviceId, firstPacketId, locationsOf, componentTag};
 use crate::desc;
 use crate::desc::Descriptor;
 use crate::desc::Found;
@@ -184,7 +184,7 @@ pub struct MptParsed {
 }
 
 fn no_table(breaks: usize) -> MptParsed
-    ensures { λ r. ⌜ r ≡ told MaybeMpt.None breaks ⌝ }
+    ensures { λ r. ⌜ r ≡ mptParsed MaybeMpt.None breaks ⌝ }
 {
     MptParsed {
         mpt: MaybeMpt::None,

@@ -3,7 +3,7 @@
 ghost use mathlib.Core.Path.{_≡_};
 ghost use Rattle.isdb_mmt.specs.Formats.Desc.{firstOf};
 ghost use Rattle.isdb_mmt.specs.Formats.Tags.{serviceTag};
-ghost use Rattle.isdb_mmt.specs.Formats.Sdt.{told, sdtBody, sdtOf, serviceOf, serviceStep};
+ghost use Rattle.isdb_mmt.specs.Formats.Sdt.{sdtParsed, sdtBody, sdtOf, serviceOf, serviceStep};
 use crate::desc;
 use crate::desc::Found;
 use crate::desc::tag;
@@ -34,7 +34,7 @@ pub struct SdtParsed {
 }
 
 fn refused(e: SectionError, breaks: usize) -> SdtParsed
-    ensures { λ r. ⌜ r ≡ told (SdtResult.Err e) breaks ⌝ }
+    ensures { λ r. ⌜ r ≡ sdtParsed (SdtResult.Err e) breaks ⌝ }
 {
     SdtParsed {
         result: SdtResult::Err(e),

@@ -1,7 +1,7 @@
 // MH-TOT (ARIB STD-B60, Table 7-25): the current time, a short section with a CRC.
 // Translated from table.rs of isdb-rs (Apache-2.0, see NOTICE) and changed.
 ghost use mathlib.Core.Path.{_≡_};
-ghost use Rattle.isdb_mmt.specs.Formats.Tot.{told, totFields, totOf};
+ghost use Rattle.isdb_mmt.specs.Formats.Tot.{totParsed, totFields, totOf};
 use crate::part::Part;
 use crate::table::section;
 use crate::table::section::SectionError;
@@ -26,7 +26,7 @@ pub struct TotParsed {
 }
 
 fn refused(e: SectionError) -> TotParsed
-    ensures { λ r. ⌜ r ≡ told (TotResult.Err e) 0 ⌝ }
+    ensures { λ r. ⌜ r ≡ totParsed (TotResult.Err e) 0 ⌝ }
 {
     TotParsed {
         result: TotResult::Err(e),
