@@ -47,13 +47,20 @@ abbrev pub flowNumbers : ℕ → Address → Address → ℕ → ℕ → ℕ →
 flowNumbers type src dst port id size =
     type ∷ addressHigh src ∷ addressLow src ∷ addressHigh dst ∷ addressLow dst ∷ port ∷ id ∷ 0 ∷ 0 ∷ 0 ∷ 0 ∷ 0 ∷ size ∷ []
 
+abbrev pub tsNumbers : ℕ → ℕ → ℕ → ℕ → ℕ → ℕ → List ℕ
+tsNumbers type port network stream pid size =
+    type ∷ 0 ∷ 0 ∷ 0 ∷ 0 ∷ port ∷ 0 ∷ network ∷ stream ∷ pid ∷ 0 ∷ 0 ∷ size ∷ []
+
+abbrev pub urlNumbers : Part → ℕ → List ℕ
+urlNumbers url size = 5 ∷ 0 ∷ 0 ∷ 0 ∷ 0 ∷ 0 ∷ 0 ∷ 0 ∷ 0 ∷ 0 ∷ placed url (size ∷ [])
+
 abbrev pub locationNumbers : Location → ℕ → List ℕ
-locationNumbers (SameFlow id) n = 0 ∷ 0 ∷ 0 ∷ 0 ∷ 0 ∷ 0 ∷ id ∷ 0 ∷ 0 ∷ 0 ∷ 0 ∷ 0 ∷ n ∷ []
+locationNumbers (SameFlow id) n = flowNumbers 0 (V4 0) (V4 0) 0 id n
 locationNumbers (Ipv4 src dst port id) n = flowNumbers 1 (V4 src) (V4 dst) port id n
 locationNumbers (Ipv6 sh sl dh dl port id) n = flowNumbers 2 (V6 sh sl) (V6 dh dl) port id n
-locationNumbers (Mpeg2Ts network stream pid) n = 3 ∷ 0 ∷ 0 ∷ 0 ∷ 0 ∷ 0 ∷ 0 ∷ network ∷ stream ∷ pid ∷ 0 ∷ 0 ∷ n ∷ []
-locationNumbers (Mpeg2TsIpv6 port pid) n = 4 ∷ 0 ∷ 0 ∷ 0 ∷ 0 ∷ port ∷ 0 ∷ 0 ∷ 0 ∷ pid ∷ 0 ∷ 0 ∷ n ∷ []
-locationNumbers (Url p) n = 5 ∷ 0 ∷ 0 ∷ 0 ∷ 0 ∷ 0 ∷ 0 ∷ 0 ∷ 0 ∷ 0 ∷ placed p (n ∷ [])
+locationNumbers (Mpeg2Ts network stream pid) n = tsNumbers 3 0 network stream pid n
+locationNumbers (Mpeg2TsIpv6 port pid) n = tsNumbers 4 port 0 0 pid n
+locationNumbers (Url url) n = urlNumbers url n
 
 abbrev pub locationSaid : Located → Reply
 locationSaid notLocated = malformed

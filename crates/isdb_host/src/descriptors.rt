@@ -9,7 +9,7 @@ ghost use Rattle.isdb_mmt.specs.Formats.Nit.{tlvStepAt, frequencyOf};
 ghost use Rattle.isdb_mmt.specs.Formats.Ntp.{Seconds};
 ghost use Rattle.isdb_mmt.specs.Formats.Timestamp.{timestampAt, mpuAt, unitStep};
 ghost use Rattle.isdb_host.specs.Values.{Reply, Replied};
-ghost use Rattle.isdb_host.specs.Descriptors.{flowNumbers, locationNumbers, locationSaid, descriptorSaid, tlvSaid, frequencySaid};
+ghost use Rattle.isdb_host.specs.Descriptors.{flowNumbers, tsNumbers, urlNumbers, locationNumbers, locationSaid, descriptorSaid, tlvSaid, frequencySaid};
 ghost use Rattle.isdb_host.specs.Descriptors.{extendedNumbers, locationGiven, serviceNumbers, shortEventNumbers, decodeSaid};
 ghost use Rattle.isdb_host.specs.Descriptors.{timestampSaid, mpuSaid, accessUnitNumbers, accessUnitSaid, listedServiceSaid, genreSaid, offsetGiven, headOf};
 use crate::fields;
@@ -40,7 +40,7 @@ use isdb_mmt::timestamp::TimestampStep;
 use isdb_tlv::crc;
 use isdb_tlv::ip::Address;
 
-// A location of type 1 or 2.
+// A location of type 0, 1 or 2.
 fn says_flow(
     v: &mut [u64],
     kind: u64,
@@ -71,13 +71,55 @@ fn says_flow(
     values::says(v, &numbers)
 }
 
+// A location of type 3 or 4.
+fn says_ts(
+    v: &mut [u64],
+    kind: u64,
+    port: u16,
+    network: u16,
+    stream: u16,
+    pid: u16,
+    size: usize,
+) -> u8
+    requires { ⌜ length (now v) ≡ 16 ⌝ }
+    ensures { λ r. ⌜ Replied (Reply.says (tsNumbers kind port network stream pid size)) r (now (v .entry)) (now (v .exit)) ⌝ }
+{
+    let numbers = [
+        kind,
+        0,
+        0,
+        0,
+        0,
+        port as u64,
+        0,
+        network as u64,
+        stream as u64,
+        pid as u64,
+        0,
+        0,
+        size as u64,
+    ];
+    values::says(v, &numbers)
+}
+
+fn says_url(v: &mut [u64], url: Part, size: usize) -> u8
+    requires { ⌜ length (now v) ≡ 16 ⌝ }
+    ensures { λ r. ⌜ Replied (Reply.says (urlNumbers url size)) r (now (v .entry)) (now (v .exit)) ⌝ }
+{
+    let start = url.start as u64;
+    let length = url.length as u64;
+    values::says(
+        v,
+        &[5, 0, 0, 0, 0, 0, 0, 0, 0, 0, start, length, size as u64],
+    )
+}
+
 fn says_location(v: &mut [u64], l: Location, size: usize) -> u8
     requires { ⌜ length (now v) ≡ 16 ⌝ }
     ensures { λ r. ⌜ Replied (Reply.says (locationNumbers l size)) r (now (v .entry)) (now (v .exit)) ⌝ }
 {
-    let n = size as u64;
     match l {
-        Location::SameFlow(id) => values::says(v, &[0, 0, 0, 0, 0, 0, id as u64, 0, 0, 0, 0, 0, n]),
+        Location::SameFlow(id) => says_flow(v, 0, Address::V4(0), Address::V4(0), 0, id, size),
         Location::Ipv4 {
             src,
             dst,
@@ -104,32 +146,9 @@ fn says_location(v: &mut [u64], l: Location, size: usize) -> u8
             network_id: i,
             ts_id: s,
             pid: p,
-        } => values::says(
-            v,
-            &[3, 0, 0, 0, 0, 0, 0, i as u64, s as u64, p as u64, 0, 0, n],
-        ),
-        Location::Mpeg2TsIpv6 { port, pid } => values::says(
-            v,
-            &[4, 0, 0, 0, 0, port as u64, 0, 0, 0, pid as u64, 0, 0, n],
-        ),
-        Location::Url(p) => values::says(
-            v,
-            &[
-                5,
-                0,
-                0,
-                0,
-                0,
-                0,
-                0,
-                0,
-                0,
-                0,
-                p.start as u64,
-                p.length as u64,
-                n,
-            ],
-        ),
+        } => says_ts(v, 3, 0, i, s, p, size),
+        Location::Mpeg2TsIpv6 { port, pid } => says_ts(v, 4, port, 0, 0, pid, size),
+        Location::Url(url) => says_url(v, url, size),
     }
 }
 
@@ -301,10 +320,7 @@ fn decode_said(r: Descriptor, v: &mut [u64]) -> u8
             layer_type: l,
             system_id: s,
         } => values::says(v, &[4, l as u64, s as u64]),
-        Descriptor::StreamIdentifier { component_tag } => values::says(
-            v,
-            &[5, component_tag as u64],
-        ),
+        Descriptor::StreamIdentifier { component_tag: c } => values::says(v, &[5, c as u64]),
         Descriptor::Service {
             service_type: t,
             provider: p,

@@ -4,13 +4,11 @@ use Rattle.isdb_host.proofs.descriptors.says_flow.Tie as tie
 
 returns : tie.Need-returns
 returns c =
-    rw (
-      c .before .before .before .before .before .address-low2 .ensures,
-      c .before .before .before .before .before .before .address-high2 .ensures,
-      c .before .before .before .before .before .before .before .address-low .ensures,
-      c .before .before .before .before .before .before .before .before .address-high .ensures,
-    )
-    at (c .before .before .says .ensures)
+    let d = c .before .before .before .before .before in
+    let e = d .before in
+    let f = e .before in
+    let g = f .before in
+    rw (d .address-low2 .ensures, e .address-high2 .ensures, f .address-low .ensures, g .address-high .ensures) at (c .before .before .says .ensures)
 
 pub says-flow-spec : {M : Type 1} → statement M
 says-flow-spec =

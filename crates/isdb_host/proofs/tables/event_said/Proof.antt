@@ -4,8 +4,9 @@ use Rattle.isdb_host.proofs.tables.event_said.Tie as tie
 
 returns-3 : tie.Need-returns-3
 returns-3 c =
-    rw (c .before .before .before .before .before .before .before .before .before .before .before .r .given .1) (rw (c .before .before .before .before .flag .ensures)
-    at (c .before .before .says .ensures))
+    let d = c .before .before .before .before in
+    let e = d .before .before .before .before .before .before .before in
+    rw (e .r .given .1) (rw (d .flag .ensures) at (c .before .before .says .ensures))
 
 pub event-said-spec : {M : Type 1} → statement M
 event-said-spec =

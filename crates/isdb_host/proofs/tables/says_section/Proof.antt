@@ -5,17 +5,27 @@ use Rattle.isdb_host.proofs.tables.says_section.Tie as tie
 
 returns : tie.Need-returns
 returns c =
-    headed-by-eight (c .before .before .before .before .before .before .before .before .before .before .before .before .before .before .before .before .before .before .before .before .before .before .args .h) (c .before .before .before .before .before .before .before .before .before .before .before .before .before .before .before .before .before .before .before .before .before .before .args .more .now)
+    let d = c .before .before .before .before .before in
+    let e = d .before in
+    let f = e .before in
+    let g = f .before in
+    let h = g .before in
+    let i = h .before in
+    let j = i .before in
+    let k = j .before in
+    let l = k .before .before .before in
+    let m = l .before .before .before .before .before .before .before in
+    headed-by-eight (m .args .h) (m .args .more .now)
     (rw (
-      c .before .before .before .before .before .number8 .ensures,
-      c .before .before .before .before .before .before .number7 .ensures,
-      c .before .before .before .before .before .before .before .number6 .ensures,
-      c .before .before .before .before .before .before .before .before .number5 .ensures,
-      c .before .before .before .before .before .before .before .before .before .number4 .ensures,
-      c .before .before .before .before .before .before .before .before .before .before .number3 .ensures,
-      c .before .before .before .before .before .before .before .before .before .before .before .number2 .ensures,
-      c .before .before .before .before .before .before .before .before .before .before .before .before .number .ensures,
-      c .before .before .before .before .before .before .before .before .before .before .before .before .before .before .before .flag .ensures,
+      d .number8 .ensures,
+      e .number7 .ensures,
+      f .number6 .ensures,
+      g .number5 .ensures,
+      h .number4 .ensures,
+      i .number3 .ensures,
+      j .number2 .ensures,
+      k .number .ensures,
+      l .flag .ensures,
     )
     at (c .before .before .says .ensures))
 

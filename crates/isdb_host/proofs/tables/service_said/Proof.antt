@@ -4,12 +4,11 @@ use Rattle.isdb_host.proofs.tables.service_said.Tie as tie
 
 returns-3 : tie.Need-returns-3
 returns-3 c =
-    rw (c .before .before .before .before .before .before .before .before .before .before .before .before .before .r .given .1) (rw (
-      c .before .before .before .before .flag3 .ensures,
-      c .before .before .before .before .before .before .flag2 .ensures,
-      c .before .before .before .before .before .before .before .flag .ensures,
-    )
-    at (c .before .before .says .ensures))
+    let d = c .before .before .before .before in
+    let e = d .before .before in
+    let f = e .before in
+    let g = f .before .before .before .before .before .before in
+    rw (g .r .given .1) (rw (d .flag3 .ensures, e .flag2 .ensures, f .flag .ensures) at (c .before .before .says .ensures))
 
 pub service-said-spec : {M : Type 1} → statement M
 service-said-spec =
