@@ -294,6 +294,14 @@ impl Event {
             descriptors: Descriptor::all(part(body, &v[5..])),
         }
     }
+
+    /// Name and text of its first short event descriptor.
+    pub fn short_event(&self) -> Option<(&[u8], &[u8])> {
+        self.descriptors.iter().find_map(|d| match d {
+            Descriptor::ShortEvent { name, text, .. } => Some((&name[..], &text[..])),
+            _ => None,
+        })
+    }
 }
 
 impl Eit {
@@ -355,6 +363,14 @@ impl SdtService {
             free_ca: v[5] != 0,
             descriptors: Descriptor::all(part(body, &v[6..])),
         }
+    }
+
+    /// Type, provider and name of its first service descriptor.
+    pub fn service(&self) -> Option<(u8, &[u8], &[u8])> {
+        self.descriptors.iter().find_map(|d| match d {
+            Descriptor::Service { service_type, provider, name } => Some((*service_type, &provider[..], &name[..])),
+            _ => None,
+        })
     }
 }
 
