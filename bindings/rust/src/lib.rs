@@ -13,6 +13,7 @@ mod record;
 mod refused;
 mod session;
 mod sys;
+pub mod tables;
 
 pub use limits::{Lengths, Limits};
 pub use readings::{Asset, CarriedAsset, Control, Counters, Held, Key, Media};

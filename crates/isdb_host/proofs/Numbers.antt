@@ -10,7 +10,9 @@ use lib.Seq.{ext-getD, getD-set-same, getD-set-other}
 use lib.Dec.{eqb}
 use borrow.Author.Tests.{eqb-true, eqb-false}
 use Rattle.isdb_tlv.proofs.Guards.{either}
+use Rattle.isdb_mmt.specs.declared.table.section.SectionHeader.{SectionHeader}
 use Rattle.isdb_host.specs.Values.{Reply, says, numbersFor, Replied}
+use Rattle.isdb_host.specs.Tables.{headed}
 
 length-numbers : (n : ℕ) (xs : List ℕ) → length (numbersFor n xs) ≡ n
 unfolding numbersFor
@@ -53,3 +55,26 @@ set-all xs u v i s h =
 -- an answer by its equal
 pub replied-as : {a b : Reply} {r : ℕ} {v w : List ℕ} → Replied a r v w → b ≡ a → Replied b r v w
 replied-as h e = rw e h
+
+-- eight numbers, those that are not there as 0
+eight : (xs : List ℕ)
+    → numbersFor 8 (getD xs 0 0 ∷ getD xs 1 0 ∷ getD xs 2 0 ∷ getD xs 3 0 ∷ getD xs 4 0 ∷ getD xs 5 0 ∷ getD xs 6 0 ∷ getD xs 7 0 ∷ [])
+    ≡ numbersFor 8 xs
+unfolding numbersFor
+eight [] = refl
+eight (a ∷ []) = refl
+eight (a ∷ b ∷ []) = refl
+eight (a ∷ b ∷ c ∷ []) = refl
+eight (a ∷ b ∷ c ∷ d ∷ []) = refl
+eight (a ∷ b ∷ c ∷ d ∷ e ∷ []) = refl
+eight (a ∷ b ∷ c ∷ d ∷ e ∷ f ∷ []) = refl
+eight (a ∷ b ∷ c ∷ d ∷ e ∷ f ∷ g ∷ []) = refl
+eight (a ∷ b ∷ c ∷ d ∷ e ∷ f ∷ g ∷ h ∷ xs) = refl
+
+-- a section's header with eight numbers behind it, read one by one
+pub headed-by-eight : (h : SectionHeader) {r : ℕ} {v w : List ℕ} (xs : List ℕ)
+    → Replied (says (headed h (getD xs 0 0 ∷ getD xs 1 0 ∷ getD xs 2 0 ∷ getD xs 3 0 ∷ getD xs 4 0 ∷ getD xs 5 0 ∷ getD xs 6 0 ∷ getD xs 7 0 ∷ []))) r v w
+    → Replied (says (headed h xs)) r v w
+unfolding numbersFor
+headed-by-eight h xs q =
+    record { number = q .number; numbers = q .numbers ∙ ap (λ (l : List ℕ). headed h l) (eight xs) }

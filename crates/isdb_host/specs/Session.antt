@@ -6,10 +6,9 @@ use mathlib.Core.List.{List, [], _∷_}
 use lib.ListN.{getD}
 use Rattle.isdb_tlv.specs.Guards.{if_then_else_, _=?_}
 use Rattle.isdb_mmt.specs.Decoder.Packet.{Bytes}
-use Rattle.isdb_mmt.specs.Memory.Lent.{flagByte}
 use Rattle.isdb_mmt.specs.Memory.Session.{Session}
 use Rattle.isdb_mmt.specs.Pushes.Push.{Input, Pushed}
-use Rattle.isdb_mmt.specs.Pushes.Records.{headerOr, itemOr}
+use Rattle.isdb_mmt.specs.Pushes.Records.{headerOr}
 use Rattle.isdb_mmt.specs.declared.decoder.limits.Limits.{Limits}
 use Rattle.isdb_mmt.specs.declared.decoder.limits.Need.{Need}
 use Rattle.isdb_mmt.specs.declared.decoder.limits.Need.the-variants.{Bytes as needBytes, Refused as needRefused}
@@ -36,7 +35,7 @@ use Rattle.isdb_mmt.specs.declared.decoder.readings.CarriedAsset.{CarriedAsset}
 use Rattle.isdb_mmt.specs.declared.decoder.readings.AssetReading.{AssetReading}
 use Rattle.isdb_mmt.specs.declared.decoder.readings.AssetReading.the-variants.{Refused as assetRefused, Nothing as noAsset, Asset as theAsset}
 use Rattle.isdb_host.specs.Values.{Reply, says, code, nothing, noId, Replied}
-use Rattle.isdb_host.specs.Given.{u16Given, u16Or, u32Given, headerGiven, rangeGiven, firstOr, lastOr}
+use Rattle.isdb_host.specs.Fields.{flagOf, givenU16, numberU16, givenU32, numberU32, givenHeader, givenRange, firstMpu, lastMpu}
 
 -- the limits that eight numbers say; scrambled payloads are passed on where the last is not 0
 unfoldable pub limitsFrom : List ℕ → Limits
@@ -120,13 +119,13 @@ mediaNumbers m =
     ∷ m .stats .mpus
     ∷ m .stats .«mpu_sequence_jumps»
     ∷ m .stats .malformed
-    ∷ rangeGiven (m .«mpu_range»)
-    ∷ firstOr (m .«mpu_range»)
-    ∷ lastOr (m .«mpu_range»)
-    ∷ u32Given (m .sequence)
-    ∷ itemOr (m .sequence)
-    ∷ u32Given (m .held)
-    ∷ itemOr (m .held)
+    ∷ givenRange (m .«mpu_range»)
+    ∷ firstMpu (m .«mpu_range»)
+    ∷ lastMpu (m .«mpu_range»)
+    ∷ givenU32 (m .sequence)
+    ∷ numberU32 (m .sequence)
+    ∷ givenU32 (m .held)
+    ∷ numberU32 (m .held)
     ∷ []
 
 abbrev pub mediaSaid : MediaReading → Reply
@@ -138,15 +137,15 @@ mediaSaid (theMedia m) = says (mediaNumbers m)
 abbrev pub heldNumbers : HeldObject → List ℕ
 heldNumbers o =
     o .«mpu_sequence_number»
-    ∷ flagByte (o .rap)
-    ∷ headerGiven (o .mfu)
+    ∷ flagOf (o .rap)
+    ∷ givenHeader (o .mfu)
     ∷ headerOr (o .mfu) .«movie_fragment_sequence_number»
     ∷ headerOr (o .mfu) .«sample_number»
     ∷ headerOr (o .mfu) .offset
     ∷ headerOr (o .mfu) .priority
     ∷ headerOr (o .mfu) .«dependency_counter»
-    ∷ u32Given (o .«item_id»)
-    ∷ itemOr (o .«item_id»)
+    ∷ givenU32 (o .«item_id»)
+    ∷ numberU32 (o .«item_id»)
     ∷ o .bytes .start
     ∷ o .bytes .length
     ∷ []
@@ -160,7 +159,7 @@ heldSaid (theObject o) = says (heldNumbers o)
 -- a packet id of control messages: the last packet's number, the length of the message being joined
 abbrev pub controlNumbers : ControlState → List ℕ
 controlNumbers c =
-    u32Given (c .sequence) ∷ itemOr (c .sequence) ∷ u32Given (c .joined) ∷ itemOr (c .joined) ∷ []
+    givenU32 (c .sequence) ∷ numberU32 (c .sequence) ∷ givenU32 (c .joined) ∷ numberU32 (c .joined) ∷ []
 
 abbrev pub controlSaid : ControlReading → Reply
 controlSaid (controlRefused n) = code n
@@ -179,14 +178,14 @@ assetNumbers x =
     x .«control_id»
     ∷ x .mpt .start
     ∷ x .mpt .length
-    ∷ u16Given (x .«service_id»)
-    ∷ u16Or (x .«service_id»)
+    ∷ givenU16 (x .«service_id»)
+    ∷ numberU16 (x .«service_id»)
     ∷ x .asset .«identifier_type»
     ∷ x .asset .«asset_id_scheme»
     ∷ x .asset .«asset_id» .start
     ∷ x .asset .«asset_id» .length
     ∷ x .asset .«asset_type»
-    ∷ flagByte (x .asset .«clock_relation»)
+    ∷ flagOf (x .asset .«clock_relation»)
     ∷ x .asset .locations
     ∷ x .asset .«locations_start»
     ∷ x .asset .descriptors .start

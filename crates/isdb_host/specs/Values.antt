@@ -21,6 +21,16 @@ nothing = code 20
 abbrev pub noId : Reply
 noId = code 21
 
+-- that what stands there cannot be read; of a section, that bytes are missing, or that its CRC does not match
+abbrev pub malformed : Reply
+malformed = code 22
+
+abbrev pub truncated : Reply
+truncated = code 23
+
+abbrev pub badCrc : Reply
+badCrc = code 24
+
 -- the code is 0 where numbers are given
 abbrev pub codeOf : Reply → ℕ
 codeOf (says xs) = 0

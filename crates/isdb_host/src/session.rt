@@ -7,7 +7,7 @@ ghost use Rattle.isdb_mmt.specs.Pushes.Push.{input};
 ghost use Rattle.isdb_mmt.specs.Answers.Readings.{countersRead, timeRead, countRead, nextMediaRead, nextControlRead, nextKeyRead, mediaRead, heldRead, controlRead, sectionRead, mptRead, pltRead, totRead, assetRead};
 ghost use Rattle.isdb_host.specs.Values.{Reply, Replied};
 ghost use Rattle.isdb_host.specs.Session.{limitsFrom, neededSaid, pushSaid, HostPushed, countersSaid, timeSaid, countSaid, nameSaid, mediaNumbers, mediaSaid, heldNumbers, heldSaid, controlNumbers, controlSaid, tableSaid, assetNumbers, assetSaid};
-use crate::given;
+use crate::fields;
 use crate::values;
 use isdb_mmt::decoder;
 use isdb_mmt::decoder::ids;
@@ -305,13 +305,13 @@ fn media_told(m: MediaState, v: &mut [u64]) -> u8
         s.mpus,
         s.mpu_sequence_jumps,
         s.malformed,
-        given::range(range),
-        given::first_or(range) as u64,
-        given::last_or(range) as u64,
-        given::u32(sequence),
-        given::u32_or(sequence) as u64,
-        given::u32(held),
-        given::u32_or(held) as u64,
+        fields::given_range(range),
+        fields::first_mpu(range),
+        fields::last_mpu(range),
+        fields::given_u32(sequence),
+        fields::number_u32(sequence),
+        fields::given_u32(held),
+        fields::number_u32(held),
     ];
     values::says(v, &x)
 }
@@ -349,20 +349,20 @@ fn held_told(o: HeldObject, v: &mut [u64]) -> u8
     ensures { λ q. ⌜ Replied (Reply.says (heldNumbers o)) q (now (v .entry)) (now (v .exit)) ⌝ }
 {
     let mfu = o.mfu;
-    let h = given::header_or(mfu);
+    let h = fields::header_or(mfu);
     let item = o.item_id;
     let p = o.bytes;
     let x = [
         o.mpu_sequence_number as u64,
-        given::flag(o.rap),
-        given::header(mfu),
+        fields::flag(o.rap),
+        fields::given_header(mfu),
         h.movie_fragment_sequence_number as u64,
         h.sample_number as u64,
         h.offset as u64,
         h.priority as u64,
         h.dependency_counter as u64,
-        given::u32(item),
-        given::u32_or(item) as u64,
+        fields::given_u32(item),
+        fields::number_u32(item),
         p.start as u64,
         p.length as u64,
     ];
@@ -405,10 +405,10 @@ fn control_told(c: ControlState, v: &mut [u64]) -> u8
     let sequence = c.sequence;
     let joined = c.joined;
     let x = [
-        given::u32(sequence),
-        given::u32_or(sequence) as u64,
-        given::u32(joined),
-        given::u32_or(joined) as u64,
+        fields::given_u32(sequence),
+        fields::number_u32(sequence),
+        fields::given_u32(joined),
+        fields::number_u32(joined),
     ];
     values::says(v, &x)
 }
@@ -531,14 +531,14 @@ fn asset_told(x: CarriedAsset, v: &mut [u64]) -> u8
         x.control_id as u64,
         m.start as u64,
         m.length as u64,
-        given::u16(service),
-        given::u16_or(service) as u64,
+        fields::given_u16(service),
+        fields::number_u16(service),
         a.identifier_type as u64,
         a.asset_id_scheme as u64,
         id.start as u64,
         id.length as u64,
         a.asset_type as u64,
-        given::flag(a.clock_relation),
+        fields::flag(a.clock_relation),
         a.locations as u64,
         a.locations_start as u64,
         d.start as u64,

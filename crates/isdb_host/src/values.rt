@@ -9,8 +9,15 @@ pub(crate) const NOTHING: u8 = 20;
 
 pub(crate) const NO_ID: u8 = 21;
 
+// What stands there cannot be read; of a section: bytes are missing, its CRC does not match.
+pub(crate) const MALFORMED: u8 = 22;
+
+pub(crate) const TRUNCATED: u8 = 23;
+
+pub(crate) const BAD_CRC: u8 = 24;
+
 // The number at i; one that is not there counts as 0.
-fn number(values: &[u64], i: usize) -> u64
+pub(crate) fn number(values: &[u64], i: usize) -> u64
     ensures { λ r. ⌜ r ≡ getD (now (values .entry)) i 0 ⌝ }
 {
     if i < values.len() {

@@ -1,7 +1,7 @@
 use borrow.Author.Needs.{needs}
 use Rattle.isdb_host.proofs.Lent.{header-absent}
-use Rattle.isdb_host.proofs.given.header_or.Statement.{statement}
-use Rattle.isdb_host.proofs.given.header_or.Tie as tie
+use Rattle.isdb_host.proofs.fields.header_or.Statement.{statement}
+use Rattle.isdb_host.proofs.fields.header_or.Tie as tie
 
 returns : tie.Need-returns
 returns c = search (needs, header-absent)
