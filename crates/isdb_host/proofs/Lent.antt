@@ -1,0 +1,36 @@
+-- Laws of the calls on a session. Assumes nothing.
+use Prim.Native.Nat.{ℕ}
+use mathlib.Core.Path.{_≡_, refl, sym, _∙_, ap}
+use mathlib.Core.Bool.{true, false}
+use mathlib.Core.List.{List}
+use lib.Dec.{eqb}
+use borrow.Author.Tests.{eqb-true}
+use Rattle.isdb_tlv.proofs.Guards.{either}
+use Rattle.isdb_mmt.specs.Decoder.Packet.{Bytes}
+use Rattle.isdb_mmt.specs.Memory.Session.{Session}
+use Rattle.isdb_mmt.specs.Memory.Opening.{Opened}
+use Rattle.isdb_mmt.specs.Pushes.Push.{Input, Pushed}
+use Rattle.isdb_mmt.specs.Pushes.Records.{noHeader, headerOr}
+use Rattle.isdb_mmt.specs.declared.decoder.limits.Limits.{Limits}
+use Rattle.isdb_mmt.specs.declared.mpu.MaybeMfu.{MaybeMfu}
+use Rattle.isdb_mmt.specs.declared.mpu.MaybeMfu.the-variants.{None as noMfu}
+use Rattle.isdb_host.specs.Values.{codeOf, Replied}
+use Rattle.isdb_host.specs.Session.{pushSaid, HostPushed}
+use Rattle.isdb_host.proofs.Numbers.{replied-as}
+
+pub header-absent : (m : MaybeMfu) → m ≡ noMfu → noHeader ≡ headerOr m
+header-absent m e = rw e
+
+-- an opening with limits by their equal
+pub opened-as : {l k : Limits} {s s′ : Session} {r : ℕ} → Opened l s r s′ → k ≡ l → Opened k s r s′
+opened-as h e = rw e h
+
+-- a push returns its number
+push-code : (n records bytes : ℕ) → codeOf (pushSaid n records bytes) ≡ n
+push-code n records bytes = either (eqb n 0) (λ t. rw (t) (sym (eqb-true n 0 t))) (λ t. rw (t) refl)
+
+pub host-pushed : {s s′ : Session} {x : Input} {n r records bytes : ℕ} {rows out : Bytes} {v w : List ℕ}
+    → Pushed s x n records bytes s′ rows out → Replied (pushSaid n records bytes) r v w → HostPushed s x r s′ rows out v w
+host-pushed {n = n} {r = r} {records = records} {bytes = bytes} p a =
+    let same : r ≡ n = a .number ∙ push-code n records bytes in
+    record { records = records; bytes = bytes; pushed = rw same p; replied = replied-as a (ap (λ k. pushSaid k records bytes) same) }

@@ -1,0 +1,3 @@
+-- Laws that belong to no one function, a file a subject.
+pub mod Numbers
+pub mod Lent

@@ -1,0 +1,26 @@
+use borrow.Author.Needs.{needs}
+use Rattle.isdb_host.proofs.descriptors.says_extended.Statement.{statement}
+use Rattle.isdb_host.proofs.descriptors.says_extended.Tie as tie
+
+returns : tie.Need-returns
+returns c =
+    let d = c .before .before .before .before .before in
+    let e = d .before in
+    let f = e .before in
+    let g = f .before in
+    let h = g .before in
+    rw (d .flag .ensures, e .number-u16 .ensures, f .given-u16 .ensures, g .number-u32 .ensures, h .given-u32 .ensures) at (c .before .before .says .ensures)
+
+pub says-extended-spec : {M : Type 1} → statement M
+says-extended-spec =
+    tie.close
+    (tie.spec
+    (λ c κs. search needs)
+    (λ c κs. search needs)
+    (λ c κs. search needs)
+    (λ c κs. search needs)
+    (λ c κs. search needs)
+    (λ c. search needs)
+    (λ c κs. search needs)
+    (λ c. search needs)
+    returns)
