@@ -1,0 +1,36 @@
+use lib.ListN.{length}
+use mathlib.Core.Path.{_≡_}
+use borrow.Author.Needs.{needs}
+use Rattle.replay.proofs.kept.mpts.Statement.{statement}
+use Rattle.replay.proofs.kept.mpts.Tie as tie
+
+abbrev Inv-loop : tie.InvT-loop
+Inv-loop state others objects messages tables text₀ at p₀ from₀ left₀ t14 text p from left = length text ≡ length text₀
+
+abbrev μ-loop : tie.MeasureT-loop
+μ-loop state others objects messages tables text₀ at p₀ from₀ left₀ t14 text p from left = left
+
+pub mpts-spec : {M : Type 1} → statement M
+mpts-spec =
+    tie.close
+    (tie.spec
+    Inv-loop
+    μ-loop
+    (λ c. search needs)
+    (λ c κs. search needs)
+    (λ c. search needs)
+    (λ c κs. search needs)
+    (λ c. search needs)
+    (λ c κs. search needs)
+    (λ c κs. search needs)
+    (λ c. search needs)
+    (λ c. search needs)
+    (λ c. search needs)
+    (λ c. search needs)
+    (λ c. search needs)
+    (λ c. search needs)
+    (λ c. search needs)
+    (λ c. search needs)
+    (λ c. search needs)
+    (λ c. search needs)
+    (λ c. search needs))
