@@ -1,0 +1,323 @@
+//! One feed on both sides, compared as it goes.
+use crate::calls::{self, Memory};
+use crate::covered::Covered;
+use crate::differ::{differ, same};
+use crate::feed::{Area, Feed, Step};
+use crate::layout::{Head, Limits, STATE_BYTES};
+use crate::random::Random;
+use crate::shadow::{Needs, Shadow};
+use crate::{kept, questions, seen};
+use isdb_mmt::decoder::Decoder;
+use isdb_mmt::desc::{ntp_to_unix, split_errors};
+use isdb_mmt::mpu::Mfu;
+use isdb_tlv::tlv::{Packet, PacketType};
+
+/// What the outputs hold before a push; every byte that no record takes must hold it after.
+pub struct Canvas(Vec<u8>);
+
+impl Canvas {
+    pub fn new() -> Canvas {
+        Canvas::of_size(1 << 20)
+    }
+
+    pub fn of_size(n: usize) -> Canvas {
+        Canvas(Random::new(1).bytes(n))
+    }
+}
+
+pub struct Run<'a> {
+    feed: &'a Feed,
+    canvas: &'a Canvas,
+    covered: &'a mut Covered,
+    memory: Memory,
+    rows: Vec<u8>,
+    out: Vec<u8>,
+    shadow: Shadow,
+    rust: Decoder,
+    /// Broken loops that this decoder met.
+    splits: u64,
+    mfus: Vec<Mfu>,
+    /// Someone else wrote to the session: it is no longer what the Rust has.
+    written: bool,
+}
+
+/// Small enough to be copied around each look.
+const SMALL: usize = 1 << 16;
+
+fn lent(feed: &Feed) -> Memory {
+    let mut r = Random::new(feed.fill.unwrap_or(0));
+    let mut buffer = |n: usize| if feed.fill.is_some() { r.bytes(n + feed.slack) } else { vec![0; n + feed.slack] };
+    let [objects, messages, tables] = feed.limits.areas().unwrap().map(|n| n as usize);
+    Memory {
+        state: buffer(STATE_BYTES),
+        objects: buffer(objects),
+        messages: buffer(messages),
+        tables: buffer(tables),
+        others: Box::new([0x5A; 256]),
+    }
+}
+
+/// An MFU's record of 36 bytes.
+fn row(m: &Mfu, start: usize) -> [u8; 36] {
+    let flag = u8::from;
+    let mut b = [0; 36];
+    b[..2].copy_from_slice(&m.packet_id.to_be_bytes());
+    b[2] = flag(m.rap) | flag(m.scrambled) << 1 | flag(m.header.is_some()) << 2 | flag(m.item_id.is_some()) << 3;
+    b[4..8].copy_from_slice(&m.mpu_sequence_number.to_be_bytes());
+    if let Some(h) = m.header {
+        b[8..12].copy_from_slice(&h.movie_fragment_sequence_number.to_be_bytes());
+        b[12..16].copy_from_slice(&h.sample_number.to_be_bytes());
+        b[16..20].copy_from_slice(&h.offset.to_be_bytes());
+        b[20..22].copy_from_slice(&[h.priority, h.dependency_counter]);
+    }
+    b[24..28].copy_from_slice(&m.item_id.unwrap_or(0).to_be_bytes());
+    b[28..32].copy_from_slice(&(start as u32).to_be_bytes());
+    b[32..].copy_from_slice(&(m.data.len() as u32).to_be_bytes());
+    b
+}
+
+impl<'a> Run<'a> {
+    /// Opens a session for a feed.
+    pub fn open(feed: &'a Feed, canvas: &'a Canvas, covered: &'a mut Covered) -> Run<'a> {
+        let mut run = Run {
+            feed, canvas, covered,
+            memory: lent(feed),
+            rows: canvas.0[..feed.rows].to_vec(),
+            out: canvas.0[..feed.out].to_vec(),
+            shadow: Shadow::default(),
+            rust: Decoder::new(),
+            splits: 0,
+            mfus: Vec::new(),
+            written: false,
+        };
+        if let Some(fill) = feed.fill {
+            run.openings(&mut Random::new(fill));
+        }
+        run.opening(&feed.limits);
+        run.rust.set_pass_scrambled(feed.limits.pass_scrambled);
+        run
+    }
+
+    /// Some openings with limits at their bounds, of which most are turned down.
+    fn openings(&mut self, r: &mut Random) {
+        const BOUNDS: [u64; 7] = [64, 32, 512, 1 << 24, 1 << 20, 65_539, u32::MAX as u64];
+        for _ in 0..3 {
+            let mut words = self.feed.limits.words();
+            let i = r.below(7);
+            words[i] = r.pick(&[0, 1, words[i] + 1, BOUNDS[i], BOUNDS[i] + 1, u64::MAX]);
+            let [media_ids, control_ids, sections, mfu_area, message_area, table_area, packets, _] = words;
+            let limits =
+                Limits { media_ids, control_ids, sections, mfu_area, message_area, table_area, packets, ..self.feed.limits };
+            self.opening(&limits);
+        }
+    }
+
+    fn opening(&mut self, l: &Limits) {
+        let (number, before) = (questions::opening(l, &self.memory), self.memory.state.clone());
+        let others = self.memory.others.clone();
+        same(|| format!("isdb_open {l:?}"), &self.memory.open(&l.words()), &number);
+        self.needed(l, number);
+        self.covered.openings[usize::from(number)] += 1;
+        if number != 0 {
+            return same(|| "an opening that is turned down writes".into(), &(&self.memory.state, &self.memory.others), &(&before, &others));
+        }
+        let mut state: Vec<u8> = l.words()[..7].iter().flat_map(|x| x.to_be_bytes()).collect();
+        state.push(l.pass_scrambled.into());
+        state.resize(STATE_BYTES, 0);
+        state.extend(&before[STATE_BYTES..]);
+        same(|| "the state after an opening".into(), &self.memory.state, &state);
+        same(|| "the counts after an opening".into(), &self.memory.others[..], &[0; 256]);
+    }
+
+    /// The lengths that limits need, or the number of limits that no memory would do for.
+    fn needed(&self, l: &Limits, opened: u8) {
+        let told = calls::needed(&l.words()).map(|v| [v[0], v[1], v[2], v[3]]);
+        let expected = match opened {
+            1 | 2 | 4 => Err(opened),
+            3 if l.packets == 0 || l.packets > u32::MAX.into() => Err(4),
+            _ => l.areas().map(|a| [STATE_BYTES as u64, a[0], a[1], a[2]]).ok_or(0),
+        };
+        same(|| format!("isdb_needed {l:?}"), &told, &expected);
+    }
+
+    pub fn step(&mut self, step: &Step) {
+        match step {
+            Step::Packet(kind, data) if self.written => self.packet_after_writes(*kind, data),
+            Step::Packet(kind, data) => self.packet(*kind, data),
+            Step::Write(area, at, b) => self.write(*area, *at, b),
+            Step::Look => self.look(),
+        }
+    }
+
+    /// By the shadow, which a look has held against both sides: the bytes held, objects dropped, bytes joined, messages oversize.
+    pub fn outcome(&self) -> [u64; 4] {
+        let held = self.shadow.media.values().filter_map(|l| l.held).sum::<usize>();
+        let joined = self.shadow.control.values().filter_map(|c| c.part.as_ref()).map(|p| p.bytes.len()).sum::<usize>();
+        let dropped = self.rust.mpu_stats().map(|(_, s)| s.mfus_dropped).sum();
+        [held as u64, dropped, joined as u64, self.rust.counters.message_errors.oversize]
+    }
+
+    fn packet(&mut self, kind: u8, data: &[u8]) {
+        let o = self.shadow.look(kind, data, self.feed.limits.pass_scrambled);
+        let number = questions::packet(data, &o.needs, &self.shadow, &self.feed.limits, self.rows.len(), self.out.len());
+        self.covered.packets += 1;
+        if number != 0 {
+            return self.turned_down(kind, data, number);
+        }
+        self.taken(kind, data, &o.needs);
+        self.covered.joined += o.joined;
+        self.covered.takes(&o.changes);
+        self.shadow.take(o.changes);
+    }
+
+    /// A packet that the questions turn down: the number, and not a byte is changed.
+    fn turned_down(&mut self, kind: u8, data: &[u8], number: u8) {
+        let before = self.memory.clone();
+        let told = self.memory.push(kind, data, &mut self.rows, &mut self.out);
+        same(|| "a push, which the questions turn down".into(), &told, &Err(number));
+        self.covered.refused[usize::from(number)] += 1;
+        if self.memory != before {
+            differ(format!("a push is turned down with {number} and writes to the session"));
+        }
+        self.untouched(0, 0);
+    }
+
+    /// Nothing is written behind so many bytes of the outputs; these are painted over.
+    fn untouched(&mut self, rows: usize, out: usize) {
+        let canvas = &self.canvas.0;
+        if self.rows[rows..] != canvas[rows..self.rows.len()] || self.out[out..] != canvas[out..self.out.len()] {
+            differ(format!("a push writes behind its {rows} bytes of records or its {out} bytes of data"));
+        }
+        self.rows[..rows].copy_from_slice(&canvas[..rows]);
+        self.out[..out].copy_from_slice(&canvas[..out]);
+    }
+
+    fn taken(&mut self, kind: u8, data: &[u8], needs: &Needs) {
+        let before = split_errors();
+        self.mfus.clear();
+        self.rust.push(&Packet { kind: PacketType::from_byte(kind), data: data.to_vec() }, &mut self.mfus);
+        self.splits += split_errors() - before;
+        let bytes = self.mfus.iter().map(|m| m.data.len()).sum();
+        let told = self.memory.push(kind, data, &mut self.rows, &mut self.out);
+        same(|| "a push: records and bytes".into(), &told, &Ok((self.mfus.len(), bytes)));
+        same(|| "what a push hands out and what it was said to need".into(), &(self.mfus.len(), bytes), &(needs.records, needs.bytes));
+        self.covered.accepted += 1;
+        self.covered.records += self.mfus.len() as u64;
+        let mut start = 0;
+        for (i, m) in self.mfus.iter().enumerate() {
+            same(|| format!("record {i}"), &self.rows[36 * i..36 * i + 36], &row(m, start)[..]);
+            same(|| format!("the data of record {i}"), &self.out[start..start + m.data.len()], &m.data[..]);
+            start += m.data.len();
+        }
+        self.untouched(36 * self.mfus.len(), bytes);
+    }
+
+    fn write(&mut self, area: Area, at: usize, b: &[u8]) {
+        let m = &mut self.memory;
+        let of = match area {
+            Area::Others => {
+                m.others[at] = u64::from_be_bytes(b.try_into().unwrap());
+                &mut vec![]
+            }
+            Area::State => &mut m.state,
+            Area::Objects => &mut m.objects,
+            Area::Messages => &mut m.messages,
+            Area::Tables => &mut m.tables,
+        };
+        for (x, &y) in of.iter_mut().skip(at).zip(b) {
+            *x = y;
+        }
+        self.covered.corrupted += u64::from(!self.written);
+        self.written = true;
+    }
+
+    /// The number as the questions say it of the session's bytes; what it hands out is no longer the Rust's.
+    fn packet_after_writes(&mut self, kind: u8, data: &[u8]) {
+        self.covered.packets += 1;
+        if !questions::holds_session(&self.memory) {
+            return self.turned_down(kind, data, 5);
+        }
+        let (limits, shadow) = (Head::of(&self.memory.state).limits, Shadow::of(&self.memory));
+        let needs = shadow.look(kind, data, limits.pass_scrambled).needs;
+        match questions::packet(data, &needs, &shadow, &limits, self.rows.len(), self.out.len()) {
+            0 => {
+                let told = self.memory.push(kind, data, &mut self.rows, &mut self.out);
+                same(|| "a push into a session that was written to".into(), &told, &Ok((needs.records, needs.bytes)));
+                self.covered.accepted += 1;
+                self.untouched(36 * needs.records, needs.bytes);
+            }
+            number => self.turned_down(kind, data, number),
+        }
+    }
+
+    fn look(&mut self) {
+        let m = &self.memory;
+        let small = m.state.len() + m.objects.len() + m.messages.len() + m.tables.len() < SMALL;
+        let before = small.then(|| m.clone());
+        self.covered.looks += 1;
+        match (self.written, questions::holds_session(&self.memory)) {
+            (false, true) => self.compare_all(),
+            (false, false) => differ("calls alone made question 5 fail".into()),
+            (true, true) => self.compare_written(),
+            (true, false) => self.compare_refusals(),
+        }
+        if before.is_some_and(|b| b != self.memory) {
+            differ("a reading wrote to the session".into());
+        }
+    }
+
+    fn compare_all(&mut self) {
+        let m = &self.memory;
+        let (here, (bytes, joined)) = (seen::by_readings(m), seen::by_bytes(m));
+        let (rust, rust_joined) = seen::of_rust(&self.rust, self.splits);
+        same(|| "the readings and the Rust".into(), &here, &rust);
+        same(|| "the session's bytes and the Rust".into(), &bytes, &rust);
+        same(|| "messages being joined".into(), &joined, &rust_joined);
+        same(|| "the session's bytes and the shadow".into(), &Shadow::of(m), &self.shadow);
+        self.compare_counts();
+        if let Some(t) = self.rust.ntp {
+            same(|| format!("the Unix time of {t:016x}"), &calls::ntp_to_unix(t), &ntp_to_unix(t).to_bits());
+        }
+        self.covered.walked += kept::compare(m, &self.shadow, &self.rust);
+        self.covered.assets += kept::compare_assets(m, &self.shadow, &self.rust);
+    }
+
+    /// Tables that are only counted: all 256 as they are lent, and by the reading those that came and some that did not.
+    fn compare_counts(&self) {
+        let rust: Vec<u64> = (0..=255).map(|id| self.rust.other_tables.get(&id).copied().unwrap_or(0)).collect();
+        same(|| "counts of other tables".into(), &self.memory.others[..], &rust[..]);
+        let turn = (self.covered.looks % 32) as usize;
+        for id in (0..256).filter(|id| id % 32 == turn || rust[*id] > 0) {
+            let told = self.memory.table_count(id as u8).map(|v| v[0]);
+            same(|| format!("isdb_table_count {id}"), &told, &Ok(rust[id]));
+        }
+    }
+
+    fn compare_written(&mut self) {
+        let (here, (bytes, _)) = (seen::by_readings(&self.memory), seen::by_bytes(&self.memory));
+        same(|| "the readings and the session's bytes".into(), &here, &bytes);
+        kept::compare_written(&self.memory, &Shadow::of(&self.memory));
+    }
+
+    /// Every reading answers 5.
+    fn compare_refusals(&mut self) {
+        let m = &self.memory;
+        let told = [
+            m.counters(), m.time(), m.table_count(7), m.next_media(0), m.next_control(0), m.next_key(0, u32::MAX), m.media(0xF100),
+            m.held(0xF100), m.control(0), m.section(0x8B01_9100), m.mpt(0), m.plt(), m.tot(), m.asset_of(0xF100),
+        ];
+        same(|| "readings of what is no session".into(), &told, &[Err(5); 14]);
+    }
+}
+
+/// Runs a feed; `each` also looks after every step.
+pub fn run(feed: &Feed, canvas: &Canvas, covered: &mut Covered, each: bool) {
+    let mut run = Run::open(feed, canvas, covered);
+    for step in &feed.steps {
+        run.step(step);
+        if each && *step != Step::Look {
+            run.look();
+        }
+    }
+    run.covered.feeds += 1;
+}
