@@ -149,12 +149,13 @@ impl<'a> Run<'a> {
         }
     }
 
-    /// By the shadow, which a look has held against both sides: the bytes held, objects dropped, bytes joined, messages oversize.
-    pub fn outcome(&self) -> [u64; 4] {
+    /// What a look has held against both sides: the bytes held, objects dropped, bytes joined, messages oversize, tables.
+    pub fn outcome(&self) -> [u64; 5] {
         let held = self.shadow.media.values().filter_map(|l| l.held).sum::<usize>();
         let joined = self.shadow.control.values().filter_map(|c| c.part.as_ref()).map(|p| p.bytes.len()).sum::<usize>();
         let dropped = self.rust.mpu_stats().map(|(_, s)| s.mfus_dropped).sum();
-        [held as u64, dropped, joined as u64, self.rust.counters.message_errors.oversize]
+        let c = &self.rust.counters;
+        [held as u64, dropped, joined as u64, c.message_errors.oversize, c.tables]
     }
 
     fn packet(&mut self, kind: u8, data: &[u8]) {

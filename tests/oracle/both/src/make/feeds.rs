@@ -20,6 +20,8 @@ struct Style {
     unit: usize,
     /// Messages with tables of up to 65,539 bytes.
     big: bool,
+    /// Someone else writes to the session.
+    spoilt: bool,
 }
 
 /// The senders of a feed, by packet id.
@@ -40,6 +42,7 @@ impl Maker {
             damaged: self.r.pick(&[6, 20, 1000]),
             unit: if self.r.once_in(20) { 4000 } else { self.r.pick(&[3, 20, 60]) },
             big: self.r.once_in(150),
+            spoilt: self.r.once_in(12),
         }
     }
 
@@ -52,6 +55,20 @@ impl Maker {
             message_area: self.r.pick(&[1, 20, 60, 200, 600]),
             table_area: self.r.pick(&[12, 30, 60, 120, 300, 600]),
             packets: if self.r.once_in(8) { self.r.between(1, 30) as u64 } else { u32::MAX.into() },
+            pass_scrambled: self.r.once_in(2),
+        }
+    }
+
+    /// Limits under which little is turned down, and memory that is quick to copy.
+    fn middle_limits(&mut self) -> Limits {
+        Limits {
+            media_ids: 8,
+            control_ids: 6,
+            sections: 24,
+            mfu_area: 2_000,
+            message_area: 2_000,
+            table_area: 1_000,
+            packets: 1_000,
             pass_scrambled: self.r.once_in(2),
         }
     }
@@ -129,7 +146,7 @@ impl Maker {
     fn steps(&mut self, style: &Style, limits: &Limits) -> Vec<Step> {
         let (mut senders, mut steps) = (Senders::default(), Vec::new());
         let n = self.r.pick(&[5, 20, 60, 150]);
-        let spoilt = self.r.once_in(12).then(|| self.r.below(n + 1));
+        let spoilt = style.spoilt.then(|| self.r.below(n + 1));
         for i in 0..n {
             let (kind, b) = self.packet(style, &mut senders);
             steps.push(Step::Packet(kind, b));
@@ -148,7 +165,11 @@ impl Maker {
     pub fn feed(&mut self) -> Feed {
         let style = self.style();
         let small = !style.big && self.r.once_in(3);
-        let limits = if small { self.small_limits() } else { self.large_limits(&style) };
+        let limits = match (small, style.spoilt) {
+            (true, _) => self.small_limits(),
+            (false, true) => self.middle_limits(),
+            (false, false) => self.large_limits(&style),
+        };
         let fill = small.then(|| self.r.word());
         let (rows, out) = if small {
             (self.r.pick(&[0, 35, 36, 71, 108, 180, 360]), self.r.pick(&[0, 1, 10, 40, 100, 400, 9000]))

@@ -40,7 +40,7 @@ impl Maker {
     }
 
     fn part_of(&mut self, s: &mut Sender) -> u8 {
-        let part = match (self.r.once_in(10), s.open) {
+        let part = match (self.r.once_in(16), s.open) {
             (true, _) => self.r.below(4) as u8,
             (_, true) => self.r.pick(&[2, 2, 3]),
             (_, false) => self.r.pick(&[0, 0, 1, 1]),
