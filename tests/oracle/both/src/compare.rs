@@ -168,6 +168,7 @@ impl<'a> Run<'a> {
         self.taken(kind, data, &o.needs);
         self.covered.joined += o.joined;
         self.covered.takes(&o.changes);
+        self.covered.needs(&o.needs);
         self.shadow.take(o.changes);
     }
 
@@ -245,6 +246,7 @@ impl<'a> Run<'a> {
                 let told = self.memory.push(kind, data, &mut self.rows, &mut self.out);
                 same(|| "a push into a session that was written to".into(), &told, &Ok((needs.records, needs.bytes)));
                 self.covered.accepted += 1;
+                self.covered.taken_corrupted += 1;
                 self.untouched(36 * needs.records, needs.bytes);
             }
             number => self.turned_down(kind, data, number),
@@ -300,6 +302,13 @@ impl<'a> Run<'a> {
         kept::compare_written(&self.memory, &Shadow::of(&self.memory));
     }
 
+    fn end(&mut self) {
+        self.covered.feeds += 1;
+        if !self.written {
+            self.covered.ends(&seen::of_rust(&self.rust, self.splits).0);
+        }
+    }
+
     /// Every reading answers 5.
     fn compare_refusals(&mut self) {
         let m = &self.memory;
@@ -320,5 +329,5 @@ pub fn run(feed: &Feed, canvas: &Canvas, covered: &mut Covered, each: bool) {
             run.look();
         }
     }
-    run.covered.feeds += 1;
+    run.end();
 }

@@ -1,5 +1,6 @@
 //! What a run has covered.
-use crate::shadow::Change;
+use crate::seen::Seen;
+use crate::shadow::{Change, Needs};
 use std::fmt;
 
 pub const SORTS: [&str; 8] = ["MPT", "PLT", "EIT", "SDT", "BIT", "NIT", "AMT", "TOT"];
@@ -18,12 +19,34 @@ pub struct Covered {
     /// Tables of which every field was compared.
     pub walked: u64,
     pub assets: u64,
+    /// Sessions that someone else wrote to, and the packets that they then took.
     pub corrupted: u64,
+    pub taken_corrupted: u64,
     pub looks: u64,
     pub openings: [u64; 5],
+    /// The longest object, message and table that a packet held, joined or kept.
+    pub longest: [usize; 3],
+    /// The sums of the Rust's twelve counters and of the nine of a media id.
+    pub counters: [u64; 12],
+    pub counts: [u64; 9],
+}
+
+fn sum(into: &mut [u64], more: &[u64]) {
+    into.iter_mut().zip(more).for_each(|(x, y)| *x += y);
 }
 
 impl Covered {
+    /// What the Rust has at a feed's end.
+    pub fn ends(&mut self, s: &Seen) {
+        sum(&mut self.counters, &s.counters);
+        s.media.iter().for_each(|m| sum(&mut self.counts, &m.counts));
+    }
+
+    pub fn needs(&mut self, n: &Needs) {
+        let needs = [n.object, n.message, n.table];
+        self.longest.iter_mut().zip(needs).for_each(|(x, y)| *x = y.max(*x));
+    }
+
     pub fn takes(&mut self, changes: &[Change]) {
         for c in changes {
             let sort = match c {
@@ -50,8 +73,12 @@ impl fmt::Display for Covered {
         (5..=10).try_for_each(|n| write!(f, " {n}:{}", self.refused[n]))?;
         write!(f, ", {} records, {} objects of more than one unit, kept", self.records, self.joined)?;
         SORTS.iter().zip(self.kept).try_for_each(|(name, n)| write!(f, " {name}:{n}"))?;
-        write!(f, ", {} tables walked, {} assets, {} looks, {} corrupted sessions", self.walked, self.assets, self.looks, self.corrupted)?;
+        write!(f, ", {} tables walked, {} assets, {} looks", self.walked, self.assets, self.looks)?;
+        write!(f, ", {} corrupted sessions, which then took {} packets", self.corrupted, self.taken_corrupted)?;
         write!(f, ", openings refused")?;
-        (1..=4).try_for_each(|n| write!(f, " {n}:{}", self.openings[n]))
+        (1..=4).try_for_each(|n| write!(f, " {n}:{}", self.openings[n]))?;
+        let [object, message, table] = self.longest;
+        write!(f, ", longest object {object} message {message} table {table}")?;
+        write!(f, ", counters {:?}, of media {:?}", self.counters, self.counts)
     }
 }
