@@ -144,8 +144,8 @@ impl<'a> Run<'a> {
         match step {
             Step::Packet(kind, data) if self.written => self.packet_after_writes(*kind, data),
             Step::Packet(kind, data) => self.packet(*kind, data),
-            Step::Write(area, at, b) => self.write(*area, *at, b),
             Step::Look => self.look(),
+            _ => self.write(step),
         }
     }
 
@@ -214,20 +214,28 @@ impl<'a> Run<'a> {
         self.untouched(36 * self.mfus.len(), bytes);
     }
 
-    fn write(&mut self, area: Area, at: usize, b: &[u8]) {
+    /// The bytes of an area; the counts have none.
+    fn area(&mut self, area: Area) -> Option<&mut Vec<u8>> {
         let m = &mut self.memory;
-        let of = match area {
-            Area::Others => {
-                m.others[at] = u64::from_be_bytes(b.try_into().unwrap());
-                &mut vec![]
+        match area {
+            Area::Others => None,
+            Area::State => Some(&mut m.state),
+            Area::Objects => Some(&mut m.objects),
+            Area::Messages => Some(&mut m.messages),
+            Area::Tables => Some(&mut m.tables),
+        }
+    }
+
+    /// From here on the session is not what the calls left.
+    fn write(&mut self, step: &Step) {
+        match step {
+            Step::Write(Area::Others, at, b) => self.memory.others[*at] = u64::from_be_bytes(b[..].try_into().unwrap()),
+            Step::Write(area, at, b) => {
+                let of = self.area(*area).into_iter().flatten().skip(*at);
+                of.zip(b).for_each(|(x, &y)| *x = y);
             }
-            Area::State => &mut m.state,
-            Area::Objects => &mut m.objects,
-            Area::Messages => &mut m.messages,
-            Area::Tables => &mut m.tables,
-        };
-        for (x, &y) in of.iter_mut().skip(at).zip(b) {
-            *x = y;
+            Step::Shorten(area, n) => self.area(*area).into_iter().for_each(|b| b.truncate(b.len().saturating_sub(*n))),
+            _ => {}
         }
         self.covered.corrupted += u64::from(!self.written);
         self.written = true;
@@ -273,8 +281,8 @@ impl<'a> Run<'a> {
         let m = &self.memory;
         let (here, (bytes, joined)) = (seen::by_readings(m), seen::by_bytes(m));
         let (rust, rust_joined) = seen::of_rust(&self.rust, self.splits);
-        same(|| "the readings and the Rust".into(), &here, &rust);
-        same(|| "the session's bytes and the Rust".into(), &bytes, &rust);
+        here.held_against("by the readings", &rust);
+        bytes.held_against("by the session's bytes", &rust);
         same(|| "messages being joined".into(), &joined, &rust_joined);
         same(|| "the session's bytes and the shadow".into(), &Shadow::of(m), &self.shadow);
         self.compare_counts();
@@ -298,7 +306,7 @@ impl<'a> Run<'a> {
 
     fn compare_written(&mut self) {
         let (here, (bytes, _)) = (seen::by_readings(&self.memory), seen::by_bytes(&self.memory));
-        same(|| "the readings and the session's bytes".into(), &here, &bytes);
+        here.held_against("by the readings and, as the Rust's, by the session's bytes", &bytes);
         kept::compare_written(&self.memory, &Shadow::of(&self.memory));
     }
 

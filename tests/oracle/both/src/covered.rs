@@ -18,6 +18,8 @@ pub struct Covered {
     pub kept: [u64; 8],
     /// Tables of which every field was compared.
     pub walked: u64,
+    /// Tables apart from a session, likewise.
+    pub apart: u64,
     pub assets: u64,
     /// Sessions that someone else wrote to, and the packets that they then took.
     pub corrupted: u64,
@@ -73,7 +75,7 @@ impl fmt::Display for Covered {
         (5..=10).try_for_each(|n| write!(f, " {n}:{}", self.refused[n]))?;
         write!(f, ", {} records, {} objects of more than one unit, kept", self.records, self.joined)?;
         SORTS.iter().zip(self.kept).try_for_each(|(name, n)| write!(f, " {name}:{n}"))?;
-        write!(f, ", {} tables walked, {} assets, {} looks", self.walked, self.assets, self.looks)?;
+        write!(f, ", {} tables walked, {} apart, {} assets, {} looks", self.walked, self.apart, self.assets, self.looks)?;
         write!(f, ", {} corrupted sessions, which then took {} packets", self.corrupted, self.taken_corrupted)?;
         write!(f, ", openings refused")?;
         (1..=4).try_for_each(|n| write!(f, " {n}:{}", self.openings[n]))?;

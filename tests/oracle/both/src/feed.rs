@@ -16,6 +16,8 @@ pub enum Step {
     Packet(u8, Vec<u8>),
     /// Someone else writes to the lent memory.
     Write(Area, usize, Vec<u8>),
+    /// A buffer is lent shorter by so many bytes from now on.
+    Shorten(Area, usize),
     /// Everything that the session knows is compared.
     Look,
 }
@@ -41,6 +43,7 @@ impl fmt::Display for Step {
         match self {
             Step::Packet(kind, data) => write!(f, "packet {kind:02x} {}", hex(data)),
             Step::Write(area, at, b) => write!(f, "write {area:?} {at} {}", hex(b)),
+            Step::Shorten(area, n) => write!(f, "shorten {area:?} {n}"),
             Step::Look => write!(f, "look"),
         }
     }

@@ -3,6 +3,7 @@
 //!     both compare SEED PACKETS    compares feeds up to so many packets; at a difference prints the smallest input found, and ends with 1
 //!     both feed SEED NUMBER        prints a feed of that seed, and what it comes to
 //!     both large                   the largest objects and messages
+mod apart;
 mod calls;
 mod compare;
 mod covered;
@@ -63,6 +64,10 @@ fn compare(seed: u64, packets: u64) -> ExitCode {
         let feed = feed_of(seed, number);
         if let Err(told) = differ::caught(|| run(&feed, &canvas, &mut covered, false)) {
             return report(seed, number, told, &covered, &canvas);
+        }
+        if let Err(told) = differ::caught(|| apart::compare(&mut make::Maker::new(seed ^ number << 24), &mut covered)) {
+            println!("a difference apart from a session, after {} packets: {told}", covered.packets);
+            return ExitCode::FAILURE;
         }
     }
     println!("seed {seed}: {covered}; no difference");

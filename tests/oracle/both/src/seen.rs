@@ -1,7 +1,7 @@
 //! What is seen of a session: by the library's readings, by its bytes, and of the Rust's decoder.
 use crate::calls::{Memory, NO_ID, NOTHING, Numbers, Said};
 use crate::debug_text::{Shown, private_text};
-use crate::differ::differ;
+use crate::differ::{differ, same};
 use crate::layout::{self, Areas, Head};
 use isdb_mmt::decoder::Decoder;
 use isdb_mmt::mpu::AssetStats;
@@ -15,7 +15,6 @@ pub struct Held {
     pub data: Vec<u8>,
 }
 
-#[derive(Debug, PartialEq)]
 pub struct Media {
     pub id: u32,
     pub counts: [u64; 9],
@@ -34,12 +33,29 @@ pub struct Control {
 /// A message being joined: its control id, long lengths, aggregated, its bytes so far.
 pub type Joined = (u32, bool, bool, Vec<u8>);
 
-#[derive(Debug, PartialEq)]
 pub struct Seen {
     pub counters: [u64; 12],
     pub time: Option<u64>,
     pub media: Vec<Media>,
     pub controls: Vec<Control>,
+}
+
+impl Seen {
+    /// Ends the run where another differs, with what of it does.
+    pub fn held_against(&self, whose: &str, other: &Seen) {
+        same(|| format!("counters, {whose}"), &self.counters, &other.counters);
+        same(|| format!("the time, {whose}"), &self.time, &other.time);
+        let ids = |s: &Seen| (s.media.iter().map(|m| m.id).collect::<Vec<_>>(), s.controls.iter().map(|c| c.id).collect::<Vec<_>>());
+        same(|| format!("media and control ids, {whose}"), &ids(self), &ids(other));
+        for (here, there) in self.media.iter().zip(&other.media) {
+            let id = here.id;
+            same(|| format!("counts of media id {id}, {whose}"), &here.counts, &there.counts);
+            same(|| format!("MPU range of media id {id}, {whose}"), &here.range, &there.range);
+            same(|| format!("last number of media id {id}, {whose}"), &here.sequence, &there.sequence);
+            same(|| format!("held object of media id {id}, {whose}"), &here.held, &there.held);
+        }
+        same(|| format!("control ids, {whose}"), &self.controls, &other.controls);
+    }
 }
 
 /// The numbers, or none where there is nothing; no other code may come.

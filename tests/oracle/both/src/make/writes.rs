@@ -80,7 +80,7 @@ impl Maker {
 
     /// A write into a session with these limits.
     pub fn write(&mut self, l: &Limits) -> Step {
-        let (at, b) = match self.r.below(16) {
+        let (at, b) = match self.r.below(17) {
             0..4 => self.head(l),
             4..7 => self.media_place(l),
             7..9 => self.control_place(l),
@@ -89,6 +89,10 @@ impl Maker {
             12 => return Step::Write(Area::Others, self.r.below(256), be(self.r.pick(&COUNTS), 8)),
             13 => return Step::Write(Area::Objects, self.r.below(64), self.word(1)),
             14 => return Step::Write(Area::Messages, self.r.below(64), self.word(2)),
+            15 => {
+                let area = self.r.pick(&[Area::State, Area::Objects, Area::Messages, Area::Tables]);
+                return Step::Shorten(area, self.r.pick(&[1, 1, 16, 17]));
+            }
             _ => return self.into_tables(l),
         };
         Step::Write(Area::State, at, b)
