@@ -1,14 +1,14 @@
 //! One feed on both sides, compared as it goes.
-use crate::calls::{self, Memory};
+use crate::calls::Memory;
 use crate::covered::Covered;
 use crate::differ::{differ, same};
 use crate::feed::{Area, Feed, Step};
-use crate::layout::{Head, Limits, STATE_BYTES};
+use crate::layout::{Head, STATE_BYTES};
 use crate::random::Random;
 use crate::shadow::{Needs, Shadow};
-use crate::{kept, questions, seen};
+use crate::{questions, seen};
 use isdb_mmt::decoder::Decoder;
-use isdb_mmt::desc::{ntp_to_unix, split_errors};
+use isdb_mmt::desc::split_errors;
 use isdb_mmt::mpu::Mfu;
 use isdb_tlv::tlv::{Packet, PacketType};
 
@@ -26,23 +26,22 @@ impl Canvas {
 }
 
 pub struct Run<'a> {
-    feed: &'a Feed,
-    canvas: &'a Canvas,
-    covered: &'a mut Covered,
-    memory: Memory,
+    pub feed: &'a Feed,
+    pub canvas: &'a Canvas,
+    pub covered: &'a mut Covered,
+    pub memory: Memory,
+    /// The memory as it was lent, where it is small.
+    pub lent: Option<Memory>,
     rows: Vec<u8>,
     out: Vec<u8>,
-    shadow: Shadow,
-    rust: Decoder,
+    pub shadow: Shadow,
+    pub rust: Decoder,
     /// Broken loops that this decoder met.
-    splits: u64,
+    pub splits: u64,
     mfus: Vec<Mfu>,
     /// Someone else wrote to the session: it is no longer what the Rust has.
-    written: bool,
+    pub written: bool,
 }
-
-/// Small enough to be copied around each look.
-const SMALL: usize = 1 << 16;
 
 fn lent(feed: &Feed) -> Memory {
     let mut r = Random::new(feed.fill.unwrap_or(0));
@@ -82,6 +81,7 @@ impl<'a> Run<'a> {
         let mut run = Run {
             feed, canvas, covered,
             memory: lent(feed),
+            lent: feed.fill.map(|_| lent(feed)),
             rows: canvas.0[..feed.rows].to_vec(),
             out: canvas.0[..feed.out].to_vec(),
             shadow: Shadow::default(),
@@ -96,48 +96,6 @@ impl<'a> Run<'a> {
         run.opening(&feed.limits);
         run.rust.set_pass_scrambled(feed.limits.pass_scrambled);
         run
-    }
-
-    /// Some openings with limits at their bounds, of which most are turned down.
-    fn openings(&mut self, r: &mut Random) {
-        const BOUNDS: [u64; 7] = [64, 32, 512, 1 << 24, 1 << 20, 65_539, u32::MAX as u64];
-        for _ in 0..3 {
-            let mut words = self.feed.limits.words();
-            let i = r.below(7);
-            words[i] = r.pick(&[0, 1, words[i] + 1, BOUNDS[i], BOUNDS[i] + 1, u64::MAX]);
-            let [media_ids, control_ids, sections, mfu_area, message_area, table_area, packets, _] = words;
-            let limits =
-                Limits { media_ids, control_ids, sections, mfu_area, message_area, table_area, packets, ..self.feed.limits };
-            self.opening(&limits);
-        }
-    }
-
-    fn opening(&mut self, l: &Limits) {
-        let (number, before) = (questions::opening(l, &self.memory), self.memory.state.clone());
-        let others = self.memory.others.clone();
-        same(|| format!("isdb_open {l:?}"), &self.memory.open(&l.words()), &number);
-        self.needed(l, number);
-        self.covered.openings[usize::from(number)] += 1;
-        if number != 0 {
-            return same(|| "an opening that is turned down writes".into(), &(&self.memory.state, &self.memory.others), &(&before, &others));
-        }
-        let mut state: Vec<u8> = l.words()[..7].iter().flat_map(|x| x.to_be_bytes()).collect();
-        state.push(l.pass_scrambled.into());
-        state.resize(STATE_BYTES, 0);
-        state.extend(&before[STATE_BYTES..]);
-        same(|| "the state after an opening".into(), &self.memory.state, &state);
-        same(|| "the counts after an opening".into(), &self.memory.others[..], &[0; 256]);
-    }
-
-    /// The lengths that limits need, or the number of limits that no memory would do for.
-    fn needed(&self, l: &Limits, opened: u8) {
-        let told = calls::needed(&l.words()).map(|v| [v[0], v[1], v[2], v[3]]);
-        let expected = match opened {
-            1 | 2 | 4 => Err(opened),
-            3 if l.packets == 0 || l.packets > u32::MAX.into() => Err(4),
-            _ => l.areas().map(|a| [STATE_BYTES as u64, a[0], a[1], a[2]]).ok_or(0),
-        };
-        same(|| format!("isdb_needed {l:?}"), &told, &expected);
     }
 
     pub fn step(&mut self, step: &Step) {
@@ -261,70 +219,11 @@ impl<'a> Run<'a> {
         }
     }
 
-    fn look(&mut self) {
-        let m = &self.memory;
-        let small = m.state.len() + m.objects.len() + m.messages.len() + m.tables.len() < SMALL;
-        let before = small.then(|| m.clone());
-        self.covered.looks += 1;
-        match (self.written, questions::holds_session(&self.memory)) {
-            (false, true) => self.compare_all(),
-            (false, false) => differ("calls alone made question 5 fail".into()),
-            (true, true) => self.compare_written(),
-            (true, false) => self.compare_refusals(),
-        }
-        if before.is_some_and(|b| b != self.memory) {
-            differ("a reading wrote to the session".into());
-        }
-    }
-
-    fn compare_all(&mut self) {
-        let m = &self.memory;
-        let (here, (bytes, joined)) = (seen::by_readings(m), seen::by_bytes(m));
-        let (rust, rust_joined) = seen::of_rust(&self.rust, self.splits);
-        here.held_against("by the readings", &rust);
-        bytes.held_against("by the session's bytes", &rust);
-        same(|| "messages being joined".into(), &joined, &rust_joined);
-        same(|| "the session's bytes and the shadow".into(), &Shadow::of(m), &self.shadow);
-        self.compare_counts();
-        if let Some(t) = self.rust.ntp {
-            same(|| format!("the Unix time of {t:016x}"), &calls::ntp_to_unix(t), &ntp_to_unix(t).to_bits());
-        }
-        self.covered.walked += kept::compare(m, &self.shadow, &self.rust);
-        self.covered.assets += kept::compare_assets(m, &self.shadow, &self.rust);
-    }
-
-    /// Tables that are only counted: all 256 as they are lent, and by the reading those that came and some that did not.
-    fn compare_counts(&self) {
-        let rust: Vec<u64> = (0..=255).map(|id| self.rust.other_tables.get(&id).copied().unwrap_or(0)).collect();
-        same(|| "counts of other tables".into(), &self.memory.others[..], &rust[..]);
-        let turn = (self.covered.looks % 32) as usize;
-        for id in (0..256).filter(|id| id % 32 == turn || rust[*id] > 0) {
-            let told = self.memory.table_count(id as u8).map(|v| v[0]);
-            same(|| format!("isdb_table_count {id}"), &told, &Ok(rust[id]));
-        }
-    }
-
-    fn compare_written(&mut self) {
-        let (here, (bytes, _)) = (seen::by_readings(&self.memory), seen::by_bytes(&self.memory));
-        here.held_against("by the readings and, as the Rust's, by the session's bytes", &bytes);
-        kept::compare_written(&self.memory, &Shadow::of(&self.memory));
-    }
-
     fn end(&mut self) {
         self.covered.feeds += 1;
         if !self.written {
             self.covered.ends(&seen::of_rust(&self.rust, self.splits).0);
         }
-    }
-
-    /// Every reading answers 5.
-    fn compare_refusals(&mut self) {
-        let m = &self.memory;
-        let told = [
-            m.counters(), m.time(), m.table_count(7), m.next_media(0), m.next_control(0), m.next_key(0, u32::MAX), m.media(0xF100),
-            m.held(0xF100), m.control(0), m.section(0x8B01_9100), m.mpt(0), m.plt(), m.tot(), m.asset_of(0xF100),
-        ];
-        same(|| "readings of what is no session".into(), &told, &[Err(5); 14]);
     }
 }
 

@@ -61,14 +61,14 @@ pub fn all<T>(at: usize, n: usize, walk: impl Fn(usize) -> Said, each: impl Fn(&
     found
 }
 
-fn ipv4(high: u64, low: u64) -> [u8; 4] {
+pub fn ipv4(high: u64, low: u64) -> [u8; 4] {
     if high != 0 {
         differ(format!("an IPv4 address has the high half {high}"));
     }
     narrow::<u32>(low).to_be_bytes()
 }
 
-fn ipv6(high: u64, low: u64) -> [u8; 16] {
+pub fn ipv6(high: u64, low: u64) -> [u8; 16] {
     (u128::from(high) << 64 | u128::from(low)).to_be_bytes()
 }
 

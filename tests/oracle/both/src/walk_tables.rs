@@ -1,7 +1,7 @@
 //! Kept tables by the library's walks over their bytes, as the Rust's own values, and each held against the one that the Rust keeps.
 use crate::calls::{self, Numbers, Said};
 use crate::differ::{differ, same};
-use crate::walk_descriptors::{all, descriptors, flag, location, maybe, must, narrow, part, tlv_descriptors};
+use crate::walk_descriptors::{all, descriptors, flag, ipv4, ipv6, location, maybe, must, narrow, part, tlv_descriptors};
 use isdb_mmt::table::*;
 use isdb_si::time::{BcdDuration, MjdTime};
 
@@ -154,9 +154,7 @@ pub fn nit(section: &[u8]) -> Nit {
 pub fn amt(section: &[u8]) -> Amt {
     let v = must("isdb_amt_parse", calls::amt_parse(section));
     let (header, body) = header(section, &v);
-    let address = |six: u64, high: u64, low: u64| {
-        if flag(six) { (u128::from(high) << 64 | u128::from(low)).to_be_bytes().to_vec() } else { narrow::<u32>(low).to_be_bytes().to_vec() }
-    };
+    let address = |six: u64, high: u64, low: u64| if flag(six) { ipv6(high, low).to_vec() } else { ipv4(high, low).to_vec() };
     let one = |s: &Numbers| AmtService {
         service_id: narrow(s[0]),
         src: (address(s[1], s[2], s[3]), narrow(s[4])),

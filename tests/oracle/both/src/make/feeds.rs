@@ -37,7 +37,7 @@ impl Maker {
         Style {
             media,
             messages: (95 - media) * self.r.pick(&[1, 2, 3]) / 3,
-            lost: self.r.pick(&[5, 15, 60]),
+            lost: self.r.pick(&[8, 25, 80]),
             extended: self.r.pick(&[2, 5, 20]),
             damaged: self.r.pick(&[6, 20, 1000]),
             unit: if self.r.once_in(20) { 4000 } else { self.r.pick(&[3, 20, 60]) },
@@ -150,7 +150,7 @@ impl Maker {
         for i in 0..n {
             let (kind, b) = self.packet(style, &mut senders);
             steps.push(Step::Packet(kind, b));
-            if self.r.once_in(50) {
+            if self.r.once_in(25) {
                 steps.push(Step::Look);
             }
             if spoilt.is_some_and(|at| i >= at && i < at + 6) {

@@ -29,7 +29,7 @@ impl Maker {
             return self.unit(timed, most);
         }
         let mut b = Vec::new();
-        for _ in 0..self.r.pick(&[0, 1, 1, 2, 2, 3, 4]) {
+        for _ in 0..self.r.pick(&[0, 1, 1, 1, 1, 2, 2, 2, 2, 3, 3, 4, 4]) {
             let u = self.unit(timed, most);
             b.extend(self.counted(2, &u));
         }
@@ -63,12 +63,12 @@ impl Maker {
         let kind = if self.r.once_in(14) { self.r.below(16) as u8 } else { 2 };
         let mut b = vec![kind << 4 | u8::from(timed) << 3 | part << 1 | u8::from(aggregated), self.r.byte()];
         b.extend(be(s.mpu.into(), 4));
-        if self.r.once_in(30) {
+        if self.r.once_in(60) {
             b.truncate(self.r.below(7));
         } else {
             b.extend(self.units(timed, aggregated, most));
         }
-        let declared = match self.r.below(40) {
+        let declared = match self.r.below(60) {
             0 => b.len() + 1,
             1 => b.len().saturating_sub(1),
             2 => self.r.below(b.len() + 1),
