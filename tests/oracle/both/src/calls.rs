@@ -128,7 +128,7 @@ unsafe extern "C" {
         rows_len: usize, out: *mut u8, out_len: usize, v: *mut u64,
     ) -> u8;
     fn isdb_crc32(b: *const u8, b_len: usize) -> u32;
-    fn isdb_ntp_to_unix(t: u64) -> u64;
+    fn isdb_ntp_to_unix(t: u64) -> f64;
 }
 
 pub fn needed(limits: &[u64; 8]) -> Said {
@@ -144,7 +144,7 @@ pub fn crc32(b: &[u8]) -> u32 {
 /// The bits of the Unix time.
 pub fn ntp_to_unix(t: u64) -> u64 {
     // SAFETY: takes and gives a number.
-    unsafe { isdb_ntp_to_unix(t) }
+    unsafe { isdb_ntp_to_unix(t) }.to_bits()
 }
 
 impl Memory {
