@@ -86,8 +86,7 @@ fn list(
     let mut text = [0u8; 65536];
     let n = dump_session::session_lines(state, others, objects, messages, tables, &mut text, 0);
     say(bytes::part(&text, 0, n));
-    let m = kept::kept_lines(state, others, objects, messages, tables, &mut text);
-    say(bytes::part(&text, 0, m));
+    kept::say_all(state, others, objects, messages, tables);
 }
 
 // Pushes the packet that stands at a place, and answers the place behind it; where none stands, the end.

@@ -3,6 +3,7 @@
 //!     both compare SEED PACKETS    compares feeds up to so many packets; at a difference prints the smallest input found, and ends with 1
 //!     both feed SEED NUMBER        prints a feed of that seed, and what it comes to
 //!     both large                   the largest objects and messages
+//!     both list SEED BYTES         feeds of that seed as the list that the program `replay` takes, at most so many bytes
 mod apart;
 mod calls;
 mod compare;
@@ -13,6 +14,7 @@ mod feed;
 mod kept;
 mod large;
 mod layout;
+mod list;
 mod looks;
 mod make;
 mod openings;
@@ -102,8 +104,12 @@ fn main() -> ExitCode {
         (Some("compare"), Some(seed), Some(packets)) => compare(seed, packets),
         (Some("feed"), Some(seed), Some(n)) => show(seed, n),
         (Some("large"), None, None) => large(),
+        (Some("list"), Some(seed), Some(most)) => {
+            list::write((0..).map(|n| feed_of(seed, n)), most as usize).unwrap();
+            ExitCode::SUCCESS
+        }
         _ => {
-            println!("usage: both compare SEED PACKETS | feed SEED NUMBER | large");
+            println!("usage: both compare SEED PACKETS | feed SEED NUMBER | large | list SEED BYTES");
             ExitCode::from(2)
         }
     }

@@ -1,14 +1,12 @@
-use lib.ListN.{length}
-use mathlib.Core.Path.{_≡_}
 use borrow.Author.Needs.{needs}
 use Rattle.replay.proofs.kept.mpts.Statement.{statement}
 use Rattle.replay.proofs.kept.mpts.Tie as tie
 
 abbrev Inv-loop : tie.InvT-loop
-Inv-loop state others objects messages tables text₀ at p₀ from₀ left₀ t14 text p from left = length text ≡ length text₀
+Inv-loop state others objects messages tables from₀ left₀ t11 from left = Unit {0}
 
 abbrev μ-loop : tie.MeasureT-loop
-μ-loop state others objects messages tables text₀ at p₀ from₀ left₀ t14 text p from left = left
+μ-loop state others objects messages tables from₀ left₀ t11 from left = left
 
 pub mpts-spec : {M : Type 1} → statement M
 mpts-spec =
@@ -23,9 +21,6 @@ mpts-spec =
     (λ c. search needs)
     (λ c κs. search needs)
     (λ c κs. search needs)
-    (λ c. search needs)
-    (λ c. search needs)
-    (λ c. search needs)
     (λ c. search needs)
     (λ c. search needs)
     (λ c. search needs)
