@@ -1,15 +1,27 @@
 //! Stand-in for what the TLV files use of isdb-ts.
 pub mod crc {
-    /// CRC-32 of ISO/IEC 13818-1, bit by bit.
-    pub fn crc32(data: &[u8]) -> u32 {
-        let mut z = 0xFFFF_FFFFu32;
-        for &b in data {
-            z ^= u32::from(b) << 24;
-            for _ in 0..8 {
-                z = if z >> 31 == 1 { (z << 1) ^ 0x04C1_1DB7 } else { z << 1 };
-            }
+    /// The register after one byte, bit by bit.
+    const fn after(byte: u8) -> u32 {
+        let (mut z, mut i) = ((byte as u32) << 24, 0);
+        while i < 8 {
+            z = if z >> 31 == 1 { (z << 1) ^ 0x04C1_1DB7 } else { z << 1 };
+            i += 1;
         }
         z
+    }
+
+    const TABLE: [u32; 256] = {
+        let (mut t, mut i) = ([0; 256], 0);
+        while i < 256 {
+            t[i] = after(i as u8);
+            i += 1;
+        }
+        t
+    };
+
+    /// CRC-32 of ISO/IEC 13818-1.
+    pub fn crc32(data: &[u8]) -> u32 {
+        data.iter().fold(0xFFFF_FFFF, |z, &b| z << 8 ^ TABLE[(z >> 24) as usize ^ usize::from(b)])
     }
 }
 

@@ -1,4 +1,7 @@
 //! What the programs here say of a decoder.
+pub mod kept;
+pub mod session;
+
 use isdb_mmt::decoder::Decoder;
 use isdb_mmt::mpu::AssetStats;
 

@@ -2,20 +2,12 @@
 //! `KIND HEX` up to a line `--`. For each it writes the numbers that tests/oracle/feeds compares, `|`, and the keys that are kept,
 //! with the version and the bytes of each behind another `|`; behind a last one, for some packet ids, the asset that each carries: the
 //! id, then 0, or 1, the service id and 1 or 0 for none, the asset's type, the length of its id and the id.
-//!
-//! The decoder keeps tables parsed. Their bytes are found among those that the feed carries, and must parse to what is kept.
 use isdb_mmt::decoder::Decoder;
-use isdb_mmt::message::{Messages, TableBytes};
 use isdb_mmt::mpu::{AssetStats, Mfu, MfuHeader};
-use isdb_mmt::table::{Amt, Bit, Eit, Mpt, Nit, Plt, Sdt, SectionError, Tot};
-use isdb_tlv::ip::{compressed, ipv4, ipv6};
-use isdb_tlv::mmtp::{self, PayloadType};
 use isdb_tlv::tlv::{Packet, PacketType};
+use push::kept::{Carried, version};
 use push::{counters, counts};
-use std::collections::BTreeMap;
 use std::io::Read;
-
-type Key = (u8, u16, u8);
 
 fn packet(line: &str) -> Packet {
     let (kind, hex) = line.split_once(' ').unwrap();
@@ -25,100 +17,9 @@ fn packet(line: &str) -> Packet {
     }
 }
 
-/// The tables that a feed carries, in order: of messages, and the sections of control signals.
-#[derive(Default)]
-struct Carried {
-    messages: Messages,
-    numbers: BTreeMap<u16, u32>,
-    tables: Vec<TableBytes>,
-    sections: Vec<Vec<u8>>,
-}
-
-impl Carried {
-    fn push(&mut self, p: &Packet) {
-        let datagram = match p.kind {
-            PacketType::Ipv4 => ipv4(&p.data),
-            PacketType::Ipv6 => ipv6(&p.data),
-            PacketType::Compressed => compressed(&p.data),
-            PacketType::Control => return self.sections.extend(isdb_tlv::si::sections(&p.data).into_iter().map(|s| s.bytes.to_vec())),
-            _ => return,
-        };
-        let Ok(d) = datagram else { return };
-        if d.flow.as_ref().is_some_and(|f| f.dport == 123) {
-            return;
-        }
-        if let Some((h, payload)) = mmtp::parse(&d.payload)
-            && h.payload_type == PayloadType::Messages
-        {
-            let last = self.numbers.insert(h.packet_id, h.sequence);
-            let gap = last.is_some_and(|l| h.sequence != l.wrapping_add(1));
-            self.messages.push(h.packet_id, payload, gap, &mut self.tables);
-        }
-    }
-
-    fn of_messages(&self) -> Vec<&[u8]> {
-        self.tables.iter().map(|t| &t.bytes[..]).collect()
-    }
-
-    fn of_signals(&self) -> Vec<&[u8]> {
-        self.sections.iter().map(|s| &s[..]).collect()
-    }
-
-    fn of_line(&self, id: u16) -> Vec<&[u8]> {
-        self.tables.iter().filter(|t| t.packet_id == id).map(|t| &t.bytes[..]).collect()
-    }
-}
-
-fn declared_section(b: &[u8]) -> &[u8] {
-    &b[..3 + (usize::from(b[1] & 15) << 8 | usize::from(b[2]))]
-}
-
-fn declared_table(b: &[u8]) -> &[u8] {
-    &b[..4 + (usize::from(b[2]) << 8 | usize::from(b[3]))]
-}
-
 /// Bytes behind their length; 0 and nothing where there are none, else the length is 1 more.
 fn spelt(b: Option<&[u8]>) -> Vec<u64> {
     b.map_or(vec![0], |b| std::iter::once(1 + b.len() as u64).chain(b.iter().map(|&x| x.into())).collect())
-}
-
-/// The declared bytes of the last table with one of the ids that parses, which must be what is kept.
-fn latest<T: PartialEq>(
-    of: &[&[u8]],
-    ids: std::ops::RangeInclusive<u8>,
-    declared: impl Fn(&[u8]) -> &[u8],
-    parse: impl Fn(&[u8]) -> Option<T>,
-    kept: Option<&T>,
-) -> Vec<u64> {
-    let last = of.iter().rfind(|b| b.first().is_some_and(|id| ids.contains(id)) && parse(b).is_some());
-    let bytes = last.map(|b| declared(b));
-    assert!(bytes.and_then(&parse).as_ref() == kept, "what is kept is not what {bytes:02x?} parse to");
-    spelt(bytes)
-}
-
-/// For each key the version and the declared bytes of the first section in the last run of equal version among those that parse,
-/// which must be what is kept.
-fn sections<T: PartialEq>(
-    of: &[&[u8]],
-    parse: impl Fn(&[u8]) -> Result<T, SectionError>,
-    kept: &BTreeMap<Key, T>,
-) -> Vec<(u64, Vec<u64>)> {
-    let version = |b: &[u8]| b[5] >> 1 & 31;
-    let one = |(key, value): (&Key, &T)| {
-        let named = |b: &&[u8]| b.len() > 6 && (b[0], u16::from_be_bytes([b[3], b[4]]), b[6]) == *key;
-        let mut first: Option<&[u8]> = None;
-        for b in of.iter().copied().filter(named).filter(|b| parse(b).is_ok()) {
-            if first.is_none_or(|f| version(f) != version(b)) {
-                first = Some(b);
-            }
-        }
-        let bytes = declared_section(first.unwrap());
-        assert!(parse(bytes).as_ref() == Ok(value), "what is kept for {key:?} is not what {bytes:02x?} parse to");
-        let mut all = vec![version(bytes).into()];
-        all.extend(spelt(Some(bytes)));
-        (u64::from(key.0) << 24 | u64::from(key.1) << 8 | u64::from(key.2), all)
-    };
-    kept.iter().map(one).collect()
 }
 
 fn asset(s: &AssetStats) -> Vec<u64> {
@@ -162,6 +63,13 @@ fn carried_assets(d: &Decoder) -> Vec<u64> {
     ids.into_iter().flat_map(one).collect()
 }
 
+/// A section's version and its bytes.
+fn section((_, b): &(u32, &[u8])) -> Vec<u64> {
+    let mut all = vec![version(b).into()];
+    all.extend(spelt(Some(b)));
+    all
+}
+
 fn words(v: impl Iterator<Item = u64>) -> String {
     v.map(|x| x.to_string()).collect::<Vec<_>>().join(" ")
 }
@@ -182,20 +90,15 @@ fn answer(feed: &str) -> String {
     v.push(out.len() as u64);
     v.extend(out.iter().flat_map(record));
     v.push(d.ntp.map_or(0, |t| t + 1));
-    let (messages, signals) = (carried.of_messages(), carried.of_signals());
-    v.extend(latest(&messages, 0x80..=0x80, declared_table, Plt::parse, d.plt.as_ref()));
-    v.extend(latest(&messages, 0xA1..=0xA1, declared_section, |b| Tot::parse(b).ok(), d.tot.as_ref()));
+    v.extend(spelt(carried.plt(&d)));
+    v.extend(spelt(carried.tot(&d)));
     for id in [0, 0x8001] {
-        v.extend(latest(&carried.of_line(id), 0x11..=0x20, declared_table, Mpt::parse, d.mpts.get(&id)));
+        v.extend(spelt(carried.mpt(&d, id)));
     }
-    let mut keys = sections(&messages, Eit::parse, &d.eits);
-    keys.extend(sections(&messages, Sdt::parse, &d.sdts));
-    keys.extend(sections(&messages, Bit::parse, &d.bits));
-    keys.extend(sections(&signals, Nit::parse, &d.nits));
-    keys.extend(sections(&signals, Amt::parse, &d.amts));
+    let keys = carried.sections(&d);
     v.extend([keys.len() as u64, d.other_tables.values().sum()]);
     v.extend([0, 0x10, 0x21, 0x81, 0xA2, 0xC0].map(|id| d.other_tables.get(&id).copied().unwrap_or(0)));
-    let (of, bytes) = (words(keys.iter().map(|k| k.0)), words(keys.iter().flat_map(|k| k.1.clone())));
+    let (of, bytes) = (words(keys.iter().map(|k| k.0.into())), words(keys.iter().flat_map(section)));
     format!("{}|{of}|{bytes}|{}", words(v.into_iter()), words(carried_assets(&d).into_iter()))
 }
 
