@@ -1,14 +1,18 @@
-//! A smaller feed with some difference: steps are taken away, then packets are cut and their bytes made 0, within a fixed budget.
+//! A smaller feed with some difference: steps are taken away, then packets are cut and their bytes made 0, within a fixed budget
+//! of runs and time.
 use crate::compare::{Canvas, run};
 use crate::covered::Covered;
 use crate::differ::caught;
 use crate::feed::{Feed, Step};
+use std::time::{Duration, Instant};
 
 const RUNS: usize = 6000;
+const TIME: Duration = Duration::from_secs(60);
 
 struct Shrinker<'a> {
     canvas: &'a Canvas,
     left: usize,
+    began: Instant,
     best: Feed,
     told: String,
 }
@@ -16,7 +20,7 @@ struct Shrinker<'a> {
 impl Shrinker<'_> {
     /// Takes a feed over where it still differs.
     fn try_one(&mut self, feed: Feed) -> bool {
-        if self.left == 0 {
+        if self.left == 0 || self.began.elapsed() > TIME {
             return false;
         }
         self.left -= 1;
@@ -95,7 +99,7 @@ impl Shrinker<'_> {
 
 /// The smallest feed found, and its difference.
 pub fn shrink(feed: &Feed, told: String, canvas: &Canvas) -> (Feed, String) {
-    let mut s = Shrinker { canvas, left: RUNS, best: feed.clone(), told };
+    let mut s = Shrinker { canvas, left: RUNS, began: Instant::now(), best: feed.clone(), told };
     // with a look behind each step the difference may come sooner, or not at all where a look was needed just there
     s.try_one(feed.clone());
     loop {

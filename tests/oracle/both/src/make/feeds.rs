@@ -42,7 +42,7 @@ impl Maker {
             damaged: self.r.pick(&[6, 20, 1000]),
             unit: if self.r.once_in(20) { 4000 } else { self.r.pick(&[3, 20, 60]) },
             big: self.r.once_in(150),
-            spoilt: self.r.once_in(12),
+            spoilt: self.r.once_in(8),
         }
     }
 

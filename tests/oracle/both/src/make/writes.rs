@@ -53,10 +53,10 @@ impl Maker {
     }
 
     fn control_place(&mut self, l: &Limits) -> (usize, Vec<u8>) {
-        let (at, b) = match self.r.below(4) {
-            0 => (0, be(self.r.pick(&[0, 0x8001, 0xF100, 0x1_0000]), 4)),
-            1 => (self.r.pick(&[4, 9, 10, 11, 16]), self.a_flag()),
-            2 => (12, self.bound(l.message_area)),
+        let (at, b) = match self.r.below(6) {
+            0 | 1 => (0, be(self.r.pick(&[0, 0x8001, 0xF100, 0x1_0000]), 4)),
+            2 => (self.r.pick(&[4, 9, 10, 11, 16]), self.a_flag()),
+            3 => (12, self.bound(l.message_area)),
             _ => (17, self.bound(l.table_area)),
         };
         (CONTROL + CONTROL_SIZE * self.r.below(3) + at, b)
@@ -81,9 +81,9 @@ impl Maker {
     /// A write into a session with these limits.
     pub fn write(&mut self, l: &Limits) -> Step {
         let (at, b) = match self.r.below(17) {
-            0..4 => self.head(l),
-            4..7 => self.media_place(l),
-            7..9 => self.control_place(l),
+            0..3 => self.head(l),
+            3..6 => self.media_place(l),
+            6..9 => self.control_place(l),
             9..11 => self.section_place(l),
             11 => (self.r.below(8600), self.word(1)),
             12 => return Step::Write(Area::Others, self.r.below(256), be(self.r.pick(&COUNTS), 8)),
