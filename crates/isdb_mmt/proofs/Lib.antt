@@ -17,6 +17,11 @@ pub mod Units
 pub mod AggregatedMessages
 pub mod StdB60Tables
 pub mod StdB60Short
+pub mod StdB60Mpu
+pub mod StdB60Objects
+pub mod StdB60Messages
+pub mod StdB60MessageIds
+pub mod StdB60Kept
 pub mod Steps
 pub mod Walks
 pub mod SectionWalks

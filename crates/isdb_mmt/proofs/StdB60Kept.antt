@@ -1,0 +1,163 @@
+-- Tables that a sender which conforms to ARIB STD-B60 puts into messages are taken by the model in turn, and an MPT is kept. Assumes
+-- nothing.
+use Prim.Native.Nat.{ℕ, _+_, _^_, _≤_, _<_}
+use mathlib.Core.Path.{_≡_, refl, sym, ap, subst, _∙_}
+use mathlib.Core.Bool.{true, false}
+use mathlib.Core.List.{List, [], _∷_, _++_, map}
+use mathlib.Core.Option.{Option, none, some}
+use native.Mathlib.Nat.{add-zero, add-assoc}
+use native.Mathlib.Omega.{arith}
+use lib.Dec.{ltb, leb, eqb}
+use lib.ListN.{length, getD, take}
+use borrow.Author.Tests.{le-ltb, le-leb, ne-eqb, ltb-false, leb-true, eq-eqb}
+use Rattle.isdb_tlv.specs.Bytes.{be}
+use Rattle.isdb_tlv.specs.Fields.{written, Fit}
+use Rattle.isdb_tlv.proofs.Guards.{cond-elim}
+use Rattle.isdb_mmt.specs.Decoder.Maps.{find, put, orElse, one}
+use Rattle.isdb_mmt.specs.Decoder.Packet.{Bytes, MessagePacket, messagePacket, message}
+use Rattle.isdb_mmt.specs.Decoder.Reassembly.{Reassembly, short, reassemblyAfter, messageCompleted, orphan, oversize, cutOfAll}
+use Rattle.isdb_mmt.specs.Decoder.Kept.{Table, KeptTables, tableById, tableRead, longTable, mptTable, mptAfter, mptAfterAll, stored, storedAll, tableCounted, tableIncrements, countedAll}
+use Rattle.isdb_mmt.specs.Decoder.GivenTables.{tablesGiven}
+use Rattle.isdb_mmt.specs.Decoder.Model.{State, Control, controlOf, reassemblyOf, packetCounted, messageCounted, reassemblyCounted, pushed}
+use Rattle.isdb_mmt.specs.Books.Demand.{pushAll}
+use Rattle.isdb_mmt.specs.Standards.StdB60Sections.{All}
+use Rattle.isdb_mmt.specs.Standards.StdB60Tables.{tableHead, SentMpt, mptRest, mptSent, MptConforming}
+use Rattle.isdb_mmt.specs.declared.decoder.counts.Counters.{Counters}
+use Rattle.isdb_mmt.proofs.Maps.{find-put}
+use Rattle.isdb_mmt.proofs.BytesAt.{FoundAt, located-first, field-read}
+use Rattle.isdb_mmt.proofs.StdB60Tables.{Headed, headed, mpt}
+use Rattle.isdb_mmt.specs.Standards.StdB60Messages.{SentContent, contentTables, SentControl, controlSent, SentPart, SentDivided, restSent, dividedSent, numberBehind, joinedBy}
+use Rattle.isdb_mmt.specs.Standards.StdB60Kept.{stateAfter, ContentPushed, IsMptId, NoMpt, LastMpt, UndividedPushed, DividedPushed, MptRecognized, MptKept}
+use Rattle.isdb_mmt.proofs.StdB60Messages.{controls, divided}
+
+-- an MPT is told from its bytes
+pub mpt-recognized : MptRecognized
+unfolding tableRead tableById mptSent
+mpt-recognized t c is =
+    let r = mptRest t in
+    let fs = tableHead (t .tableId) (t .version) (length r) in
+    let s = mptSent t in
+    let h = headed (t .tableId) (t .version) r (c .tableId) (c .version) (c .short) in
+    let long = h .long in
+    let fit : Fit fs = omega arith in
+    let size : be 2 s 2 ≡ length r = field-read fs fit (located-first (written fs) r) 2 in
+    rw (ne-eqb (length s) 0 (λ e. omega arith), h .id, le-ltb (t .tableId) 0x11 (is .0), le-leb (t .tableId) 0x20 (is .1))
+    (rw (mpt t c .table, size, h .whole))
+
+-- another table leaves the MPT as it is
+module _ (m : Option Bytes) where
+  abbrev Same : Table → Type 0
+  Same x = mptAfter m x ≡ m
+
+  long-same : (b : Bytes) → Same (longTable b)
+  unfolding mptAfter
+  long-same b = cond-elim Same (ltb (length b) 7) (λ e. refl) (λ e. refl)
+
+  other-same : (b : Bytes) → NoMpt b → Same (tableRead b)
+  unfolding mptAfter tableRead tableById
+  other-same b other =
+      let id = getD b 0 0 in
+      cond-elim Same (eqb (length b) 0) (λ e. refl) (λ e.
+      cond-elim Same (ltb id 0x11) (λ e. refl) (λ low.
+      cond-elim Same (leb id 0x20)
+      (λ high. let l = ltb-false id 0x11 low in let h = leb-true id 0x20 high in let o = other l in absurd (omega arith)) (λ e.
+      cond-elim Same (eqb id 0x80) (λ e. refl) (λ e.
+      cond-elim Same (eqb id 0xA1) (λ e. refl) (λ e.
+      cond-elim Same (ltb id 0x8B) (λ e. refl) (λ e.
+      cond-elim Same (leb id 0x9B) (λ e. long-same b) (λ e.
+      cond-elim Same (eqb id 0x9D) (λ e. long-same b) (λ e.
+      cond-elim Same (eqb id 0x9F) (λ e. long-same b) (λ e.
+      cond-elim Same (eqb id 0xA0) (λ e. long-same b) (λ e. refl))))))))))
+
+others-same : (m : Option Bytes) (bs : List Bytes) → All NoMpt bs → mptAfterAll m (map tableRead bs) ≡ m
+unfolding mptAfterAll
+others-same m [] h = refl
+others-same m (b ∷ bs) h = ap (λ x. mptAfterAll x (map tableRead bs)) (other-same m b (h .0)) ∙ others-same m bs (h .1)
+
+-- tables one behind another
+mpt-behind : (m : Option Bytes) (before bs : List Bytes)
+    → mptAfterAll m (map tableRead (before ++ bs)) ≡ mptAfterAll (mptAfterAll m (map tableRead before)) (map tableRead bs)
+unfolding mptAfterAll
+mpt-behind m [] bs = refl
+mpt-behind m (a ∷ before) bs = mpt-behind (mptAfter m (tableRead a)) before bs
+
+store-behind : (s : KeptTables) (before bs : List Bytes)
+    → storedAll s (map tableRead (before ++ bs)) ≡ storedAll (storedAll s (map tableRead before)) (map tableRead bs)
+unfolding storedAll
+store-behind s [] bs = refl
+store-behind s (a ∷ before) bs = store-behind (stored s (tableRead a)) before bs
+
+pub mpt-kept : MptKept
+unfolding mptAfterAll mptAfter
+mpt-kept t c is x last id xs h s =
+    let b = mptSent t in
+    let m = controlOf id s .mpt in
+    h .mpt s ∙ rw (last .all, mpt-behind m (last .before) (b ∷ last .behind), mpt-recognized t c is)
+    (others-same (some b) (last .behind) (last .others))
+
+-- tables count as nothing of what message.rs counts
+record Untouched (c d : Counters) : Type 0 where
+  orphans : c .«orphan_fragments» ≡ d .«orphan_fragments»
+  oversizes : c .oversize ≡ d .oversize
+  malformed : c .«message_malformed» ≡ d .«message_malformed»
+
+untouched : (m : Option Bytes) (s : KeptTables) (c : Counters) (ts : List Table) → Untouched (countedAll m s c ts) c
+unfolding countedAll tableCounted
+untouched m s c [] = record { orphans = refl; oversizes = refl; malformed = refl }
+untouched m s c (t ∷ ts) =
+    let r = untouched (mptAfter m t) (stored s t) (tableCounted c (tableIncrements m s t)) ts in
+    record { orphans = r .orphans; oversizes = r .oversizes; malformed = r .malformed }
+
+-- what one packet does to its id, of which `k` is known
+abbrev givenBy : Control → MessagePacket → List Bytes
+givenBy k x = cutOfAll (messageCompleted (k .reassembly) x) .tables
+
+abbrev controlAfter : Control → MessagePacket → Control
+controlAfter k x = record { reassembly = reassemblyAfter (k .reassembly) x; mpt = mptAfterAll (k .mpt) (map tableRead (givenBy k x)) }
+
+record Does (s : State) (x : MessagePacket) (id : ℕ) (k : Control) : Type 0 where
+  control : controlOf id (pushed s (message x)) ≡ controlAfter k x
+  store : pushed s (message x) .store ≡ storedAll (s .store) (map tableRead (givenBy k x))
+  orphans : pushed s (message x) .counters .«orphan_fragments» ≡ s .counters .«orphan_fragments» + one (orphan (k .reassembly) x)
+  oversizes : pushed s (message x) .counters .oversize ≡ s .counters .oversize + one (oversize (k .reassembly) x)
+  malformed : pushed s (message x) .counters .«message_malformed»
+      ≡ s .counters .«message_malformed» + (one (short x) + cutOfAll (messageCompleted (k .reassembly) x) .malformed)
+
+one-does : (s : State) (x : MessagePacket) → Does s x (x .id) (controlOf (x .id) s)
+unfolding pushed orElse reassemblyCounted messageCounted packetCounted
+one-does s x =
+    let l = reassemblyOf (x .id) s in
+    let r = untouched (controlOf (x .id) s .mpt) (s .store) (reassemblyCounted (packetCounted (s .counters) 0 0 0) l x) (tablesGiven l x) in
+    record {
+      control = rw find-put;
+      store = refl;
+      orphans = r .orphans;
+      oversizes = r .oversizes;
+      malformed = r .malformed;
+    }
+
+-- packets of one id, pushed in turn, do what they do to what is joined, and give its tables
+record PushedAs (s : State) (id : ℕ) (k : Control) (xs : List MessagePacket) : Type 0 where
+  mpt : controlOf id (stateAfter s xs) .mpt ≡ mptAfterAll (k .mpt) (map tableRead (joinedBy (k .reassembly) xs .tables))
+  store : stateAfter s xs .store ≡ storedAll (s .store) (map tableRead (joinedBy (k .reassembly) xs .tables))
+  orphans : stateAfter s xs .counters .«orphan_fragments» ≡ s .counters .«orphan_fragments» + joinedBy (k .reassembly) xs .orphans
+  oversizes : stateAfter s xs .counters .oversize ≡ s .counters .oversize + joinedBy (k .reassembly) xs .oversizes
+  malformed : stateAfter s xs .counters .«message_malformed» ≡ s .counters .«message_malformed» + joinedBy (k .reassembly) xs .malformed
+
+joined-pushed : (id : ℕ) (xs : List MessagePacket) → All (λ x. x .id ≡ id) xs → (s : State) (k : Control) → controlOf id s ≡ k → PushedAs s id k xs
+unfolding pushAll mptAfterAll storedAll
+joined-pushed id [] h s k d =
+    record { mpt = ap (λ y. y .mpt) d; store = refl; orphans = sym (add-zero _); oversizes = sym (add-zero _); malformed = sym (add-zero _) }
+joined-pushed id (x ∷ xs) h s k d =
+    let c = s .counters in
+    let l = k .reassembly in
+    let rest = joinedBy (reassemblyAfter l x) xs in
+    let e = subst (Does s x id) d (subst (λ i. Does s x i (controlOf i s)) (h .0) (one-does s x)) in
+    let r = joined-pushed id xs (h .1) (pushed s (message x)) (controlAfter k x) (e .control) in
+    record {
+      mpt = r .mpt ∙ sym (mpt-behind (k .mpt) (givenBy k x) (rest .tables));
+      store = r .store ∙ ap (λ y. storedAll y (map tableRead (rest .tables))) (e .store) ∙ sym (store-behind (s .store) (givenBy k x) (rest .tables));
+      orphans = r .orphans ∙ rw (e .orphans) (add-assoc (c .«orphan_fragments») (one (orphan l x)) (rest .orphans));
+      oversizes = r .oversizes ∙ rw (e .oversizes) (add-assoc (c .oversize) (one (oversize l x)) (rest .oversizes));
+      malformed = r .malformed ∙ rw (e .malformed) (add-assoc (c .«message_malformed») (one (short x) + cutOfAll (messageCompleted l x) .malformed) (rest .malformed));
+    }
