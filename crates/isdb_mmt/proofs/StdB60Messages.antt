@@ -378,8 +378,8 @@ divided d c short =
     let tables = contents content (c .content) .tables in
     record {
       joined = λ l.
-      let e = first-does (d .id) content flag l (d .number) first (c .first) in
-      rw (e .whole, e .orphans, e .oversizes, e .shorts, e .after, r, c .whole, tables);
+          let e = first-does (d .id) content flag l (d .number) first (c .first) in
+          rw (e .whole, e .orphans, e .oversizes, e .shorts, e .after, r, c .whole, tables);
     }
 
 -- payloads that conform

@@ -72,7 +72,7 @@ pub record Takes (a : Asset) (m : MpuPacket) (x : UnitEffect) : Type 0 where
   pub malformed : assetAfter a m .stats .malformed ≡ a .stats .malformed
 
 module _ (a : Asset) (m : MpuPacket) (h : PayloadHeader) (u : PayloadUnit) (next : Before (a .number) (m .number))
-  (unscrambled : m .scrambled ≡ false) (headed : m .header ≡ some h) (holds : m .units ≡ some (u ∷ [])) where
+    (unscrambled : m .scrambled ≡ false) (headed : m .header ≡ some h) (holds : m .units ≡ some (u ∷ [])) where
   units-taken : readable m ≡ u ∷ []
   unfolding readable clear
   units-taken = rw (unscrambled, holds)
@@ -310,11 +310,10 @@ module _ (i : ℕ) where
   own-agree (message c) e g = (refl, record { passing = g .passing; asset = g .asset })
   own-agree (control bs) e g = (refl, record { passing = g .passing; asset = g .asset })
   own-agree other e g = (refl, record { passing = g .passing; asset = g .asset })
-  own-agree {s} {t} (media m) e g =
-      (
-        gives-own s m e ∙ rw (g .passing, g .asset) (sym (gives-own t m e)),
-        record { passing = g .passing; asset = asset-own s m e ∙ rw (g .asset) (sym (asset-own t m e)) },
-      )
+  own-agree {s} {t} (media m) e g = (
+    gives-own s m e ∙ rw (g .passing, g .asset) (sym (gives-own t m e)),
+    record { passing = g .passing; asset = asset-own s m e ∙ rw (g .asset) (sym (asset-own t m e)) },
+  )
 
   own-alone : (ps : List Packet) (s t : State) → Agree i s t → Same s t ps (packetsOf i ps)
   unfolding packetsOf giveAll pushAll
