@@ -178,7 +178,7 @@ uint8_t isdb_open(const uint64_t limits[ISDB_LIMITS], uint8_t *state, size_t sta
  * lies beyond them in rows and out keeps its bytes. Codes: 0, 5 to 10. With another code than 0 nothing is changed and nothing handed
  * out, so that the host can pass over the packet, or lend longer rows and out after a 10, and go on. A unit takes at least 6 bytes of a
  * packet, so 10,918 records are the most: with rows of ISDB_MOST_ROWS bytes, and an out of mfu_area or 65,535 bytes, whichever is more,
- * there is no 10. */
+ * there is no 10 (which is reasoned and tried, and not proved, as all else here is). */
 uint8_t isdb_push(uint8_t *state, size_t state_length, uint64_t others[ISDB_OTHERS], uint8_t *objects, size_t objects_length,
                   uint8_t *messages, size_t messages_length, uint8_t *tables, size_t tables_length, uint8_t kind,
                   const uint8_t *data, size_t data_length, uint8_t *rows, size_t rows_length, uint8_t *out, size_t out_length,
