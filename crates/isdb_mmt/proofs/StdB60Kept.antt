@@ -1,9 +1,9 @@
 -- Tables that a sender which conforms to ARIB STD-B60 puts into messages are taken by the model in turn, and an MPT is kept. Assumes
 -- nothing.
-use Prim.Native.Nat.{ℕ, _+_, _^_, _≤_, _<_}
+use Prim.Native.Nat.{ℕ, _+_, _%_, _^_, _≤_, _<_}
 use mathlib.Core.Path.{_≡_, refl, sym, ap, subst, _∙_}
 use mathlib.Core.Bool.{true, false}
-use mathlib.Core.List.{List, [], _∷_, _++_, map}
+use mathlib.Core.List.{List, [], _∷_, _++_, append-nil, map, map-append}
 use mathlib.Core.Option.{Option, none, some}
 use native.Mathlib.Nat.{add-zero, add-assoc}
 use native.Mathlib.Omega.{arith}
@@ -11,7 +11,7 @@ use lib.Dec.{ltb, leb, eqb}
 use lib.ListN.{length, getD, take}
 use borrow.Author.Tests.{le-ltb, le-leb, ne-eqb, ltb-false, leb-true, eq-eqb}
 use Rattle.isdb_tlv.specs.Bytes.{be}
-use Rattle.isdb_tlv.specs.Fields.{written, Fit}
+use Rattle.isdb_tlv.specs.Fields.{bytesOf, written, Fit}
 use Rattle.isdb_tlv.proofs.Guards.{cond-elim}
 use Rattle.isdb_mmt.specs.Decoder.Maps.{find, put, orElse, one}
 use Rattle.isdb_mmt.specs.Decoder.Packet.{Bytes, MessagePacket, messagePacket, message}
@@ -24,10 +24,11 @@ use Rattle.isdb_mmt.specs.Standards.StdB60Sections.{All}
 use Rattle.isdb_mmt.specs.Standards.StdB60Tables.{tableHead, SentMpt, mptRest, mptSent, MptConforming}
 use Rattle.isdb_mmt.specs.declared.decoder.counts.Counters.{Counters}
 use Rattle.isdb_mmt.proofs.Maps.{find-put}
-use Rattle.isdb_mmt.proofs.BytesAt.{FoundAt, located-first, field-read}
+use Rattle.isdb_mmt.proofs.BytesAt.{FoundAt, located-first, field-read, byte-read}
 use Rattle.isdb_mmt.proofs.StdB60Tables.{Headed, headed, mpt}
-use Rattle.isdb_mmt.specs.Standards.StdB60Messages.{SentContent, contentTables, SentControl, controlSent, SentPart, SentDivided, restSent, dividedSent, numberBehind, joinedBy}
-use Rattle.isdb_mmt.specs.Standards.StdB60Kept.{stateAfter, ContentPushed, IsMptId, NoMpt, LastMpt, UndividedPushed, DividedPushed, MptRecognized, MptKept}
+use Rattle.isdb_mmt.specs.Standards.StdB60Messages.{SentTable, tableFields, tableSent, TableConforming}
+use Rattle.isdb_mmt.specs.Standards.StdB60Messages.{SentContent, contentTables, SentControl, controlSent, SentPart, SentDivided, restSent, dividedSent, numberBehind, joinedBy, joinedWhole}
+use Rattle.isdb_mmt.specs.Standards.StdB60Kept.{stateAfter, ContentPushed, IsMptId, NoMpt, LastMpt, mptAsTable, MptInPa, mptInPaSent, MptInPaConforming, MptInPaKept, mptWitness, mptWitnessBytes, MptWitness, UndividedPushed, DividedPushed, MptRecognized, MptKept}
 use Rattle.isdb_mmt.proofs.StdB60Messages.{controls, divided}
 
 -- an MPT is told from its bytes
@@ -161,3 +162,69 @@ joined-pushed id (x ∷ xs) h s k d =
       oversizes = r .oversizes ∙ rw (e .oversizes) (add-assoc (c .oversize) (one (oversize l x)) (rest .oversizes));
       malformed = r .malformed ∙ rw (e .malformed) (add-assoc (c .«message_malformed») (one (short x) + cutOfAll (messageCompleted l x) .malformed) (rest .malformed));
     }
+
+-- a content that is joined whole
+content-pushed : (c : SentContent) (n id : ℕ) (xs : List MessagePacket) → All (λ x. x .id ≡ id) xs
+    → ((l : Reassembly) → joinedBy l xs ≡ joinedWhole c n) → ContentPushed c id xs
+content-pushed c n id xs h joined =
+    let r : (s : State) → PushedAs s id (controlOf id s) xs = λ s. joined-pushed id xs h s (controlOf id s) refl in
+    let j : (s : State) → joinedBy (reassemblyOf id s) xs ≡ joinedWhole c n = λ s. joined (reassemblyOf id s) in
+    record {
+      mpt = λ s. r s .mpt ∙ ap (λ y. mptAfterAll (controlOf id s .mpt) (map tableRead (y .tables))) (j s);
+      store = λ s. r s .store ∙ ap (λ y. storedAll (s .store) (map tableRead (y .tables))) (j s);
+      orphans = λ s. r s .orphans ∙ ap (λ y. s .counters .«orphan_fragments» + y .orphans) (j s) ∙ add-zero _;
+      oversizes = λ s. r s .oversizes ∙ ap (λ y. s .counters .oversize + y .oversizes) (j s) ∙ add-zero _;
+      malformed = λ s. r s .malformed ∙ ap (λ y. s .counters .«message_malformed» + y .malformed) (j s) ∙ add-zero _;
+    }
+
+pub undivided-pushed : UndividedPushed
+undivided-pushed p c id number =
+    content-pushed (p .content) number id (messagePacket id number (controlSent p) ∷ []) (refl, tt) (controls p c .joined id number)
+
+-- the parts have one id
+rest-ids : (id n : ℕ) (c : SentContent) (qs : List SentPart) (p : SentPart) → All (λ x. x .id ≡ id) (restSent id n c qs p)
+rest-ids id n c [] p = (refl, tt)
+rest-ids id n c (q ∷ qs) p = (refl, rest-ids id (numberBehind n) c qs p)
+
+pub divided-pushed : DividedPushed
+divided-pushed d c short =
+    content-pushed (d .content) ((d .number + length (d .middle) + 1) % 2 ^ 32) (d .id) (dividedSent d)
+    (refl, rest-ids (d .id) (numberBehind (d .number)) (d .content) (d .middle) (d .last)) (divided d c short .joined)
+
+-- tables of a PA message
+table-id : (u : SentTable) → TableConforming u → getD (tableSent u) 0 0 ≡ u .id
+table-id u c =
+    let fit : Fit (tableFields u) = omega arith in
+    byte-read (tableFields u) fit (located-first (written (tableFields u)) (u .content)) 0 refl
+
+others-sent : (us : List SentTable) → All TableConforming us → All (λ u. 0x11 ≤ u .id → 0x20 < u .id) us → All NoMpt (map tableSent us)
+others-sent [] c h = tt
+others-sent (u ∷ us) c h = (rw (table-id u (c .0)) (h .0), others-sent us (c .1) (h .1))
+
+all-behind : {A : Type 0} (P : A → Type 0) (a b : List A) → All P (a ++ b) → All P b
+all-behind P [] b h = h
+all-behind P (x ∷ a) b h = all-behind P a b (h .1)
+
+mpt-as-table : (t : SentMpt) (listed : ℕ) → tableSent (mptAsTable t listed) ≡ mptSent t
+unfolding mptSent
+mpt-as-table t listed = refl
+
+pub mpt-in-pa : MptInPaKept
+unfolding pushAll
+mpt-in-pa x c s id number =
+    let p = mptInPaSent x in
+    let t = mptAsTable (x .mpt) (x .listed) in
+    let tables = c .payload .content .carried .tables in
+    let behind = all-behind TableConforming (x .before) (t ∷ x .behind) tables .1 in
+    let last : LastMpt (x .mpt) (contentTables (p .content)) =
+    record {
+      before = map tableSent (x .before);
+      behind = map tableSent (x .behind);
+      all = append-nil _ ∙ map-append tableSent (x .before) (t ∷ x .behind) ∙ rw (mpt-as-table (x .mpt) (x .listed));
+      others = others-sent (x .behind) behind (c .others);
+    } in
+    mpt-kept (x .mpt) (c .mpt) (c .id) (p .content) last id (messagePacket id number (controlSent p) ∷ []) (undivided-pushed p (c .payload) id number) s
+
+pub mpt-witness : MptWitness mptWitness mptWitnessBytes
+unfolding controlSent bytesOf
+mpt-witness = record { conforms = omega arith; bytes = refl }

@@ -248,18 +248,50 @@ payload-read d reserved c counter b index fits flag small =
       content = drop-at (written fs) b 2 (length-written fs);
     }
 
+-- what a packet does
+record Does (l : Reassembly) (x : MessagePacket) (o : Option PartialMessage) (l′ : Reassembly) : Type 0 where
+  whole : messageCompleted l x ≡ o
+  orphans : orphan l x ≡ false
+  oversizes : oversize l x ≡ false
+  shorts : short x ≡ false
+  after : reassemblyAfter l x ≡ l′
+
+-- one that makes a message whole
+abbrev joinedAs : PartialMessage → ℕ → Joined
+joinedAs j n =
+    record {
+      messages = j ∷ [];
+      tables = cutOf j .tables;
+      orphans = 0;
+      oversizes = 0;
+      malformed = cutOf j .malformed;
+      left = record { number = some n; partial = none };
+    }
+
+whole-joined : {l : Reassembly} {x : MessagePacket} {j : PartialMessage} {n : ℕ} → Does l x (some j) (record { number = some n; partial = none })
+    → joinedBy l (x ∷ []) ≡ joinedAs j n
+unfolding cutOfAll
+whole-joined e = rw (e .whole, e .orphans, e .oversizes, e .shorts, e .after) (simp (add-zero, zero-add, append-nil))
+
 module _ (p : SentControl) (c : ControlConforming p) where
   pub undivided : Payload (controlSent p) 0 (p .content) (contentSent (p .content))
   unfolding controlSent
   undivided =
       payload-read 0 (p .reserved) (p .content) (p .counter) (contentSent (p .content)) (omega arith) (c .reserved) (c .content .extension) (c .counter)
 
-  undivided-message : (id number : ℕ) (l : Reassembly) → messageCompleted l (messagePacket id number (controlSent p)) ≡ some (contentSeen (p .content))
-  unfolding messageCompleted wholeOf divisionOf
-  undivided-message id number l =
+  undivided-does : (id number : ℕ) (l : Reassembly)
+      → Does l (messagePacket id number (controlSent p)) (some (contentSeen (p .content))) (record { number = some number; partial = none })
+  unfolding messageCompleted wholeOf orphan oversize reassemblyAfter partAfter divisionOf
+  undivided-does id number l =
       let u = undivided in
-      let size = u .long in
-      rw (le-ltb (length (controlSent p)) 2 (omega arith), u .division, u .extended, u .several, u .content)
+      let long = le-ltb (length (controlSent p)) 2 (omega (arith, u .long)) in
+      record {
+        whole = rw (long, u .division, u .extended, u .several, u .content);
+        orphans = rw (long, u .division);
+        oversizes = rw (long, u .division);
+        shorts = long;
+        after = rw (long, u .division);
+      }
 
 pub controls : ControlTheorem
 unfolding divisionOf cutOfAll tablesGiven
@@ -268,9 +300,10 @@ controls p c =
     let tables = contents (p .content) (c .content) .tables in
     record {
       header = rw (u .division, u .extended, u .several);
-      message = undivided-message p c;
-      tables = λ id number l. rw (undivided-message p c id number l) tables;
-      given = λ id number l. rw (undivided-message p c id number l, tables);
+      message = λ id number l. undivided-does p c id number l .whole;
+      tables = λ id number l. rw (undivided-does p c id number l .whole) tables;
+      given = λ id number l. rw (undivided-does p c id number l .whole, tables);
+      joined = λ id number l. whole-joined (undivided-does p c id number l) ∙ rw tables;
     }
 
 -- a divided content
@@ -279,14 +312,6 @@ partialOf c b = record { long = c .extension =? 1; aggregated = aggregationFlag 
 
 abbrev joining : ℕ → SentContent → List ℕ → Reassembly
 joining n c b = record { number = some n; partial = some (partialOf c b) }
-
--- what a packet does
-record Does (l : Reassembly) (x : MessagePacket) (o : Option PartialMessage) (l′ : Reassembly) : Type 0 where
-  whole : messageCompleted l x ≡ o
-  orphans : orphan l x ≡ false
-  oversizes : oversize l x ≡ false
-  shorts : short x ≡ false
-  after : reassemblyAfter l x ≡ l′
 
 module _ (id : ℕ) (c : SentContent) (flag : c .extension < 2) where
   first-does : (l : Reassembly) (n : ℕ) (p : SentPart) → PartConforming p
@@ -338,25 +363,13 @@ module _ (id : ℕ) (c : SentContent) (flag : c .extension < 2) where
           after = rw (long, u .division);
         }
 
-  -- what joins the bytes `b` that are held and the parts that follow
-  abbrev joinedAs : PartialMessage → ℕ → Joined
-  joinedAs j n =
-      record {
-        messages = j ∷ [];
-        tables = cutOf j .tables;
-        orphans = 0;
-        oversizes = 0;
-        malformed = cutOf j .malformed;
-        left = record { number = some n; partial = none };
-      }
-
+  -- the bytes `b` that are held and the parts that follow
   rest-joined : (n : ℕ) (b : List ℕ) (qs : List SentPart) (p : SentPart) → All PartConforming qs → PartConforming p
       → length b + length (restBytes qs p) ≤ 1048576
       → joinedBy (joining n c b) (restSent id (numberBehind n) c qs p) ≡ joinedAs (partialOf c (b ++ restBytes qs p)) ((n + length qs + 1) % 2 ^ 32)
   unfolding cutOfAll
   rest-joined n b [] p hs h room =
-      let e = last-does n b p h room in
-      rw (e .whole, e .orphans, e .oversizes, e .shorts, e .after) (simp (add-zero, zero-add, append-nil))
+      rw (add-zero n) (whole-joined (last-does n b p h room))
   rest-joined n b (q ∷ qs) p hs h room =
       let both = length-append (q .bytes) (restBytes qs p) in
       let e = middle-does n b q (hs .0) (omega arith) in

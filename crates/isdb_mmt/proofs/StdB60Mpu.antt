@@ -1,23 +1,24 @@
 -- What a sender that conforms to ARIB STD-B60 writes of an MPU payload is read right. Assumes nothing.
 use Prim.Native.Nat.{ℕ, _+_, _-_, _*_, _/_, _%_, _^_, _≤_, _<_}
-use mathlib.Core.Path.{_≡_, refl, sym, ap, _∙_}
+use mathlib.Core.Path.{_≡_, refl, _∙_}
 use mathlib.Core.Bool.{Bool, true, false}
 use mathlib.Core.List.{List, [], _∷_, _++_, map, append-assoc, append-nil}
 use mathlib.Core.Option.{Option, none, some}
-use native.Mathlib.Nat.{add-zero, add-sub-cancel-left}
+use native.Mathlib.Nat.{add-sub-cancel-left}
 use native.Mathlib.Omega.{arith}
-use lib.Dec.{leb, eqb}
-use lib.ListN.{length, getD, take, drop, length-append}
+use lib.Dec.{leb}
+use lib.ListN.{length, getD, drop, length-append}
 use lib.Seq.{take-at, drop-at}
-use borrow.Author.Tests.{le-ltb, lt-leb, le-leb, leb-true, leb-false}
+use borrow.Author.Tests.{le-ltb, lt-leb, le-leb, leb-true}
 use Rattle.isdb_tlv.specs.Bytes.{be}
-use Rattle.isdb_tlv.specs.Fields.{bytesOf, Field, field, bits, packed, written, Fit}
+use Rattle.isdb_tlv.specs.Fields.{bytesOf, field, written, Fit}
 use Rattle.isdb_tlv.specs.Guards.{_=?_}
 use Rattle.isdb_tlv.specs.Walk.{also}
 use Rattle.isdb_tlv.proofs.Guards.{either}
 use Rattle.isdb_tlv.proofs.Fields.{be-one, size, fieldAt, offsetOf, length-written}
-use Rattle.isdb_mmt.specs.Formats.Part.{partAt, partOf}
-use Rattle.isdb_mmt.specs.Formats.Mpu.{fragmentType, indicator, payloadHeader, declaredOf, unitIn, unitAt, unitStep, unitsFrom, unitsOf}
+use Rattle.isdb_mmt.specs.Formats.Part.{partAt}
+use Rattle.isdb_mmt.specs.Formats.Mpu.{fragmentType, indicator, payloadHeader, declaredOf}
+use Rattle.isdb_mmt.specs.Formats.Mpu.{unitIn, unitAt, unitStep, unitsFrom, unitsOf}
 use Rattle.isdb_mmt.specs.Decoder.Packet.{payloadUnit, payloadUnits, unitsFor, mediaOf}
 use Rattle.isdb_mmt.specs.Standards.StdB60Sections.{All}
 use Rattle.isdb_mmt.specs.declared.mpu.MaybeHeader.the-variants.{Some as someHeader}
@@ -25,12 +26,15 @@ use Rattle.isdb_mmt.specs.declared.mpu.PayloadHeader.{PayloadHeader}
 use Rattle.isdb_mmt.specs.declared.mpu.Unit.{Unit as DataUnit}
 use Rattle.isdb_mmt.specs.declared.mpu.UnitStep.the-variants.{End, Unit as found}
 use Rattle.isdb_mmt.proofs.Units.{units-at}
-use Rattle.isdb_mmt.proofs.BytesAt.{FoundAt, located-whole, located-first, located-last, located-part, located-within, located-front, located-rest, field-read, first-read}
-use Rattle.isdb_mmt.specs.Standards.StdB60Mpu.{UnitHeader, timedHeader, untimedHeader, unitFields, timedFlag, SentUnit, unitSent, unitWithLength, unitsSent}
-use Rattle.isdb_mmt.specs.Standards.StdB60Mpu.{Body, mpuMetadata, movieFragmentMetadata, oneUnit, aggregated, bodySent, typeCode, aggregationFlag}
+use Rattle.isdb_mmt.proofs.BytesAt.{FoundAt, located-first, located-last, located-part, located-front, located-rest}
+use Rattle.isdb_mmt.proofs.BytesAt.{field-read, first-read}
+use Rattle.isdb_mmt.specs.Standards.StdB60Mpu.{UnitHeader, timedHeader, untimedHeader, unitFields, timedFlag}
+use Rattle.isdb_mmt.specs.Standards.StdB60Mpu.{SentUnit, unitSent, unitWithLength, unitsSent}
+use Rattle.isdb_mmt.specs.Standards.StdB60Mpu.{Body, mpuMetadata, movieFragmentMetadata, oneUnit, aggregated}
+use Rattle.isdb_mmt.specs.Standards.StdB60Mpu.{bodySent, typeCode, aggregationFlag}
 use Rattle.isdb_mmt.specs.Standards.StdB60Mpu.{Division, complete, head, middle, last, divisionCode, SentPayload, headerFields, payloadSent}
-use Rattle.isdb_mmt.specs.Standards.StdB60Mpu.{UnitConforming, BodyConforming, PayloadConforming, typeSeen, divisionSeen, headerSeen, mfuSeen, itemSeen, unitSeen}
-use Rattle.isdb_mmt.specs.Standards.StdB60Mpu.{unitsIn, CutInto, UnitsRead, mediaSeen, PayloadTheorem, Examples}
+use Rattle.isdb_mmt.specs.Standards.StdB60Mpu.{UnitConforming, PayloadConforming, typeSeen, divisionSeen, headerSeen}
+use Rattle.isdb_mmt.specs.Standards.StdB60Mpu.{mfuSeen, itemSeen, unitSeen, unitsIn, UnitsRead, PayloadTheorem, Examples}
 
 -- the codes fit their bits, and name what the sender named
 type-fits : (b : Body) → typeCode b < 2 ^ 4
@@ -83,7 +87,10 @@ module _ (p : SentPayload) (c : PayloadConforming p) (r : List ℕ) where
 
   header-fits : Fit (headerFields p)
   header-fits =
-      omega (arith, type-fits (p .body), division-fits (p .division), aggregation-fits (p .body), c .timed, c .counter, c .mpuSequenceNumber, c .short)
+      let tf = type-fits (p .body) in
+      let df = division-fits (p .division) in
+      let af = aggregation-fits (p .body) in
+      omega (arith, c .timed, c .counter, c .mpuSequenceNumber, c .short)
 
   fields-located : FoundAt s 0 (written (headerFields p))
   unfolding payloadSent
@@ -176,9 +183,11 @@ module _ (h : PayloadHeader) (s : List ℕ) (t a : Bool) where
 
 -- the units of a payload `p`, in bytes `s`
 module _ (p : SentPayload) (s : List ℕ) where
-  unit-view : (u : SentUnit) (at : ℕ) → FoundAt s at (unitSent u) → payloadUnit (headerSeen p) s (unitAtPlace u at) ≡ unitSeen (p .division) u
+  unit-view : (u : SentUnit) (at : ℕ) → FoundAt s at (unitSent u)
+      → payloadUnit (headerSeen p) s (unitAtPlace u at) ≡ unitSeen (p .division) u
   unit-view u at h =
-      rw (located-part (u .content) (located-rest (written (unitFields (u .header))) (u .content) h (length-written (unitFields (u .header)))))
+      let fs = unitFields (u .header) in
+      rw (located-part (u .content) (located-rest (written fs) (u .content) h (length-written fs)))
 
   -- a unit that fills the bytes from `at` to `end`
   unit-read : (u : SentUnit) → UnitConforming (p .timed) u → (at end : ℕ) → at + length (unitSent u) ≡ end → FoundAt s at (unitSent u)
@@ -195,8 +204,8 @@ module _ (p : SentPayload) (s : List ℕ) where
       one-more (headerSeen p) s t false 8 (length s) (unitAtPlace u 8) here
       ∙ rw (unit-view u 8 h, no-more (headerSeen p) s t false long)
 
-  units-read : (us : List SentUnit) → All (UnitConforming (p .timed)) us → (at : ℕ) → 8 ≤ at → 8 < at + length us → FoundAt s at (unitsSent us)
-      → at + length (unitsSent us) ≡ length s → length s < 2 ^ 16 + 2
+  units-read : (us : List SentUnit) → All (UnitConforming (p .timed)) us → (at : ℕ) → 8 ≤ at → 8 < at + length us
+      → FoundAt s at (unitsSent us) → at + length (unitsSent us) ≡ length s → length s < 2 ^ 16 + 2
       → payloadUnits (headerSeen p) s (unitsFrom s (p .timed =? 1) true at) ≡ some (map (unitSeen (p .division)) us)
   unfolding unitAt
   units-read [] c at from any h e short =

@@ -1,41 +1,44 @@
 -- What a sender that conforms to ARIB STD-B60 divides over packets is joined right. Assumes nothing.
-use Prim.Native.Nat.{ℕ, suc, _+_, _%_, _^_, _≤_, _<_}
-use mathlib.Core.Path.{_≡_, refl, sym, ap, _∙_}
-use mathlib.Core.Bool.{Bool, true, false, not, _&&_}
+use Prim.Native.Nat.{ℕ, _+_, _%_, _^_, _≤_}
+use mathlib.Core.Path.{_≡_, refl, sym, _∙_}
+use mathlib.Core.Bool.{Bool, true, false, _&&_}
 use mathlib.Core.List.{List, [], _∷_, _++_, map, append-assoc, append-nil}
 use mathlib.Core.Option.{Option, none, some}
 use native.Mathlib.Nat.{add-zero}
 use native.Mathlib.Omega.{arith}
 use lib.ListN.{length, length-append, length-map}
 use borrow.Author.Tests.{le-leb, lt-leb, eq-eqb}
-use Rattle.isdb_tlv.specs.Guards.{_≤?_, _=?_}
-use Rattle.isdb_tlv.specs.Mmtp.{mmtpOf, payloadType, scrambleInfo}
+use Rattle.isdb_tlv.specs.Guards.{_=?_}
+use Rattle.isdb_tlv.specs.Mmtp.{payloadType, scrambleInfo}
 use Rattle.isdb_tlv.specs.Fields.{bytesOf}
-use Rattle.isdb_tlv.specs.Iso23008.{Mmtp, scramblingOf, headerOf}
-use Rattle.isdb_tlv.specs.Iso23008.{sent as mmtpSent}
+use Rattle.isdb_tlv.specs.Iso23008.{scramblingOf, headerOf, sent as mmtpSent}
 use Rattle.isdb_tlv.specs.declared.mmtp.Scramble.{Scramble}
 use Rattle.isdb_tlv.specs.declared.mmtp.Scramble.the-variants.{Absent, NoByte, Bits}
 use Rattle.isdb_tlv.proofs.Guards.{cond-elim, either}
 use Rattle.isdb_tlv.proofs.Iso23008.{iso23008}
 use Rattle.isdb_mmt.specs.Formats.Mpu.{follows}
-use Rattle.isdb_mmt.specs.Decoder.Packet.{Bytes, PayloadUnit, MpuPacket, Packet, ipError, ntp, nonMmtp, media, message, control, other, clear, readable}
-use Rattle.isdb_mmt.specs.Decoder.Maps.{find, put, orElse, isSome, one}
-use Rattle.isdb_mmt.specs.Decoder.Objects.{Mfu, Asset, fresh, Rec, UnitEffect, gap, lostBy, grown, continued, effectOf, objectOf, unitEffect, afterUnit, afterUnits, deliveredBy, malformedPayload, afterHeaders, assetAfter, tagged, passes, mediaGives, mostObject}
+use Rattle.isdb_mmt.specs.Decoder.Packet.{Bytes, PayloadUnit, MpuPacket, clear, readable}
+use Rattle.isdb_mmt.specs.Decoder.Packet.{Packet, ipError, ntp, nonMmtp, media, message, control, other}
+use Rattle.isdb_mmt.specs.Decoder.Maps.{find, orElse, isSome}
+use Rattle.isdb_mmt.specs.Decoder.Objects.{Mfu, Asset, fresh, Rec, mostObject, gap, lostBy, UnitEffect, grown, continued, effectOf, objectOf, unitEffect}
+use Rattle.isdb_mmt.specs.Decoder.Objects.{afterUnit, afterUnits, deliveredBy, malformedPayload, afterHeaders, assetAfter, tagged, passes, mediaGives}
 use Rattle.isdb_mmt.specs.Decoder.Model.{State, opened, assetOf, packetCounted, pushed, gives}
 use Rattle.isdb_mmt.specs.Books.Demand.{pushAll, giveAll}
 use Rattle.isdb_mmt.specs.declared.mpu.PayloadHeader.{PayloadHeader}
-use Rattle.isdb_mmt.specs.declared.mpu.FragmentationIndicator.the-variants.{Head, Middle, Last}
 use Rattle.isdb_mmt.proofs.Maps.{eqb-self, eqb-true, find-put, find-put-other}
-use Rattle.isdb_mmt.specs.Standards.StdB60Mpu.{SentUnit, unitSeen, Division, head, middle, last, divisionSeen, payloadSent, mediaSeen, headerSeen, mfuSeen, itemSeen}
-use Rattle.isdb_mmt.specs.Standards.StdB60Objects.{ObjectPart, SentObject, partPayload, partPacket, nextNumber, packetsFrom, objectPackets, dataFrom, objectData}
-use Rattle.isdb_mmt.specs.Standards.StdB60Objects.{Clear, PartConforming, PartsConforming, ObjectConforming, received, Before, Awaited, objectSeen, Delivers, ObjectTheorem, isOf, packetsOf, recordsOf, AmongOthersTheorem, ObjectExample}
+use Rattle.isdb_mmt.specs.Standards.StdB60Mpu.{Division, head, middle, last, divisionSeen, payloadSent, headerSeen}
+use Rattle.isdb_mmt.specs.Standards.StdB60Mpu.{mfuSeen, itemSeen, unitSeen, mediaSeen}
+use Rattle.isdb_mmt.specs.Standards.StdB60Objects.{ObjectPart, SentObject, partPayload, partPacket, nextNumber, packetsFrom, objectPackets, dataFrom}
+use Rattle.isdb_mmt.specs.Standards.StdB60Objects.{Clear, PartConforming, PartsConforming, received, Before, Delivers, ObjectTheorem}
+use Rattle.isdb_mmt.specs.Standards.StdB60Objects.{isOf, idPackets, idRecords, AmongOthersTheorem, ObjectExample}
 use Rattle.isdb_mmt.proofs.StdB60Mpu.{payloads}
 
 -- the packet of a part, as the decoder has it
 abbrev partSeen : SentObject → ℕ → Division → ObjectPart → MpuPacket
 partSeen o n d x = mediaSeen (headerOf (partPacket o n d x)) (partPayload o d x) []
 
-part-received : (o : SentObject) (n : ℕ) (d : Division) (x : ObjectPart) → PartConforming o n d x → received (partPacket o n d x) ≡ media (partSeen o n d x)
+part-received : (o : SentObject) (n : ℕ) (d : Division) (x : ObjectPart) → PartConforming o n d x
+    → received (partPacket o n d x) ≡ media (partSeen o n d x)
 unfolding payloadType
 part-received o n d x c =
     let m = partPacket o n d x in
@@ -46,7 +49,7 @@ part-received o n d x c =
 
 clear-read : (z : Scramble) → Clear z → scrambleInfo z ≡ false
 clear-read Absent c = refl
-clear-read NoByte c = absurd (omega arith)
+clear-read NoByte c = absurd c
 clear-read (Bits z) c = lt-leb 2 z c
 
 -- what follows the last number leaves no gap
@@ -114,7 +117,8 @@ pub record Passes (i : ℕ) (s : State) (p : Packet) : Type 0 where
   pub ipErrors : pushed s p .counters .«ip_errors» ≡ s .counters .«ip_errors»
   pub nonMmtp : pushed s p .counters .«non_mmtp» ≡ s .counters .«non_mmtp»
 
-then-delivers : {i : ℕ} {s : State} {p : Packet} {ps : List Packet} {x : Mfu} → Passes i s p → Delivers i (pushed s p) ps x → Delivers i s (p ∷ ps) x
+then-delivers : {i : ℕ} {s : State} {p : Packet} {ps : List Packet} {x : Mfu} → Passes i s p
+    → Delivers i (pushed s p) ps x → Delivers i s (p ∷ ps) x
 unfolding pushAll giveAll
 then-delivers {i} {s} {p} {ps} f r =
     record {
@@ -182,7 +186,8 @@ module _ (o : SentObject) (n : ℕ) (d : Division) (x : ObjectPart) (c : PartCon
   part-takes : Before (a .number) n → Takes a (partSeen o n d x) (effectOf (divisionSeen d) (a .held) (partObject o x))
   unfolding objectOf
   part-takes b =
-      takes a (partSeen o n d x) (headerSeen (partPayload o d x)) (unitSeen d (x .unit)) b (clear-read (scramblingOf (x .frame .extension)) (c .clear)) refl refl
+      let unscrambled = clear-read (scramblingOf (x .frame .extension)) (c .clear) in
+      takes a (partSeen o n d x) (headerSeen (partPayload o d x)) (unitSeen d (x .unit)) b unscrambled refl refl
 
 grown-twice : (g : Mfu) (a b : Bytes) → grown (grown g a) b ≡ grown g (a ++ b)
 unfolding grown
@@ -207,11 +212,13 @@ rest-delivers o (x ∷ xs) final n s g c held b short =
     let more = length-append (x .unit .content) (dataFrom xs final) in
     let fits = le-leb (length (g .bytes) + length (x .unit .content)) mostObject (omega arith) in
     let after = asset-after s m in
-    let holds : assetOf (o .packetId) (pushed s (media m)) .held ≡ some (grown g (x .unit .content)) = rw after (t .held ∙ rw (held, fits)) in
-    let number : assetOf (o .packetId) (pushed s (media m)) .number ≡ some n = rw after (t .number) in
-    let before : Before (assetOf (o .packetId) (pushed s (media m)) .number) (nextNumber n) = rw number refl in
+    let s′ = pushed s (media m) in
+    let g′ = grown g (x .unit .content) in
+    let holds : assetOf (o .packetId) s′ .held ≡ some g′ = rw after (t .held ∙ rw (held, fits)) in
+    let number : assetOf (o .packetId) s′ .number ≡ some n = rw after (t .number) in
+    let before : Before (assetOf (o .packetId) s′ .number) (nextNumber n) = rw number refl in
     let long = length-append (g .bytes) (x .unit .content) in
-    let rest = rest-delivers o xs final (nextNumber n) (pushed s (media m)) (grown g (x .unit .content)) (c .1) holds before (omega arith) in
+    let rest = rest-delivers o xs final (nextNumber n) s′ g′ (c .1) holds before (omega arith) in
     rw (part-received o n middle x (c .0), ← grown-twice g (x .unit .content) (dataFrom xs final))
     (then-delivers (media-passes s m t (rw (held, fits)) (rw (held, fits))) rest)
 
@@ -221,12 +228,13 @@ objects o c short s w =
     let m = partSeen o (o .number) head (o .first) in
     let t = part-takes o (o .number) head (o .first) (c .first) (assetOf (o .packetId) s) (w .number) in
     let after = asset-after s m in
-    let holds : assetOf (o .packetId) (pushed s (media m)) .held ≡ some (partObject o (o .first)) = rw after (t .held) in
-    let number : assetOf (o .packetId) (pushed s (media m)) .number ≡ some (o .number) = rw after (t .number) in
-    let before : Before (assetOf (o .packetId) (pushed s (media m)) .number) (nextNumber (o .number)) = rw number refl in
+    let s′ = pushed s (media m) in
+    let g = partObject o (o .first) in
+    let holds : assetOf (o .packetId) s′ .held ≡ some g = rw after (t .held) in
+    let number : assetOf (o .packetId) s′ .number ≡ some (o .number) = rw after (t .number) in
+    let before : Before (assetOf (o .packetId) s′ .number) (nextNumber (o .number)) = rw number refl in
     let long = length-append (o .first .unit .content) (dataFrom (o .middles) (o .final)) in
-    let rest =
-    rest-delivers o (o .middles) (o .final) (nextNumber (o .number)) (pushed s (media m)) (partObject o (o .first)) (c .others) holds before (omega arith) in
+    let rest = rest-delivers o (o .middles) (o .final) (nextNumber (o .number)) s′ g (c .others) holds before (omega arith) in
     rw (part-received o (o .number) head (o .first) (c .first)) (then-delivers (media-passes s m t refl (rw (w .held))) rest)
 
 -- ---- among other packets: two states that agree on an id agree on it after each packet
@@ -247,23 +255,23 @@ module _ (i : ℕ) where
   unfolding gives
   gives-own s m e = rw (eqb-true i (m .id) e)
 
-  records-append : (a b : List Rec) → recordsOf i (a ++ b) ≡ recordsOf i a ++ recordsOf i b
-  unfolding recordsOf
+  records-append : (a b : List Rec) → idRecords i (a ++ b) ≡ idRecords i a ++ idRecords i b
+  unfolding idRecords
   records-append [] b = refl
   records-append (r ∷ a) b =
       either (i =? r .id) (λ e. rw (e, records-append a b)) (λ e. rw (e, records-append a b))
 
-  records-tagged : (j : ℕ) (ds : List Mfu) → (i =? j) ≡ false → recordsOf i (tagged j ds) ≡ []
-  unfolding recordsOf tagged
+  records-tagged : (j : ℕ) (ds : List Mfu) → (i =? j) ≡ false → idRecords i (tagged j ds) ≡ []
+  unfolding idRecords tagged
   records-tagged j [] e = refl
   records-tagged j (d ∷ ds) e = rw (e, records-tagged j ds e)
 
-  records-passes : (pass : Bool) (m : MpuPacket) → (i =? m .id) ≡ false → recordsOf i (passes pass m) ≡ []
-  unfolding recordsOf passes
+  records-passes : (pass : Bool) (m : MpuPacket) → (i =? m .id) ≡ false → idRecords i (passes pass m) ≡ []
+  unfolding idRecords passes
   records-passes pass m e =
-      cond-elim (λ (rs : List Rec). recordsOf i rs ≡ []) (pass && (m .scrambled && isSome (m .header))) (λ d. rw e) (λ d. refl)
+      cond-elim (λ (rs : List Rec). idRecords i rs ≡ []) (pass && (m .scrambled && isSome (m .header))) (λ d. rw e) (λ d. refl)
 
-  gives-other : (s : State) (m : MpuPacket) → (i =? m .id) ≡ false → recordsOf i (gives s (media m)) ≡ []
+  gives-other : (s : State) (m : MpuPacket) → (i =? m .id) ≡ false → idRecords i (gives s (media m)) ≡ []
   unfolding gives mediaGives
   gives-other s m e =
       let a = assetOf (m .id) s in
@@ -273,15 +281,17 @@ module _ (i : ℕ) where
 
   -- of what some packets do to the id, the id's own do all
   record Same (s t : State) (ps qs : List Packet) : Type 0 where
-    given : recordsOf i (giveAll s ps) ≡ recordsOf i (giveAll t qs)
+    given : idRecords i (giveAll s ps) ≡ idRecords i (giveAll t qs)
     asset : assetOf i (pushAll s ps) ≡ assetOf i (pushAll t qs)
 
-  skip-one : {s t : State} {p : Packet} {ps qs : List Packet} → recordsOf i (gives s p) ≡ [] → Same (pushed s p) t ps qs → Same s t (p ∷ ps) qs
+  skip-one : {s t : State} {p : Packet} {ps qs : List Packet} → idRecords i (gives s p) ≡ []
+      → Same (pushed s p) t ps qs → Same s t (p ∷ ps) qs
   unfolding giveAll pushAll
   skip-one {s} {t} {p} {ps} quiet r =
       record { given = records-append (gives s p) (giveAll (pushed s p) ps) ∙ rw quiet (r .given); asset = r .asset }
 
-  take-one : {s t : State} {p : Packet} {ps qs : List Packet} → gives s p ≡ gives t p → Same (pushed s p) (pushed t p) ps qs → Same s t (p ∷ ps) (p ∷ qs)
+  take-one : {s t : State} {p : Packet} {ps qs : List Packet} → gives s p ≡ gives t p
+      → Same (pushed s p) (pushed t p) ps qs → Same s t (p ∷ ps) (p ∷ qs)
   unfolding giveAll pushAll
   take-one {s} {t} {p} {ps} {qs} e r =
       record {
@@ -291,8 +301,8 @@ module _ (i : ℕ) where
       }
 
   -- a packet of another id or kind
-  other-agree : {s t : State} (p : Packet) → isOf i p ≡ false → Agree i s t → (recordsOf i (gives s p) ≡ []) × Agree i (pushed s p) t
-  unfolding gives pushed assetOf recordsOf
+  other-agree : {s t : State} (p : Packet) → isOf i p ≡ false → Agree i s t → (idRecords i (gives s p) ≡ []) × Agree i (pushed s p) t
+  unfolding gives pushed assetOf idRecords
   other-agree ipError e g = (refl, record { passing = g .passing; asset = g .asset })
   other-agree (ntp z) e g = (refl, record { passing = g .passing; asset = g .asset })
   other-agree nonMmtp e g = (refl, record { passing = g .passing; asset = g .asset })
@@ -315,8 +325,8 @@ module _ (i : ℕ) where
     record { passing = g .passing; asset = asset-own s m e ∙ rw (g .asset) (sym (asset-own t m e)) },
   )
 
-  own-alone : (ps : List Packet) (s t : State) → Agree i s t → Same s t ps (packetsOf i ps)
-  unfolding packetsOf giveAll pushAll
+  own-alone : (ps : List Packet) (s t : State) → Agree i s t → Same s t ps (idPackets i ps)
+  unfolding idPackets giveAll pushAll
   own-alone [] s t g = record { given = refl; asset = g .asset }
   own-alone (p ∷ ps) s t g =
       either (isOf i p)
@@ -324,7 +334,7 @@ module _ (i : ℕ) where
       (λ e. let a = other-agree p e g in rw e (skip-one (a .0) (own-alone ps (pushed s p) t (a .1))))
 
 pub among-others : AmongOthersTheorem
-unfolding recordsOf
+unfolding idRecords
 among-others o c short s w ps own =
     let i = o .packetId in
     let r = own-alone i ps s s (record { passing = refl; asset = refl }) in
@@ -338,8 +348,10 @@ object-example =
       conforms =
           record {
             first = record { packet = omega arith; payload = omega arith; clear = tt };
-            others =
-                (record { packet = omega arith; payload = omega arith; clear = tt }, record { packet = omega arith; payload = omega arith; clear = omega arith });
+            others = (
+              record { packet = omega arith; payload = omega arith; clear = tt },
+              record { packet = omega arith; payload = omega arith; clear = omega arith },
+            );
           };
       bytes = refl;
       whole = refl;

@@ -7,11 +7,11 @@ use mathlib.Core.Option.{some}
 use lib.ListN.{length, getD}
 use Rattle.isdb_mmt.specs.Decoder.Packet.{Bytes, MessagePacket, messagePacket, message}
 use Rattle.isdb_mmt.specs.Decoder.Kept.{tableRead, mptTable, mptAfterAll, storedAll}
-use Rattle.isdb_mmt.specs.Decoder.Model.{State, controlOf}
+use Rattle.isdb_mmt.specs.Decoder.Model.{State, controlOf, pushed}
 use Rattle.isdb_mmt.specs.Books.Demand.{pushAll}
 use Rattle.isdb_mmt.specs.Standards.StdB60Sections.{All}
 use Rattle.isdb_mmt.specs.Standards.StdB60Tables.{SentMpt, mptRest, mptSent, MptConforming}
-use Rattle.isdb_mmt.specs.Standards.StdB60Messages.{SentTable, SentContent, contentSent, contentTables, SentControl, controlSent, ControlConforming, SentDivided, dividedSent, DividedConforming}
+use Rattle.isdb_mmt.specs.Standards.StdB60Messages.{SentTable, pa, single, SentContent, contentSent, contentTables, SentControl, controlSent, ControlConforming, SentDivided, dividedSent, DividedConforming}
 
 abbrev pub stateAfter : State → List MessagePacket → State
 stateAfter s xs = pushAll s (map message xs)
@@ -60,3 +60,57 @@ MptKept =
     → (c : SentContent) → LastMpt t (contentTables c)
     → (id : ℕ) (xs : List MessagePacket) → ContentPushed c id xs
     → (s : State) → controlOf id (stateAfter s xs) .mpt ≡ some (mptSent t)
+
+-- an undivided PA message with an MPT among its tables; those behind it are no MPTs
+pub record MptInPa : Type 0 where
+  pub reserved : ℕ
+  pub counter : ℕ
+  pub extension : ℕ
+  pub version : ℕ
+  pub before : List SentTable
+  pub mpt : SentMpt
+  pub listed : ℕ
+  pub behind : List SentTable
+
+abbrev pub mptInPaSent : MptInPa → SentControl
+mptInPaSent x =
+    record {
+      reserved = x .reserved;
+      counter = x .counter;
+      content = record { extension = x .extension; carried = single (pa (x .version) (x .before ++ (mptAsTable (x .mpt) (x .listed) ∷ x .behind))) };
+    }
+
+pub record MptInPaConforming (x : MptInPa) : Type 0 where
+  pub payload : ControlConforming (mptInPaSent x)
+  pub mpt : MptConforming (x .mpt)
+  pub id : IsMptId (x .mpt .tableId)
+  pub others : All (λ u. 0x11 ≤ u .id → 0x20 < u .id) (x .behind)
+
+-- one push, and the MPT is kept
+abbrev pub MptInPaKept : Type 0
+MptInPaKept =
+    (x : MptInPa) → MptInPaConforming x → (s : State) (id number : ℕ)
+    → controlOf id (pushed s (message (messagePacket id number (controlSent (mptInPaSent x))))) .mpt ≡ some (mptSent (x .mpt))
+
+-- a witness: an MPT without assets, and a PLT behind it
+abbrev pub mptWitness : MptInPa
+mptWitness =
+    record {
+      reserved = 0;
+      counter = 0;
+      extension = 0;
+      version = 0;
+      before = [];
+      mpt = record { tableId = 0x20; version = 1; reserved = 63; mode = 0; packageId = []; descriptors = []; assets = [] };
+      listed = 5;
+      behind = record { id = 0x80; version = 1; content = 0x00 ∷ 0x00 ∷ []; listed = 2 } ∷ [];
+    }
+
+abbrev pub mptWitnessBytes : List ℕ
+mptWitnessBytes =
+    0x00 ∷ 0x00 ∷ 0x00 ∷ 0x00 ∷ 0x00 ∷ 0x00 ∷ 0x00 ∷ 0x00 ∷ 0x18 ∷ 0x02 ∷ 0x20 ∷ 0x01 ∷ 0x00 ∷ 0x05 ∷ 0x80 ∷ 0x01 ∷ 0x00 ∷ 0x02
+    ∷ 0x20 ∷ 0x01 ∷ 0x00 ∷ 0x05 ∷ 0xFC ∷ 0x00 ∷ 0x00 ∷ 0x00 ∷ 0x00 ∷ 0x80 ∷ 0x01 ∷ 0x00 ∷ 0x02 ∷ 0x00 ∷ 0x00 ∷ []
+
+pub record MptWitness (x : MptInPa) (b : List ℕ) : Type 0 where
+  pub conforms : MptInPaConforming x
+  pub bytes : controlSent (mptInPaSent x) ≡ b

@@ -193,6 +193,46 @@ contentSeen c =
 pub record ContentRead (c : SentContent) : Type 0 where
   pub tables : cutOf (contentSeen c) ≡ allRead (contentTables c)
 
+-- what the model makes of a packet id's message packets in turn: messages made whole, their tables, what is counted, and what is
+-- being joined in the end
+pub record Joined : Type 0 where
+  pub messages : List PartialMessage
+  pub tables : List Bytes
+  pub orphans : ℕ
+  pub oversizes : ℕ
+  pub malformed : ℕ
+  pub left : Reassembly
+
+abbrev pub alsoWhole : Option PartialMessage → List PartialMessage → List PartialMessage
+alsoWhole none l = l
+alsoWhole (some j) l = j ∷ l
+
+abbrev pub joinedBy : Reassembly → List MessagePacket → Joined
+joinedBy l [] = record { messages = []; tables = []; orphans = 0; oversizes = 0; malformed = 0; left = l }
+joinedBy l (x ∷ xs) =
+    let r = joinedBy (reassemblyAfter l x) xs in
+    record {
+      messages = alsoWhole (messageCompleted l x) (r .messages);
+      tables = cutOfAll (messageCompleted l x) .tables ++ r .tables;
+      orphans = one (orphan l x) + r .orphans;
+      oversizes = one (oversize l x) + r .oversizes;
+      malformed = one (short x) + cutOfAll (messageCompleted l x) .malformed + r .malformed;
+      left = r .left;
+    }
+
+-- a content is the one message that becomes whole, its tables are the sender's, nothing else is counted, and nothing is left after
+-- the packet with the number `n`
+abbrev pub joinedWhole : SentContent → ℕ → Joined
+joinedWhole c n =
+    record {
+      messages = contentSeen c ∷ [];
+      tables = contentTables c;
+      orphans = 0;
+      oversizes = 0;
+      malformed = 0;
+      left = record { number = some n; partial = none };
+    }
+
 -- whatever was being joined
 pub record ControlRead (p : SentControl) : Type 0 where
   pub header : fragmentOf (getD (controlSent p) 0 0) ≡ record {
@@ -206,6 +246,8 @@ pub record ControlRead (p : SentControl) : Type 0 where
       → cutOfAll (messageCompleted l (messagePacket id number (controlSent p))) ≡ allRead (contentTables (p .content))
   pub given : (id number : ℕ) (l : Reassembly)
       → tablesGiven l (messagePacket id number (controlSent p)) ≡ map tableRead (contentTables (p .content))
+  pub joined : (id number : ℕ) (l : Reassembly)
+      → joinedBy l (messagePacket id number (controlSent p) ∷ []) ≡ joinedWhole (p .content) number
 
 -- the reading of `mmtp::messages`: a message's id and the ids of its tables, of a PA message both those listed and those of the
 -- tables themselves
@@ -270,43 +312,9 @@ pub record DividedConforming (d : SentDivided) : Type 0 where
   -- the parts make up the content
   pub whole : d .first .bytes ++ restBytes (d .middle) (d .last) ≡ contentSent (d .content)
 
--- what the model makes of a packet id's message packets in turn: messages made whole, their tables, what is counted, and what is
--- being joined in the end
-pub record Joined : Type 0 where
-  pub messages : List PartialMessage
-  pub tables : List Bytes
-  pub orphans : ℕ
-  pub oversizes : ℕ
-  pub malformed : ℕ
-  pub left : Reassembly
-
-abbrev pub alsoWhole : Option PartialMessage → List PartialMessage → List PartialMessage
-alsoWhole none l = l
-alsoWhole (some j) l = j ∷ l
-
-abbrev pub joinedBy : Reassembly → List MessagePacket → Joined
-joinedBy l [] = record { messages = []; tables = []; orphans = 0; oversizes = 0; malformed = 0; left = l }
-joinedBy l (x ∷ xs) =
-    let r = joinedBy (reassemblyAfter l x) xs in
-    record {
-      messages = alsoWhole (messageCompleted l x) (r .messages);
-      tables = cutOfAll (messageCompleted l x) .tables ++ r .tables;
-      orphans = one (orphan l x) + r .orphans;
-      oversizes = one (oversize l x) + r .oversizes;
-      malformed = one (short x) + cutOfAll (messageCompleted l x) .malformed + r .malformed;
-      left = r .left;
-    }
-
--- from whatever was being joined, the content is the one message that becomes whole, and its tables are the sender's
+-- from whatever was being joined
 pub record DividedRead (d : SentDivided) : Type 0 where
-  pub joined : (l : Reassembly) → joinedBy l (dividedSent d) ≡ record {
-    messages = contentSeen (d .content) ∷ [];
-    tables = contentTables (d .content);
-    orphans = 0;
-    oversizes = 0;
-    malformed = 0;
-    left = record { number = some ((d .number + length (d .middle) + 1) % 2 ^ 32); partial = none };
-  }
+  pub joined : (l : Reassembly) → joinedBy l (dividedSent d) ≡ joinedWhole (d .content) ((d .number + length (d .middle) + 1) % 2 ^ 32)
 
 -- proved in proofs/StdB60Messages.antt
 abbrev pub MessageTheorem : Type 0

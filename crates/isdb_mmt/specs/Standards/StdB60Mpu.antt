@@ -2,12 +2,11 @@
 -- means to read it right.
 use Prim.Native.Nat.{ℕ, _+_, _^_, _<_}
 use mathlib.Core.Path.{_≡_}
-use mathlib.Core.Bool.{Bool}
 use mathlib.Core.List.{List, [], _∷_, _++_, map}
 use mathlib.Core.Option.{some}
 use lib.ListN.{length, drop, replicate}
 use Rattle.isdb_tlv.specs.Guards.{_=?_}
-use Rattle.isdb_tlv.specs.Fields.{Field, field, bits, packed, written, Fit}
+use Rattle.isdb_tlv.specs.Fields.{bytesOf, Field, field, bits, packed, written, Fit}
 use Rattle.isdb_tlv.specs.declared.mmtp.Header.{Header}
 use Rattle.isdb_mmt.specs.Formats.Mpu.{payloadHeader, declaredOf, unitsOf}
 use Rattle.isdb_mmt.specs.Decoder.Packet.{PayloadUnit, payloadUnits, MpuPacket, mediaOf}
@@ -100,12 +99,16 @@ pub record SentPayload : Type 0 where
   pub mpuSequenceNumber : ℕ
   pub body : Body
 
--- Table 6-1: payload length, which counts what stands behind it; fragment type, timed flag, fragmentation indicator and
--- aggregation flag; fragment counter; MPU sequence number
+-- Table 6-1: fragment type, timed flag, fragmentation indicator, aggregation flag
+abbrev pub flagBits : SentPayload → List Field
+flagBits p =
+    bits 4 (typeCode (p .body)) ∷ bits 1 (p .timed) ∷ bits 2 (divisionCode (p .division)) ∷ bits 1 (aggregationFlag (p .body)) ∷ []
+
+-- payload length, which counts what stands behind it; these bits; fragment counter; MPU sequence number
 abbrev pub headerFields : SentPayload → List Field
 headerFields p =
     field 2 (length (bodySent (p .body)) + 6)
-    ∷ field 1 (packed (bits 4 (typeCode (p .body)) ∷ bits 1 (p .timed) ∷ bits 2 (divisionCode (p .division)) ∷ bits 1 (aggregationFlag (p .body)) ∷ []))
+    ∷ field 1 (packed (flagBits p))
     ∷ field 1 (p .counter)
     ∷ field 4 (p .mpuSequenceNumber)
     ∷ []
@@ -219,7 +222,7 @@ pub record PayloadRead (p : SentPayload) (behind : List ℕ) : Type 0 where
 abbrev pub PayloadTheorem : Type 0
 PayloadTheorem = (p : SentPayload) → PayloadConforming p → (behind : List ℕ) → PayloadRead p behind
 
--- conforming payloads, and their bytes: each stands as a line `units HEX` in crates/cases/stdin
+-- conforming payloads; their bytes stand as lines `units HEX` in crates/cases/stdin
 abbrev pub timedExample : ℕ → List ℕ → SentUnit
 timedExample movie b = record { header = timedHeader movie 2 3 4 5; content = b }
 
@@ -250,11 +253,11 @@ examples =
 
 abbrev pub exampleBytes : List (List ℕ)
 exampleBytes =
-    (0x00 ∷ 0x16 ∷ 0x28 ∷ 0x00 ∷ 0x00 ∷ 0x00 ∷ 0x00 ∷ 0x07 ∷ 0x00 ∷ 0x00 ∷ 0x00 ∷ 0x01 ∷ 0x00 ∷ 0x00 ∷ 0x00 ∷ 0x02 ∷ 0x00 ∷ 0x00 ∷ 0x00 ∷ 0x03 ∷ 0x04 ∷ 0x05 ∷ 0xaa ∷ 0xbb ∷ [])
-    ∷ (0x00 ∷ 0x29 ∷ 0x29 ∷ 0x00 ∷ 0x00 ∷ 0x00 ∷ 0x00 ∷ 0x07 ∷ 0x00 ∷ 0x0f ∷ 0x00 ∷ 0x00 ∷ 0x00 ∷ 0x01 ∷ 0x00 ∷ 0x00 ∷ 0x00 ∷ 0x02 ∷ 0x00 ∷ 0x00 ∷ 0x00 ∷ 0x03 ∷ 0x04 ∷ 0x05 ∷ 0x01 ∷ 0x00 ∷ 0x10 ∷ 0x00 ∷ 0x00 ∷ 0x00 ∷ 0x02 ∷ 0x00 ∷ 0x00 ∷ 0x00 ∷ 0x02 ∷ 0x00 ∷ 0x00 ∷ 0x00 ∷ 0x03 ∷ 0x04 ∷ 0x05 ∷ 0x02 ∷ 0x03 ∷ [])
-    ∷ (0x00 ∷ 0x0b ∷ 0x22 ∷ 0x01 ∷ 0x00 ∷ 0x00 ∷ 0x00 ∷ 0x07 ∷ 0x00 ∷ 0x00 ∷ 0x00 ∷ 0x09 ∷ 0x01 ∷ [])
-    ∷ (0x00 ∷ 0x1a ∷ 0x08 ∷ 0x00 ∷ 0x00 ∷ 0x00 ∷ 0x00 ∷ 0x07 ∷ replicate 20 0x11)
-    ∷ (0x00 ∷ 0x1a ∷ 0x18 ∷ 0x00 ∷ 0x00 ∷ 0x00 ∷ 0x00 ∷ 0x07 ∷ replicate 20 0x11)
+    bytesOf 24 0x00162800000000070000000100000002000000030405aabb
+    ∷ bytesOf 43 0x0029290000000007000f000000010000000200000003040501001000000002000000020000000304050203
+    ∷ bytesOf 13 0x000b2201000000070000000901
+    ∷ bytesOf 28 0x001a0800000000071111111111111111111111111111111111111111
+    ∷ bytesOf 28 0x001a1800000000071111111111111111111111111111111111111111
     ∷ []
 
 pub record Examples : Type 0 where

@@ -7,6 +7,7 @@ use mathlib.Core.List.{List, [], _∷_, _++_, map}
 use mathlib.Core.Option.{Option, none, some}
 use lib.ListN.{length}
 use Rattle.isdb_tlv.specs.Guards.{if_then_else_, _=?_}
+use Rattle.isdb_tlv.specs.Fields.{bytesOf}
 use Rattle.isdb_tlv.specs.Mmtp.{mmtpOf}
 use Rattle.isdb_tlv.specs.Iso23008.{Extension, noExtension, multiType, Mmtp, Conforming, scramblingOf}
 use Rattle.isdb_tlv.specs.Iso23008.{sent as mmtpSent}
@@ -16,7 +17,8 @@ use Rattle.isdb_mmt.specs.Decoder.Packet.{Packet, ipError, ntp, nonMmtp,
 use Rattle.isdb_mmt.specs.Decoder.Objects.{Mfu, Asset, Rec}
 use Rattle.isdb_mmt.specs.Decoder.Model.{State, opened, assetOf}
 use Rattle.isdb_mmt.specs.Books.Demand.{pushAll, giveAll}
-use Rattle.isdb_mmt.specs.Standards.StdB60Mpu.{untimedHeader, SentUnit, oneUnit, Division, head, middle, last, SentPayload, payloadSent, PayloadConforming, mfuSeen, itemSeen}
+use Rattle.isdb_mmt.specs.Standards.StdB60Mpu.{untimedHeader, SentUnit, oneUnit, Division, head, middle, last, SentPayload, payloadSent}
+use Rattle.isdb_mmt.specs.Standards.StdB60Mpu.{PayloadConforming, mfuSeen, itemSeen}
 
 -- a part of an object, and what else its packet says: of `frame` all but the payload type, packet id, number and payload
 pub record ObjectPart : Type 0 where
@@ -77,7 +79,7 @@ objectData o = o .first .unit .content ++ dataFrom (o .middles) (o .final)
 -- not scrambled: no scrambling information, or bits of 0 or 1
 abbrev pub Clear : Scramble → Type 0
 Clear Absent = Unit {0}
-Clear NoByte = 1 ≤ 0
+Clear NoByte = ⊥
 Clear (Bits c) = c < 2
 
 pub record PartConforming (o : SentObject) (n : ℕ) (d : Division) (x : ObjectPart) : Type 0 where
@@ -153,19 +155,19 @@ isOf i (message c) = false
 isOf i (control bs) = false
 isOf i other = false
 
-unfoldable pub packetsOf : ℕ → List Packet → List Packet
-packetsOf i [] = []
-packetsOf i (p ∷ ps) = if isOf i p then p ∷ packetsOf i ps else packetsOf i ps
+unfoldable pub idPackets : ℕ → List Packet → List Packet
+idPackets i [] = []
+idPackets i (p ∷ ps) = if isOf i p then p ∷ idPackets i ps else idPackets i ps
 
-unfoldable pub recordsOf : ℕ → List Rec → List Rec
-recordsOf i [] = []
-recordsOf i (r ∷ rs) = if i =? r .id then r ∷ recordsOf i rs else recordsOf i rs
+unfoldable pub idRecords : ℕ → List Rec → List Rec
+idRecords i [] = []
+idRecords i (r ∷ rs) = if i =? r .id then r ∷ idRecords i rs else idRecords i rs
 
 -- whatever packets, of any kind and of other ids, arrive in between
 abbrev pub AmongOthersTheorem : Type 0
 AmongOthersTheorem = (o : SentObject) → ObjectConforming o → length (objectData o) ≤ 16777216 → (s : State) → Awaited s o
-    → (ps : List Packet) → packetsOf (o .packetId) ps ≡ map received (objectPackets o)
-    → (recordsOf (o .packetId) (giveAll s ps) ≡ recordOf (o .packetId) (objectSeen o) ∷ [])
+    → (ps : List Packet) → idPackets (o .packetId) ps ≡ map received (objectPackets o)
+    → (idRecords (o .packetId) (giveAll s ps) ≡ recordOf (o .packetId) (objectSeen o) ∷ [])
     × OneDelivered (length (objectPackets o)) (assetOf (o .packetId) s) (assetOf (o .packetId) (pushAll s ps))
 
 -- an item in three parts, over the numbers 4,294,967,295, 0 and 1; the first packet has the RAP flag, the second a packet
@@ -202,15 +204,12 @@ exampleObject =
       final = examplePart (exampleFrame 0 none (multiType [] (record { type = 1; content = 0x00 ∷ [] }))) 3 0x03;
     }
 
--- behind the MMTP headers stand three lines `units HEX` of crates/cases/stdin
+-- behind the MMTP headers stand payloads of crates/cases/stdin, each a line `units HEX`
 abbrev pub exampleObjectBytes : List (List ℕ)
 exampleObjectBytes =
-    (0x01 ∷ 0x00 ∷ 0xf1 ∷ 0x10 ∷ 0x00 ∷ 0x00 ∷ 0x00 ∷ 0x08 ∷ 0xff ∷ 0xff ∷ 0xff ∷ 0xff
-    ∷ 0x00 ∷ 0x0b ∷ 0x22 ∷ 0x01 ∷ 0x00 ∷ 0x00 ∷ 0x00 ∷ 0x07 ∷ 0x00 ∷ 0x00 ∷ 0x00 ∷ 0x09 ∷ 0x01 ∷ [])
-    ∷ (0x20 ∷ 0x00 ∷ 0xf1 ∷ 0x10 ∷ 0x00 ∷ 0x00 ∷ 0x00 ∷ 0x08 ∷ 0x00 ∷ 0x00 ∷ 0x00 ∷ 0x00 ∷ 0x00 ∷ 0x00 ∷ 0x00 ∷ 0x05
-    ∷ 0x00 ∷ 0x0b ∷ 0x24 ∷ 0x02 ∷ 0x00 ∷ 0x00 ∷ 0x00 ∷ 0x07 ∷ 0x00 ∷ 0x00 ∷ 0x00 ∷ 0x09 ∷ 0x02 ∷ [])
-    ∷ (0x02 ∷ 0x00 ∷ 0xf1 ∷ 0x10 ∷ 0x00 ∷ 0x00 ∷ 0x00 ∷ 0x08 ∷ 0x00 ∷ 0x00 ∷ 0x00 ∷ 0x01 ∷ 0x00 ∷ 0x00 ∷ 0x00 ∷ 0x05 ∷ 0x80 ∷ 0x01 ∷ 0x00 ∷ 0x01 ∷ 0x00
-    ∷ 0x00 ∷ 0x0b ∷ 0x26 ∷ 0x03 ∷ 0x00 ∷ 0x00 ∷ 0x00 ∷ 0x07 ∷ 0x00 ∷ 0x00 ∷ 0x00 ∷ 0x09 ∷ 0x03 ∷ [])
+    (bytesOf 12 0x0100f11000000008ffffffff ++ bytesOf 13 0x000b2201000000070000000901)
+    ∷ (bytesOf 16 0x2000f110000000080000000000000005 ++ bytesOf 13 0x000b2402000000070000000902)
+    ∷ (bytesOf 21 0x0200f1100000000800000001000000058001000100 ++ bytesOf 13 0x000b2603000000070000000903)
     ∷ []
 
 pub record ObjectExample : Type 0 where
