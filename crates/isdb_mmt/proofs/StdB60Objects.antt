@@ -6,31 +6,41 @@ use mathlib.Core.List.{List, [], _∷_, _++_, map, append-assoc, append-nil}
 use mathlib.Core.Option.{Option, none, some}
 use native.Mathlib.Nat.{add-zero}
 use native.Mathlib.Omega.{arith}
-use lib.ListN.{length, length-append, length-map}
-use borrow.Author.Tests.{le-leb, lt-leb, eq-eqb}
+use lib.ListN.{length, getD, length-append, length-map}
+use borrow.Author.Tests.{le-leb, lt-leb, eq-eqb, ne-eqb}
 use Rattle.isdb_tlv.specs.Guards.{_=?_}
-use Rattle.isdb_tlv.specs.Mmtp.{payloadType, scrambleInfo}
+use Rattle.isdb_tlv.specs.Tlv.{packetType}
+use Rattle.isdb_tlv.specs.Mmtp.{payloadType, scrambleInfo, mmtpOf}
 use Rattle.isdb_tlv.specs.Fields.{bytesOf}
-use Rattle.isdb_tlv.specs.Iso23008.{scramblingOf, headerOf, sent as mmtpSent}
+use Rattle.isdb_tlv.specs.Iso23008.{Mmtp, scramblingOf, headerOf, sent as mmtpSent}
+use Rattle.isdb_tlv.specs.Rfc791.{flowOf as ipv4Flow}
+use Rattle.isdb_tlv.specs.Rfc8200.{flowOf as ipv6Flow}
+use Rattle.isdb_tlv.specs.StdB32.{ipv6Id, Hcfb, ipv6IdFits, HcfbConforming, flowIn, hcfbSent}
+use Rattle.isdb_tlv.specs.declared.ip.MaybeFlow.{MaybeFlow}
+use Rattle.isdb_tlv.specs.declared.ip.MaybeFlow.the-variants.{None as noFlow, Some as someFlow}
 use Rattle.isdb_tlv.specs.declared.mmtp.Scramble.{Scramble}
 use Rattle.isdb_tlv.specs.declared.mmtp.Scramble.the-variants.{Absent, NoByte, Bits}
 use Rattle.isdb_tlv.proofs.Guards.{cond-elim, either}
+use Rattle.isdb_tlv.proofs.Rfc791.{rfc791}
+use Rattle.isdb_tlv.proofs.Rfc8200.{rfc8200}
+use Rattle.isdb_tlv.proofs.StdB32.{hcfb}
 use Rattle.isdb_tlv.proofs.Iso23008.{iso23008}
 use Rattle.isdb_mmt.specs.Formats.Mpu.{follows}
-use Rattle.isdb_mmt.specs.Decoder.Packet.{Bytes, PayloadUnit, MpuPacket, clear, readable}
+use Rattle.isdb_mmt.specs.Decoder.Packet.{Bytes, PayloadUnit, MpuPacket, clear, readable, mmtpIn, inFlow, classify}
 use Rattle.isdb_mmt.specs.Decoder.Packet.{Packet, ipError, ntp, nonMmtp, media, message, control, other}
 use Rattle.isdb_mmt.specs.Decoder.Maps.{find, orElse, isSome}
 use Rattle.isdb_mmt.specs.Decoder.Objects.{Mfu, Asset, fresh, Rec, mostObject, gap, lostBy, UnitEffect, grown, continued, effectOf, objectOf, unitEffect}
 use Rattle.isdb_mmt.specs.Decoder.Objects.{afterUnit, afterUnits, deliveredBy, malformedPayload, afterHeaders, assetAfter, tagged, passes, mediaGives}
 use Rattle.isdb_mmt.specs.Decoder.Model.{State, opened, assetOf, packetCounted, pushed, gives}
-use Rattle.isdb_mmt.specs.Books.Demand.{pushAll, giveAll}
+use Rattle.isdb_mmt.specs.Books.Demand.{pushAll, giveAll, Feed, packetsOf}
 use Rattle.isdb_mmt.specs.declared.mpu.PayloadHeader.{PayloadHeader}
 use Rattle.isdb_mmt.proofs.Maps.{eqb-self, eqb-true, find-put, find-put-other}
 use Rattle.isdb_mmt.specs.Standards.StdB60Mpu.{Division, head, middle, last, divisionSeen, payloadSent, headerSeen}
 use Rattle.isdb_mmt.specs.Standards.StdB60Mpu.{mfuSeen, itemSeen, unitSeen, mediaSeen}
 use Rattle.isdb_mmt.specs.Standards.StdB60Objects.{ObjectPart, SentObject, partPayload, partPacket, nextNumber, packetsFrom, objectPackets, dataFrom}
 use Rattle.isdb_mmt.specs.Standards.StdB60Objects.{Clear, PartConforming, PartsConforming, received, Before, Delivers, ObjectTheorem}
-use Rattle.isdb_mmt.specs.Standards.StdB60Objects.{isOf, idPackets, idRecords, AmongOthersTheorem, ObjectExample}
+use Rattle.isdb_mmt.specs.Standards.StdB60Objects.{isOf, idPackets, idRecords, AmongOthersTheorem, NotNtp, Carried, byIpv4, byIpv6, byHcfb, AllCarried, FeedTheorem}
+use Rattle.isdb_mmt.specs.Standards.StdB60Objects.{exampleObject, ObjectExample}
 use Rattle.isdb_mmt.proofs.StdB60Mpu.{payloads}
 
 -- the packet of a part, as the decoder has it
@@ -341,9 +351,41 @@ among-others o c short s w ps own =
     let d = objects o c short s w in
     (rw own at (r .given) ∙ rw (d .given, eqb-self i), rw (r .asset, own, ← length-map (objectPackets o) received) (d .asset))
 
+-- ---- what TLV packets carry
+
+in-flow : (b : List ℕ) (f : MaybeFlow) → NotNtp f → inFlow b f ≡ mmtpIn b (mmtpOf b)
+in-flow b noFlow n = refl
+in-flow b (someFlow f) n = rw (ne-eqb (f .dport) 123 n)
+
+carried : {b : List ℕ} {x : ℕ × List ℕ} → Carried b x → classify (x .0) (x .1) ≡ mmtpIn b (mmtpOf b)
+unfolding classify packetType
+carried (byIpv4 d c n) = rw (rfc791 d c .fields, rfc791 d c .payload) (in-flow (d .payload) (someFlow (ipv4Flow d)) n)
+carried (byIpv6 d c n) = rw (rfc8200 d c .fields, rfc8200 d c .payload) (in-flow (d .payload) (someFlow (ipv6Flow d)) n)
+carried (byHcfb p c n) = rw (hcfb p c .fields, hcfb p c .payload) (in-flow (p .payload) (flowIn (p .header)) n)
+
+all-carried : (ms : List Mmtp) (f : Feed) → AllCarried ms f → packetsOf f ≡ map received ms
+all-carried [] [] c = refl
+all-carried [] (x ∷ f) c = absurd c
+all-carried (m ∷ ms) [] c = absurd c
+all-carried (m ∷ ms) (x ∷ f) c = rw (carried (c .0), all-carried ms f (c .1))
+
+pub feeds : FeedTheorem
+feeds o c short s w f all = rw (all-carried (objectPackets o) f all) (objects o c short s w)
+
+abbrev exampleHcfb : List ℕ → Hcfb
+exampleHcfb b = record { context = 1; sequence = 0; header = ipv6Id; payload = b }
+
+example-conforms : (b : List ℕ) → HcfbConforming (exampleHcfb b)
+example-conforms b = record { context = omega arith; sequence = omega arith; header = ipv6IdFits }
+
+example-carried : (m : Mmtp) → Carried (mmtpSent m) (0x03, hcfbSent (exampleHcfb (mmtpSent m)))
+example-carried m = byHcfb (exampleHcfb (mmtpSent m)) (example-conforms (mmtpSent m)) tt
+
 pub object-example : ObjectExample
-unfolding mmtpSent payloadSent bytesOf assetOf opened orElse find fresh
+unfolding hcfbSent mmtpSent payloadSent bytesOf assetOf opened orElse find fresh
 object-example =
+    let ps = objectPackets exampleObject in
+    let m = exampleObject .first .frame in
     record {
       conforms =
           record {
@@ -356,4 +398,5 @@ object-example =
       bytes = refl;
       whole = refl;
       awaited = λ pass. record { held = refl; number = tt };
+      carried = (example-carried (getD ps 0 m), (example-carried (getD ps 1 m), (example-carried (getD ps 2 m), tt)));
     }

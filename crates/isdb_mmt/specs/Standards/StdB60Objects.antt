@@ -11,12 +11,17 @@ use Rattle.isdb_tlv.specs.Fields.{bytesOf}
 use Rattle.isdb_tlv.specs.Mmtp.{mmtpOf}
 use Rattle.isdb_tlv.specs.Iso23008.{Extension, noExtension, multiType, Mmtp, Conforming, scramblingOf}
 use Rattle.isdb_tlv.specs.Iso23008.{sent as mmtpSent}
+use Rattle.isdb_tlv.specs.Rfc791.{Ipv4, Conforming as Ipv4Conforming, flowOf as ipv4Flow, sent as ipv4Sent}
+use Rattle.isdb_tlv.specs.Rfc8200.{Ipv6, Conforming as Ipv6Conforming, flowOf as ipv6Flow, sent as ipv6Sent}
+use Rattle.isdb_tlv.specs.StdB32.{Hcfb, HcfbConforming, flowIn, hcfbSent}
+use Rattle.isdb_tlv.specs.declared.ip.MaybeFlow.{MaybeFlow}
+use Rattle.isdb_tlv.specs.declared.ip.MaybeFlow.the-variants.{None as noFlow, Some as someFlow}
 use Rattle.isdb_tlv.specs.declared.mmtp.Scramble.{Scramble}
 use Rattle.isdb_tlv.specs.declared.mmtp.Scramble.the-variants.{Absent, NoByte, Bits}
 use Rattle.isdb_mmt.specs.Decoder.Packet.{Packet, ipError, ntp, nonMmtp, media, message, control, other, mmtpIn}
 use Rattle.isdb_mmt.specs.Decoder.Objects.{Mfu, Asset, Rec}
 use Rattle.isdb_mmt.specs.Decoder.Model.{State, opened, assetOf}
-use Rattle.isdb_mmt.specs.Books.Demand.{pushAll, giveAll}
+use Rattle.isdb_mmt.specs.Books.Demand.{pushAll, giveAll, Feed, packetsOf}
 use Rattle.isdb_mmt.specs.Standards.StdB60Mpu.{untimedHeader, SentUnit, oneUnit, Division, head, middle, last, SentPayload, payloadSent}
 use Rattle.isdb_mmt.specs.Standards.StdB60Mpu.{PayloadConforming, mfuSeen, itemSeen}
 
@@ -170,6 +175,28 @@ AmongOthersTheorem = (o : SentObject) → ObjectConforming o → length (objectD
     → (idRecords (o .packetId) (giveAll s ps) ≡ recordOf (o .packetId) (objectSeen o) ∷ [])
     × OneDelivered (length (objectPackets o)) (assetOf (o .packetId) s) (assetOf (o .packetId) (pushAll s ps))
 
+-- to a port other than NTP's
+abbrev pub NotNtp : MaybeFlow → Type 0
+NotNtp noFlow = Unit {0}
+NotNtp (someFlow f) = f .dport ≡ 123 → ⊥
+
+-- bytes that a TLV packet carries, by its kind and data: in IPv4 (01h) or IPv6 (02h) with UDP, or header-compressed (03h)
+pub data Carried : List ℕ → ℕ × List ℕ → Type 0 where
+  byIpv4 : (d : Ipv4) → Ipv4Conforming d → NotNtp (someFlow (ipv4Flow d)) → Carried (d .payload) (0x01, ipv4Sent d)
+  byIpv6 : (d : Ipv6) → Ipv6Conforming d → NotNtp (someFlow (ipv6Flow d)) → Carried (d .payload) (0x02, ipv6Sent d)
+  byHcfb : (p : Hcfb) → HcfbConforming p → NotNtp (flowIn (p .header)) → Carried (p .payload) (0x03, hcfbSent p)
+
+abbrev pub AllCarried : List Mmtp → Feed → Type 0
+AllCarried [] [] = Unit {0}
+AllCarried [] (x ∷ f) = ⊥
+AllCarried (m ∷ ms) [] = ⊥
+AllCarried (m ∷ ms) (x ∷ f) = Carried (mmtpSent m) x × AllCarried ms f
+
+-- so a feed's bytes, as pushes are given them, deliver the object
+abbrev pub FeedTheorem : Type 0
+FeedTheorem = (o : SentObject) → ObjectConforming o → length (objectData o) ≤ 16777216 → (s : State) → Awaited s o
+    → (f : Feed) → AllCarried (objectPackets o) f → Delivers (o .packetId) s (packetsOf f) (objectSeen o)
+
 -- an item in three parts, over the numbers 4,294,967,295, 0 and 1; the first packet has the RAP flag, the second a packet
 -- counter, the last scrambling information that says clear
 abbrev pub exampleFrame : ℕ → Option ℕ → Extension → Mmtp
@@ -212,8 +239,13 @@ exampleObjectBytes =
     ∷ (bytesOf 21 0x0200f1100000000800000001000000058001000100 ++ bytesOf 13 0x000b2603000000070000000903)
     ∷ []
 
+-- each in a header-compressed packet: context 1, number 0, header type 61h
+abbrev pub exampleFeed : Feed
+exampleFeed = map (λ b. (0x03, bytesOf 3 0x001061 ++ b)) exampleObjectBytes
+
 pub record ObjectExample : Type 0 where
   pub conforms : ObjectConforming exampleObject
   pub bytes : map mmtpSent (objectPackets exampleObject) ≡ exampleObjectBytes
   pub whole : objectData exampleObject ≡ 0x01 ∷ 0x02 ∷ 0x03 ∷ []
   pub awaited : (pass : Bool) → Awaited (opened pass) exampleObject
+  pub carried : AllCarried (objectPackets exampleObject) exampleFeed
