@@ -17,6 +17,7 @@ pub mod Units
 pub mod AggregatedMessages
 pub mod StdB60Tables
 pub mod StdB60Short
+pub mod StdB60Scan
 pub mod Steps
 pub mod Walks
 pub mod SectionWalks
