@@ -7,10 +7,12 @@ use native.Mathlib.Nat.{add-zero}
 use native.Mathlib.Omega.{arith}
 use lib.ListN.{length, getD, take, length-append}
 use lib.Seq.{drop-at, take-all}
-use borrow.Author.Tests.{le-ltb, lt-leb, le-leb}
+use lib.Dec.{leb}
+use borrow.Author.Tests.{lt-ltb, le-ltb, lt-leb, le-leb, eq-eqb, ne-eqb, leb-true, leb-false}
 use Rattle.isdb_tlv.specs.Bytes.{be}
 use Rattle.isdb_tlv.specs.Crc.{crcOf}
 use Rattle.isdb_tlv.specs.Fields.{bytesOf, Field, field, bits, packed, written, Fit}
+use Rattle.isdb_tlv.proofs.Guards.{either}
 use Rattle.isdb_tlv.proofs.CrcLinear.{crc-closed}
 use Rattle.isdb_tlv.proofs.Fields.{be-one, length-bytesOf, size, fieldAt, offsetOf, length-written}
 use Rattle.isdb_mmt.specs.Decoder.Maps.{isSome}
@@ -18,6 +20,7 @@ use Rattle.isdb_mmt.specs.Formats.Part.{partAt}
 use Rattle.isdb_mmt.specs.Formats.Desc.{lengthWidth, stepAt, Split, splitFrom, splitOf, broken}
 use Rattle.isdb_mmt.specs.Formats.Location.{sized, urlOf, locationOf}
 use Rattle.isdb_mmt.specs.Formats.Section.{length12, longSectionOf}
+use Rattle.isdb_mmt.specs.Standards.StdB60.{TagRange, tagTable, widthIn, widthOf}
 use Rattle.isdb_mmt.specs.Standards.StdB60.{Descriptor, descriptorSent, loopSent, DescriptorConforming, LoopConforming, descriptorIn, LoopTheorem}
 use Rattle.isdb_mmt.specs.Standards.StdB60.{SentLocation, sameFlow, ipv4, ipv6, mpeg2Ts, mpeg2TsIpv6, url, locationFields, locationBytes, locationSent, LocationConforming, locationSeen, LocationTheorem}
 use Rattle.isdb_mmt.specs.Standards.StdB60.{Header, sectionHeaderFields, withCrc, sectionSent, HeaderConforming, headerSeen, SectionTheorem}
@@ -41,11 +44,45 @@ module _ {s : List ℕ} {at : ℕ} (upper n : ℕ) (fits : upper < 2 ^ 4) (short
   pub upper-read : getD s at 0 / 16 ≡ upper
   upper-read = rw (high-byte (lengthWord upper n) (omega arith) h) (omega arith)
 
+-- the table's lines one by one: a tag from the first of a line on is in it, or comes behind it
+record Gives (rs : List TagRange) (tag w : ℕ) : Type 0 where
+  width : w ≡ widthIn rs tag
+
+by-line : {r : TagRange} {rs : List TagRange} {tag w : ℕ} → r .first ≤ tag → (tag ≤ r .last → w ≡ r .width)
+    → (r .last < tag → Gives rs tag w) → Gives (r ∷ rs) tag w
+by-line {r} {rs} {tag} {w} h within behind =
+    record {
+      width =
+          rw (le-leb (r .first) tag h)
+          (either (leb tag (r .last)) (λ y. rw y (within (leb-true tag (r .last) y)))
+          (λ n. rw n (behind (leb-false tag (r .last) n) .width)));
+    }
+
+-- the width that is read is the table's
+table-gives : (tag : ℕ) → tag < 2 ^ 16 → Gives tagTable tag (lengthWidth tag)
+unfolding lengthWidth
+table-gives tag h =
+    by-line (omega arith) (λ l. rw (ne-eqb tag 2 (λ e. omega arith), lt-ltb tag 0x4000 (omega arith))) (λ a.
+    by-line (omega arith) (λ l. rw (eq-eqb tag 2 (omega arith))) (λ b.
+    let other = ne-eqb tag 2 (λ e. omega arith) in
+    by-line (omega arith) (λ l. rw (other, lt-ltb tag 0x4000 (omega arith))) (λ c.
+    let from4 = le-ltb tag 0x4000 (omega arith) in
+    by-line (omega arith) (λ l. rw (other, from4, lt-ltb tag 0x7000 (omega arith))) (λ d.
+    let from7 = le-ltb tag 0x7000 (omega arith) in
+    by-line (omega arith) (λ l. rw (other, from4, from7, lt-ltb tag 0x8000 (omega arith))) (λ e.
+    let from8 = le-ltb tag 0x8000 (omega arith) in
+    by-line (omega arith) (λ l. rw (other, from4, from7, from8, lt-ltb tag 0xF000 (omega arith))) (λ f.
+    by-line (omega arith) (λ l. rw (other, from4, from7, from8, le-ltb tag 0xF000 (omega arith))) (λ g. absurd (omega arith))))))))
+
+width-read : (tag : ℕ) → tag < 2 ^ 16 → lengthWidth tag ≡ widthOf tag
+unfolding widthOf
+width-read tag h = table-gives tag h .width
+
 -- a descriptor that stands at `at`
 abbrev descriptorFields : Descriptor → List Field
-descriptorFields d = field 2 (d .tag) ∷ field (lengthWidth (d .tag)) (length (d .content)) ∷ []
+descriptorFields d = field 2 (d .tag) ∷ field (widthOf (d .tag)) (length (d .content)) ∷ []
 
-descriptor-length : (d : Descriptor) → length (descriptorSent d) ≡ 2 + lengthWidth (d .tag) + length (d .content)
+descriptor-length : (d : Descriptor) → length (descriptorSent d) ≡ 2 + widthOf (d .tag) + length (d .content)
 descriptor-length d = rw (length-append, length-written (descriptorFields d)) (omega arith)
 
 module _ {s : List ℕ} {at : ℕ} (d : Descriptor) (c : DescriptorConforming d) (h : FoundAt s at (descriptorSent d)) where
@@ -55,23 +92,23 @@ module _ {s : List ℕ} {at : ℕ} (d : Descriptor) (c : DescriptorConforming d)
   descriptor-fits : Fit (descriptorFields d)
   descriptor-fits = (c .tag, (c .short, tt))
 
-  content-located : FoundAt s (at + 2 + lengthWidth (d .tag)) (d .content)
+  content-located : FoundAt s (at + 2 + widthOf (d .tag)) (d .content)
   content-located =
-      let e : at + (2 + (lengthWidth (d .tag) + 0)) ≡ at + 2 + lengthWidth (d .tag) = omega arith in
+      let e : at + (2 + (widthOf (d .tag) + 0)) ≡ at + 2 + widthOf (d .tag) = omega arith in
       rw e at (located-rest (written (descriptorFields d)) (d .content) h (length-written (descriptorFields d)))
 
   descriptor-step : stepAt s at
-      ≡ Raw (d .tag) (partAt (at + 2 + lengthWidth (d .tag)) (length (d .content))) (at + length (descriptorSent d))
+      ≡ Raw (d .tag) (partAt (at + 2 + widthOf (d .tag)) (length (d .content))) (at + length (descriptorSent d))
   unfolding stepAt
   descriptor-step =
-      let w = lengthWidth (d .tag) in
+      let w = widthOf (d .tag) in
       let n = length (d .content) in
       let long = located-within (descriptorSent d) h in
       let size = descriptor-length d in
       let tag : be 2 s at ≡ d .tag = first-read (descriptorFields d) descriptor-fits head-located in
       let len : be w s (at + 2) ≡ n = rw add-zero at (field-read (descriptorFields d) descriptor-fits head-located 1) in
       let next : at + length (descriptorSent d) ≡ at + 2 + w + n = omega arith in
-      rw (lt-leb (length s) at (omega arith), le-ltb (length s - at) 2 (omega arith), tag)
+      rw (lt-leb (length s) at (omega arith), le-ltb (length s - at) 2 (omega arith), tag, width-read (d .tag) (c .tag))
       (rw (le-ltb (length s - (at + 2)) w (omega arith), len)
       (rw (le-ltb (length s - (at + 2 + w)) n (omega arith), next)))
 

@@ -10,16 +10,14 @@ use lib.ListN.{length, getD, length-append, length-map}
 use borrow.Author.Tests.{le-leb, lt-leb, eq-eqb, ne-eqb}
 use Rattle.isdb_tlv.specs.Guards.{_=?_}
 use Rattle.isdb_tlv.specs.Tlv.{packetType}
-use Rattle.isdb_tlv.specs.Mmtp.{payloadType, scrambleInfo, mmtpOf}
+use Rattle.isdb_tlv.specs.Mmtp.{mmtpOf}
 use Rattle.isdb_tlv.specs.Fields.{bytesOf}
-use Rattle.isdb_tlv.specs.Iso23008.{Mmtp, scramblingOf, headerOf, sent as mmtpSent}
+use Rattle.isdb_tlv.specs.Iso23008.{Mmtp, headerOf, sent as mmtpSent}
 use Rattle.isdb_tlv.specs.Rfc791.{flowOf as ipv4Flow}
 use Rattle.isdb_tlv.specs.Rfc8200.{flowOf as ipv6Flow}
 use Rattle.isdb_tlv.specs.StdB32.{ipv6Id, Hcfb, ipv6IdFits, HcfbConforming, flowIn, hcfbSent}
 use Rattle.isdb_tlv.specs.declared.ip.MaybeFlow.{MaybeFlow}
 use Rattle.isdb_tlv.specs.declared.ip.MaybeFlow.the-variants.{None as noFlow, Some as someFlow}
-use Rattle.isdb_tlv.specs.declared.mmtp.Scramble.{Scramble}
-use Rattle.isdb_tlv.specs.declared.mmtp.Scramble.the-variants.{Absent, NoByte, Bits}
 use Rattle.isdb_tlv.proofs.Guards.{cond-elim, either}
 use Rattle.isdb_tlv.proofs.Rfc791.{rfc791}
 use Rattle.isdb_tlv.proofs.Rfc8200.{rfc8200}
@@ -38,7 +36,7 @@ use Rattle.isdb_mmt.proofs.Maps.{eqb-self, eqb-true, find-put, find-put
 use Rattle.isdb_mmt.specs.Standards.StdB60Mpu.{Division, head, middle, last, divisionSeen, payloadSent, headerSeen}
 use Rattle.isdb_mmt.specs.Standards.StdB60Mpu.{mfuSeen, itemSeen, unitSeen, mediaSeen}
 use Rattle.isdb_mmt.specs.Standards.StdB60Objects.{ObjectPart, SentObject, partPayload, partPacket, nextNumber, packetsFrom, objectPackets, dataFrom}
-use Rattle.isdb_mmt.specs.Standards.StdB60Objects.{Clear, PartConforming, PartsConforming, received, Before, Delivers, ObjectTheorem}
+use Rattle.isdb_mmt.specs.Standards.StdB60Objects.{PartConforming, PartsConforming, received, Before, Delivers, ObjectTheorem}
 use Rattle.isdb_mmt.specs.Standards.StdB60Objects.{isOf, idPackets, idRecords, AmongOthersTheorem, NotNtp, Carried, byIpv4, byIpv6, byHcfb, AllCarried, FeedTheorem}
 use Rattle.isdb_mmt.specs.Standards.StdB60Objects.{exampleObject, ObjectExample}
 use Rattle.isdb_mmt.proofs.StdB60Mpu.{payloads}
@@ -49,18 +47,12 @@ partSeen o n d x = mediaSeen (headerOf (partPacket o n d x)) (partPayload o d x)
 
 part-received : (o : SentObject) (n : ℕ) (d : Division) (x : ObjectPart) → PartConforming o n d x
     → received (partPacket o n d x) ≡ media (partSeen o n d x)
-unfolding payloadType
 part-received o n d x c =
     let m = partPacket o n d x in
     let p = partPayload o d x in
     let r = iso23008 m (c .packet) in
     let e = rw (append-nil (payloadSent p)) at (payloads p (c .payload) [] .media (headerOf m)) in
     rw (r .fields, r .payload, e)
-
-clear-read : (z : Scramble) → Clear z → scrambleInfo z ≡ false
-clear-read Absent c = refl
-clear-read NoByte c = absurd c
-clear-read (Bits z) c = lt-leb 2 z c
 
 -- what follows the last number leaves no gap
 no-gap : (l : Option ℕ) (n : ℕ) → Before l n → gap l n ≡ false
@@ -196,8 +188,7 @@ module _ (o : SentObject) (n : ℕ) (d : Division) (x : ObjectPart) (c : PartCon
   part-takes : Before (a .number) n → Takes a (partSeen o n d x) (effectOf (divisionSeen d) (a .held) (partObject o x))
   unfolding objectOf
   part-takes b =
-      let unscrambled = clear-read (scramblingOf (x .frame .extension)) (c .clear) in
-      takes a (partSeen o n d x) (headerSeen (partPayload o d x)) (unitSeen d (x .unit)) b unscrambled refl refl
+      takes a (partSeen o n d x) (headerSeen (partPayload o d x)) (unitSeen d (x .unit)) b (c .clear) refl refl
 
 grown-twice : (g : Mfu) (a b : Bytes) → grown (grown g a) b ≡ grown g (a ++ b)
 unfolding grown
@@ -389,10 +380,10 @@ object-example =
     record {
       conforms =
           record {
-            first = record { packet = omega arith; payload = omega arith; clear = tt };
+            first = record { packet = omega arith; payload = omega arith; clear = refl };
             others = (
-              record { packet = omega arith; payload = omega arith; clear = tt },
-              record { packet = omega arith; payload = omega arith; clear = omega arith },
+              record { packet = omega arith; payload = omega arith; clear = refl },
+              record { packet = omega arith; payload = omega arith; clear = refl },
             );
           };
       bytes = refl;

@@ -10,30 +10,35 @@ use lib.Seq.{drop-at}
 use borrow.Author.Tests.{le-ltb}
 use Rattle.isdb_tlv.specs.Bytes.{be}
 use Rattle.isdb_tlv.specs.Fields.{written, Fit}
-use Rattle.isdb_tlv.specs.Tlv.{typeByte, packetType}
+use Rattle.isdb_tlv.specs.Tlv.{packetType}
 use Rattle.isdb_tlv.specs.Ip.{contextId, headerType as typeRead, datagram, partialIpv4, partialIpv6, headerId, compressedOf}
-use Rattle.isdb_tlv.specs.StdB32.{Tlv, tlvHeader, tlvSent, Defined, TlvConforming, TlvTheorem}
+use Rattle.isdb_tlv.specs.StdB32.{Kind, ipv4Packet, ipv6Packet, compressedIp, transmissionControl, nullPacket, kindCode, kindSeen}
+use Rattle.isdb_tlv.specs.StdB32.{Tlv, tlvHeader, tlvSent, TlvConforming, TlvTheorem}
 use Rattle.isdb_tlv.specs.StdB32.{Header, ipv4, ipv4Id, ipv6, ipv6Id, headerType, compressedFields, Hcfb, hcfbFields, hcfbSent}
 use Rattle.isdb_tlv.specs.StdB32.{HeaderConforming, ipv4Fits, ipv4IdFits, ipv6Fits, ipv6IdFits, HcfbConforming, flowIn, startOf, HcfbTheorem}
-use Rattle.isdb_tlv.specs.declared.tlv.PacketType.{PacketType}
-use Rattle.isdb_tlv.specs.declared.tlv.PacketType.the-variants.{Ipv4, Ipv6, Compressed, Control, Null, Other}
 use Rattle.isdb_tlv.specs.declared.ip.MaybeContext.the-variants.{Some as someContext}
 use Rattle.isdb_tlv.proofs.Fields.{be-one, size, fieldAt, offsetOf, length-written, read}
 
--- a defined kind is the one that its byte names
-kind-named : (k : PacketType) → Defined k → (typeByte k < 256) × (packetType (typeByte k) ≡ k)
+-- a kind's number fits its byte, and names it
+kind-fits : (k : Kind) → kindCode k < 256
+kind-fits ipv4Packet = omega arith
+kind-fits ipv6Packet = omega arith
+kind-fits compressedIp = omega arith
+kind-fits transmissionControl = omega arith
+kind-fits nullPacket = omega arith
+
+kind-named : (k : Kind) → packetType (kindCode k) ≡ kindSeen k
 unfolding packetType
-kind-named Ipv4 h = (omega arith, refl)
-kind-named Ipv6 h = (omega arith, refl)
-kind-named Compressed h = (omega arith, refl)
-kind-named Control h = (omega arith, refl)
-kind-named Null h = (omega arith, refl)
-kind-named (Other v) h = absurd h
+kind-named ipv4Packet = refl
+kind-named ipv6Packet = refl
+kind-named compressedIp = refl
+kind-named transmissionControl = refl
+kind-named nullPacket = refl
 
 module _ (t : Tlv) (c : TlvConforming t) where
   of-tlv : (k : ℕ) → be (fieldAt k (tlvHeader t) .width) (tlvSent t) (offsetOf k (tlvHeader t)) ≡ fieldAt k (tlvHeader t) .value
   unfolding tlvSent
-  of-tlv k = read (tlvHeader t) (let h = kind-named (t .kind) (c .kind) .0 in omega arith) k (t .content)
+  of-tlv k = read (tlvHeader t) (let h = kind-fits (t .kind) in let n = c .short in omega arith) k (t .content)
 
   content : drop 4 (tlvSent t) ≡ t .content
   unfolding tlvSent
@@ -43,7 +48,7 @@ pub tlv : TlvTheorem
 tlv t c =
     record {
       sync = be-one (tlvSent t) 0 ∙ of-tlv t c 0;
-      kind = rw (be-one (tlvSent t) 1 ∙ of-tlv t c 1) (kind-named (t .kind) (c .kind) .1);
+      kind = rw (be-one (tlvSent t) 1 ∙ of-tlv t c 1) (kind-named (t .kind));
       contentLength = of-tlv t c 2;
       content = content t c;
     }

@@ -6,43 +6,56 @@ use mathlib.Core.List.{List, [], _∷_, _++_}
 use lib.ListN.{length, drop, getD}
 use Rattle.isdb_tlv.specs.Bytes.{be}
 use Rattle.isdb_tlv.specs.Fields.{Field, field, bits, packed, written}
-use Rattle.isdb_tlv.specs.Tlv.{typeByte, packetType}
+use Rattle.isdb_tlv.specs.Tlv.{packetType}
 use Rattle.isdb_tlv.specs.Ip.{datagram, compressedOf}
 use Rattle.isdb_tlv.specs.declared.tlv.PacketType.{PacketType}
-use Rattle.isdb_tlv.specs.declared.tlv.PacketType.the-variants.{Ipv4, Ipv6, Compressed, Control, Null, Other}
+use Rattle.isdb_tlv.specs.declared.tlv.PacketType.the-variants.{Ipv4, Ipv6, Compressed, Control, Null}
 use Rattle.isdb_tlv.specs.declared.ip.Address.the-variants.{V4, V6}
 use Rattle.isdb_tlv.specs.declared.ip.MaybeFlow.{MaybeFlow}
 use Rattle.isdb_tlv.specs.declared.ip.MaybeFlow.the-variants.{None as noFlow, Some as someFlow}
 use Rattle.isdb_tlv.specs.declared.ip.MaybeContext.the-variants.{Some as someContext}
 
--- 3.5: a TLV packet is the bits 01 and 111111, a type, a length and so many bytes of data
+-- 3.5: the types of packets and their numbers
+pub data Kind : Type 0 where
+  ipv4Packet : Kind
+  ipv6Packet : Kind
+  compressedIp : Kind
+  transmissionControl : Kind
+  nullPacket : Kind
+
+abbrev pub kindCode : Kind → ℕ
+kindCode ipv4Packet = 0x01
+kindCode ipv6Packet = 0x02
+kindCode compressedIp = 0x03
+kindCode transmissionControl = 0xFE
+kindCode nullPacket = 0xFF
+
+abbrev pub kindSeen : Kind → PacketType
+kindSeen ipv4Packet = Ipv4
+kindSeen ipv6Packet = Ipv6
+kindSeen compressedIp = Compressed
+kindSeen transmissionControl = Control
+kindSeen nullPacket = Null
+
+-- a TLV packet is the bits 01 and 111111, its type, a length and so many bytes of data
 pub record Tlv : Type 0 where
-  pub kind : PacketType
+  pub kind : Kind
   pub content : List ℕ
 
 abbrev pub tlvHeader : Tlv → List Field
-tlvHeader t = field 1 0x7F ∷ field 1 (typeByte (t .kind)) ∷ field 2 (length (t .content)) ∷ []
+tlvHeader t =
+    field 1 (packed (bits 2 0b01 ∷ bits 6 0b111111 ∷ [])) ∷ field 1 (kindCode (t .kind)) ∷ field 2 (length (t .content)) ∷ []
 
 unfoldable pub tlvSent : Tlv → List ℕ
 tlvSent t = written (tlvHeader t) ++ t .content
 
--- a kind that the standard defines
-abbrev pub Defined : PacketType → Type 0
-Defined Ipv4 = Unit {0}
-Defined Ipv6 = Unit {0}
-Defined Compressed = Unit {0}
-Defined Control = Unit {0}
-Defined Null = Unit {0}
-Defined (Other v) = ⊥
-
--- such a kind, and content of at most 65,535 bytes
+-- content of at most 65,535 bytes
 pub record TlvConforming (t : Tlv) : Type 0 where
-  pub kind : Defined (t .kind)
   pub short : length (t .content) < 2 ^ 16
 
 pub record TlvRead (t : Tlv) : Type 0 where
   pub sync : getD (tlvSent t) 0 0 ≡ 0x7F
-  pub kind : packetType (getD (tlvSent t) 1 0) ≡ t .kind
+  pub kind : packetType (getD (tlvSent t) 1 0) ≡ kindSeen (t .kind)
   pub contentLength : be 2 (tlvSent t) 2 ≡ length (t .content)
   pub content : drop 4 (tlvSent t) ≡ t .content
 

@@ -2,14 +2,15 @@
 -- (Table 7-9) and sections (7.2.3.2); and what it means to read them right.
 use Prim.Native.Nat.{ℕ, _+_, _^_, _<_}
 use mathlib.Core.Path.{_≡_}
+use mathlib.Core.Bool.{_&&_}
 use mathlib.Core.List.{List, [], _∷_, _++_, map}
 use mathlib.Core.Option.{none}
 use lib.ListN.{length, drop}
-use Rattle.isdb_tlv.specs.Guards.{_=?_}
+use Rattle.isdb_tlv.specs.Guards.{if_then_else_, _=?_, _≤?_}
 use Rattle.isdb_tlv.specs.Crc.{crcOf}
 use Rattle.isdb_tlv.specs.Fields.{bytesOf, Field, field, bits, packed, written}
 use Rattle.isdb_mmt.specs.Formats.Part.{partAt, partOf}
-use Rattle.isdb_mmt.specs.Formats.Desc.{lengthWidth, RawDescriptor, splitOf}
+use Rattle.isdb_mmt.specs.Formats.Desc.{RawDescriptor, splitOf}
 use Rattle.isdb_mmt.specs.Formats.Location.{locationOf}
 use Rattle.isdb_mmt.specs.Formats.Section.{longSectionOf}
 use Rattle.isdb_mmt.specs.declared.location.Location.{Location}
@@ -18,13 +19,38 @@ use Rattle.isdb_mmt.specs.declared.location.Located.the-variants.{Some a
 use Rattle.isdb_mmt.specs.declared.table.section.SectionHeader.{SectionHeader}
 use Rattle.isdb_mmt.specs.declared.table.section.LongSection.the-variants.{Ok as good}
 
--- 7.4: a descriptor is a tag of 16 bits, a length whose width goes by the tag, and so many bytes
+-- 7.4: the width of a descriptor's length field, in bytes, by its tag: the tags from `first` to `last`
+pub record TagRange : Type 0 where
+  pub first : ℕ
+  pub last : ℕ
+  pub width : ℕ
+
+abbrev pub tagTable : List TagRange
+tagTable =
+    record { first = 0x0000; last = 0x0001; width = 1 }
+    ∷ record { first = 0x0002; last = 0x0002; width = 2 }
+    ∷ record { first = 0x0003; last = 0x3FFF; width = 1 }
+    ∷ record { first = 0x4000; last = 0x6FFF; width = 2 }
+    ∷ record { first = 0x7000; last = 0x7FFF; width = 4 }
+    ∷ record { first = 0x8000; last = 0xEFFF; width = 1 }
+    ∷ record { first = 0xF000; last = 0xFFFF; width = 2 }
+    ∷ []
+
+-- of the line that the tag is in; no bytes where it is in none
+abbrev pub widthIn : List TagRange → ℕ → ℕ
+widthIn [] tag = 0
+widthIn (r ∷ rs) tag = if (r .first ≤? tag) && (tag ≤? r .last) then r .width else widthIn rs tag
+
+unfoldable pub widthOf : ℕ → ℕ
+widthOf tag = widthIn tagTable tag
+
+-- a descriptor is a tag of 16 bits, a length whose width goes by the tag, and so many bytes
 pub record Descriptor : Type 0 where
   pub tag : ℕ
   pub content : List ℕ
 
 abbrev pub descriptorSent : Descriptor → List ℕ
-descriptorSent d = written (field 2 (d .tag) ∷ field (lengthWidth (d .tag)) (length (d .content)) ∷ []) ++ d .content
+descriptorSent d = written (field 2 (d .tag) ∷ field (widthOf (d .tag)) (length (d .content)) ∷ []) ++ d .content
 
 abbrev pub loopSent : List Descriptor → List ℕ
 loopSent [] = []
@@ -32,7 +58,7 @@ loopSent (d ∷ ds) = descriptorSent d ++ loopSent ds
 
 pub record DescriptorConforming (d : Descriptor) : Type 0 where
   pub tag : d .tag < 2 ^ 16
-  pub short : length (d .content) < 256 ^ lengthWidth (d .tag)
+  pub short : length (d .content) < 256 ^ widthOf (d .tag)
 
 abbrev pub LoopConforming : List Descriptor → Type 0
 LoopConforming [] = Unit {0}

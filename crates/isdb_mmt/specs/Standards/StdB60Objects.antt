@@ -9,15 +9,13 @@ use lib.ListN.{length}
 use Rattle.isdb_tlv.specs.Guards.{if_then_else_, _=?_}
 use Rattle.isdb_tlv.specs.Fields.{bytesOf}
 use Rattle.isdb_tlv.specs.Mmtp.{mmtpOf}
-use Rattle.isdb_tlv.specs.Iso23008.{Extension, noExtension, multiType, Mmtp, Conforming, scramblingOf}
+use Rattle.isdb_tlv.specs.Iso23008.{notProtected, mpu, notScrambled, scrambling, Extension, noExtension, multiType, Mmtp, Conforming, scramblingOf, infoSeen}
 use Rattle.isdb_tlv.specs.Iso23008.{sent as mmtpSent}
 use Rattle.isdb_tlv.specs.Rfc791.{Ipv4, Conforming as Ipv4Conforming, flowOf as ipv4Flow, sent as ipv4Sent}
 use Rattle.isdb_tlv.specs.Rfc8200.{Ipv6, Conforming as Ipv6Conforming, flowOf as ipv6Flow, sent as ipv6Sent}
 use Rattle.isdb_tlv.specs.StdB32.{Hcfb, HcfbConforming, flowIn, hcfbSent}
 use Rattle.isdb_tlv.specs.declared.ip.MaybeFlow.{MaybeFlow}
 use Rattle.isdb_tlv.specs.declared.ip.MaybeFlow.the-variants.{None as noFlow, Some as someFlow}
-use Rattle.isdb_tlv.specs.declared.mmtp.Scramble.{Scramble}
-use Rattle.isdb_tlv.specs.declared.mmtp.Scramble.the-variants.{Absent, NoByte, Bits}
 use Rattle.isdb_mmt.specs.Decoder.Packet.{Packet, ipError, ntp, nonMmtp, media, message, control, other, mmtpIn}
 use Rattle.isdb_mmt.specs.Decoder.Objects.{Mfu, Asset, Rec}
 use Rattle.isdb_mmt.specs.Decoder.Model.{State, opened, assetOf}
@@ -45,7 +43,7 @@ abbrev pub partPayload : SentObject → Division → ObjectPart → SentPayload
 partPayload o d x =
     record { timed = o .timed; division = d; counter = x .counter; mpuSequenceNumber = o .mpuSequenceNumber; body = oneUnit (x .unit) }
 
--- payload type 0: an MPU's
+-- of the type of MPU payloads
 abbrev pub partPacket : SentObject → ℕ → Division → ObjectPart → Mmtp
 partPacket o n d x =
     record {
@@ -53,7 +51,7 @@ partPacket o n d x =
       reserved = x .frame .reserved;
       rap = x .frame .rap;
       reserved2 = x .frame .reserved2;
-      payloadType = 0;
+      kind = mpu;
       packetId = o .packetId;
       deliveryTimestamp = x .frame .deliveryTimestamp;
       sequenceNumber = n;
@@ -81,16 +79,11 @@ dataFrom (x ∷ xs) final = x .unit .content ++ dataFrom xs final
 abbrev pub objectData : SentObject → List ℕ
 objectData o = o .first .unit .content ++ dataFrom (o .middles) (o .final)
 
--- not scrambled: no scrambling information, or bits of 0 or 1
-abbrev pub Clear : Scramble → Type 0
-Clear Absent = Unit {0}
-Clear NoByte = ⊥
-Clear (Bits c) = c < 2
-
 pub record PartConforming (o : SentObject) (n : ℕ) (d : Division) (x : ObjectPart) : Type 0 where
   pub packet : Conforming (partPacket o n d x)
   pub payload : PayloadConforming (partPayload o d x)
-  pub clear : Clear (scramblingOf (x .frame .extension))
+  -- no scrambling information, or one that says not scrambled
+  pub clear : infoSeen (scramblingOf (x .frame .extension)) ≡ false
 
 abbrev pub PartsConforming : SentObject → ℕ → List ObjectPart → ObjectPart → Type 0
 PartsConforming o n [] final = PartConforming o n last final
@@ -202,11 +195,11 @@ FeedTheorem = (o : SentObject) → ObjectConforming o → length (objectData o) 
 abbrev pub exampleFrame : ℕ → Option ℕ → Extension → Mmtp
 exampleFrame rap counter extension =
     record {
-      fec = 0;
+      fec = notProtected;
       reserved = 0;
       rap = rap;
       reserved2 = 0;
-      payloadType = 0;
+      kind = mpu;
       packetId = 0;
       deliveryTimestamp = 8;
       sequenceNumber = 0;
@@ -228,7 +221,7 @@ exampleObject =
       mpuSequenceNumber = 7;
       first = examplePart (exampleFrame 1 none noExtension) 1 0x01;
       middles = examplePart (exampleFrame 0 (some 5) noExtension) 2 0x02 ∷ [];
-      final = examplePart (exampleFrame 0 none (multiType [] (record { type = 1; content = 0x00 ∷ [] }))) 3 0x03;
+      final = examplePart (exampleFrame 0 none (multiType [] (scrambling 0 notScrambled 0 []))) 3 0x03;
     }
 
 -- behind the MMTP headers stand payloads of crates/cases/stdin, each a line `units HEX`
