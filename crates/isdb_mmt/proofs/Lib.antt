@@ -23,6 +23,9 @@ pub mod StdB60Messages
 pub mod StdB60MessageIds
 pub mod StdB60Kept
 pub mod StdB60Scan
+pub mod StdB60Rows
+pub mod StdB60Extended
+pub mod StdB60Descriptors
 pub mod Steps
 pub mod Walks
 pub mod SectionWalks

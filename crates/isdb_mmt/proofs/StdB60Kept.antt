@@ -2,33 +2,35 @@
 -- nothing.
 use Prim.Native.Nat.{ℕ, _+_, _%_, _^_, _≤_, _<_}
 use mathlib.Core.Path.{_≡_, refl, sym, ap, subst, _∙_}
-use mathlib.Core.Bool.{true, false}
 use mathlib.Core.List.{List, [], _∷_, _++_, append-nil, map, map-append}
-use mathlib.Core.Option.{Option, none, some}
+use mathlib.Core.Option.{Option, some}
 use native.Mathlib.Nat.{add-zero, add-assoc}
 use native.Mathlib.Omega.{arith}
 use lib.Dec.{ltb, leb, eqb}
-use lib.ListN.{length, getD, take}
-use borrow.Author.Tests.{le-ltb, le-leb, ne-eqb, ltb-false, leb-true, eq-eqb}
+use lib.ListN.{length, getD}
+use borrow.Author.Tests.{le-ltb, le-leb, ne-eqb, ltb-false, leb-true}
 use Rattle.isdb_tlv.specs.Bytes.{be}
 use Rattle.isdb_tlv.specs.Fields.{bytesOf, written, Fit}
 use Rattle.isdb_tlv.proofs.Guards.{cond-elim}
-use Rattle.isdb_mmt.specs.Decoder.Maps.{find, put, orElse, one}
+use Rattle.isdb_mmt.specs.Decoder.Maps.{orElse, one}
 use Rattle.isdb_mmt.specs.Decoder.Packet.{Bytes, MessagePacket, messagePacket, message}
 use Rattle.isdb_mmt.specs.Decoder.Reassembly.{Reassembly, short, reassemblyAfter, messageCompleted, orphan, oversize, cutOfAll}
-use Rattle.isdb_mmt.specs.Decoder.Kept.{Table, KeptTables, tableById, tableRead, longTable, mptTable, mptAfter, mptAfterAll, stored, storedAll, tableCounted, tableIncrements, countedAll}
+use Rattle.isdb_mmt.specs.Decoder.Kept.{Table, KeptTables, tableById, tableRead, longTable, mptAfter, mptAfterAll, stored, storedAll}
+use Rattle.isdb_mmt.specs.Decoder.Kept.{tableCounted, tableIncrements, countedAll}
 use Rattle.isdb_mmt.specs.Decoder.GivenTables.{tablesGiven}
-use Rattle.isdb_mmt.specs.Decoder.Model.{State, Control, controlOf, reassemblyOf, packetCounted, messageCounted, reassemblyCounted, pushed}
+use Rattle.isdb_mmt.specs.Decoder.Model.{State, Control, controlOf, reassemblyOf, packetCounted, messageCounted, reassemblyCounted}
+use Rattle.isdb_mmt.specs.Decoder.Model.{pushed}
 use Rattle.isdb_mmt.specs.Books.Demand.{pushAll}
 use Rattle.isdb_mmt.specs.Standards.StdB60Sections.{All}
-use Rattle.isdb_mmt.specs.Standards.StdB60Tables.{tableHead, SentMpt, mptRest, mptSent, MptConforming}
+use Rattle.isdb_mmt.specs.Standards.StdB60Tables.{tableHead, SentMpt, mptRest, mptSent}
 use Rattle.isdb_mmt.specs.declared.decoder.counts.Counters.{Counters}
 use Rattle.isdb_mmt.proofs.Maps.{find-put}
-use Rattle.isdb_mmt.proofs.BytesAt.{FoundAt, located-first, field-read, byte-read}
-use Rattle.isdb_mmt.proofs.StdB60Tables.{Headed, headed, mpt}
-use Rattle.isdb_mmt.specs.Standards.StdB60Messages.{SentTable, tableFields, tableSent, TableConforming}
-use Rattle.isdb_mmt.specs.Standards.StdB60Messages.{SentContent, contentTables, SentControl, controlSent, SentPart, SentDivided, restSent, dividedSent, numberBehind, joinedBy, joinedWhole}
-use Rattle.isdb_mmt.specs.Standards.StdB60Kept.{stateAfter, ContentPushed, IsMptId, NoMpt, LastMpt, mptAsTable, MptInPa, mptInPaSent, MptInPaConforming, MptInPaKept, mptWitness, mptWitnessBytes, MptWitness, UndividedPushed, DividedPushed, MptRecognized, MptKept}
+use Rattle.isdb_mmt.proofs.BytesAt.{located-first, field-read, byte-read}
+use Rattle.isdb_mmt.proofs.StdB60Tables.{headed, mpt}
+use Rattle.isdb_mmt.specs.Standards.StdB60Messages.{SentTable, tableFields, tableSent, TableConforming, SentContent, contentTables}
+use Rattle.isdb_mmt.specs.Standards.StdB60Messages.{controlSent, SentPart, restSent, dividedSent, numberBehind, joinedBy, joinedWhole}
+use Rattle.isdb_mmt.specs.Standards.StdB60Kept.{stateAfter, ContentPushed, NoMpt, LastMpt, mptAsTable, mptInPaSent, MptInPaKept, mptWitness}
+use Rattle.isdb_mmt.specs.Standards.StdB60Kept.{mptWitnessBytes, MptWitness, UndividedPushed, DividedPushed, MptRecognized, MptKept}
 use Rattle.isdb_mmt.proofs.StdB60Messages.{controls, divided}
 
 -- an MPT is told from its bytes
@@ -128,7 +130,8 @@ one-does : (s : State) (x : MessagePacket) → Does s x (x .id) (controlOf (x .i
 unfolding pushed orElse reassemblyCounted messageCounted packetCounted
 one-does s x =
     let l = reassemblyOf (x .id) s in
-    let r = untouched (controlOf (x .id) s .mpt) (s .store) (reassemblyCounted (packetCounted (s .counters) 0 0 0) l x) (tablesGiven l x) in
+    let c = reassemblyCounted (packetCounted (s .counters) 0 0 0) l x in
+    let r = untouched (controlOf (x .id) s .mpt) (s .store) c (tablesGiven l x) in
     record {
       control = rw find-put;
       store = refl;
@@ -145,10 +148,17 @@ record PushedAs (s : State) (id : ℕ) (k : Control) (xs : List MessagePacket) :
   oversizes : stateAfter s xs .counters .oversize ≡ s .counters .oversize + joinedBy (k .reassembly) xs .oversizes
   malformed : stateAfter s xs .counters .«message_malformed» ≡ s .counters .«message_malformed» + joinedBy (k .reassembly) xs .malformed
 
-joined-pushed : (id : ℕ) (xs : List MessagePacket) → All (λ x. x .id ≡ id) xs → (s : State) (k : Control) → controlOf id s ≡ k → PushedAs s id k xs
+joined-pushed : (id : ℕ) (xs : List MessagePacket) → All (λ x. x .id ≡ id) xs → (s : State) (k : Control) → controlOf id s ≡ k
+    → PushedAs s id k xs
 unfolding pushAll mptAfterAll storedAll
 joined-pushed id [] h s k d =
-    record { mpt = ap (λ y. y .mpt) d; store = refl; orphans = sym (add-zero _); oversizes = sym (add-zero _); malformed = sym (add-zero _) }
+    record {
+      mpt = ap (λ y. y .mpt) d;
+      store = refl;
+      orphans = sym (add-zero _);
+      oversizes = sym (add-zero _);
+      malformed = sym (add-zero _);
+    }
 joined-pushed id (x ∷ xs) h s k d =
     let c = s .counters in
     let l = k .reassembly in
@@ -157,10 +167,14 @@ joined-pushed id (x ∷ xs) h s k d =
     let r = joined-pushed id xs (h .1) (pushed s (message x)) (controlAfter k x) (e .control) in
     record {
       mpt = r .mpt ∙ sym (mpt-behind (k .mpt) (givenBy k x) (rest .tables));
-      store = r .store ∙ ap (λ y. storedAll y (map tableRead (rest .tables))) (e .store) ∙ sym (store-behind (s .store) (givenBy k x) (rest .tables));
+      store =
+          r .store ∙ ap (λ y. storedAll y (map tableRead (rest .tables))) (e .store)
+          ∙ sym (store-behind (s .store) (givenBy k x) (rest .tables));
       orphans = r .orphans ∙ rw (e .orphans) (add-assoc (c .«orphan_fragments») (one (orphan l x)) (rest .orphans));
       oversizes = r .oversizes ∙ rw (e .oversizes) (add-assoc (c .oversize) (one (oversize l x)) (rest .oversizes));
-      malformed = r .malformed ∙ rw (e .malformed) (add-assoc (c .«message_malformed») (one (short x) + cutOfAll (messageCompleted l x) .malformed) (rest .malformed));
+      malformed =
+          r .malformed
+          ∙ rw (e .malformed) (add-assoc (c .«message_malformed») (one (short x) + cutOfAll (messageCompleted l x) .malformed) (rest .malformed));
     }
 
 -- a content that is joined whole
@@ -223,7 +237,8 @@ mpt-in-pa x c s id number =
       all = append-nil _ ∙ map-append tableSent (x .before) (t ∷ x .behind) ∙ rw (mpt-as-table (x .mpt) (x .listed));
       others = others-sent (x .behind) behind (c .others);
     } in
-    mpt-kept (x .mpt) (c .mpt) (c .id) (p .content) last id (messagePacket id number (controlSent p) ∷ []) (undivided-pushed p (c .payload) id number) s
+    let pushes = undivided-pushed p (c .payload) id number in
+    mpt-kept (x .mpt) (c .mpt) (c .id) (p .content) last id (messagePacket id number (controlSent p) ∷ []) pushes s
 
 pub mpt-witness : MptWitness mptWitness mptWitnessBytes
 unfolding controlSent bytesOf

@@ -1,39 +1,39 @@
 -- What a sender that conforms to ARIB STD-B60 writes of messages is listed right: every message with its id and table ids. Assumes
 -- nothing.
-use Prim.Native.Nat.{ℕ, zero, suc, _+_, _-_, _*_, _/_, _%_, _^_, _≤_, _<_}
+use Prim.Native.Nat.{ℕ, _+_, _-_, _*_, _^_, _≤_, _<_}
 use mathlib.Core.Path.{_≡_, refl, sym, _∙_}
-use mathlib.Core.Bool.{cond}
 use mathlib.Core.List.{List, [], _∷_, _++_, map}
 use mathlib.Core.Option.{some}
-use native.Mathlib.Nat.{add-zero}
 use native.Mathlib.Omega.{arith}
 use lib.Dec.{leb, eqb}
-use lib.ListN.{length, getD, take, drop, length-append, List·getD-append}
+use lib.ListN.{length, getD, take, length-append, List·getD-append}
 use lib.Seq.{take-all, getD-drop}
-use borrow.Author.Tests.{le-ltb, lt-ltb, lt-leb, le-leb, eq-eqb, ne-eqb, leb-true, eqb-true, eqb-false}
+use borrow.Author.Tests.{le-ltb, lt-leb, le-leb, eq-eqb, ne-eqb, leb-true, eqb-true, eqb-false}
 use Rattle.isdb_tlv.specs.Bytes.{be}
 use Rattle.isdb_tlv.specs.Walk.{also}
 use Rattle.isdb_tlv.specs.Fields.{Field, field, written, Fit}
-use Rattle.isdb_tlv.specs.Messages.{insert, insertAll, setOf, noTableIds, listedFrom, walkedFrom, paTables, paMessage, sectionMessage, messageOf, messageIn, prefixedAt, messageAt, messageStep, messagesFrom, messagesOf}
+use Rattle.isdb_tlv.specs.Messages.{insert, insertAll, setOf, noTableIds, listedFrom, walkedFrom, paTables, paMessage, sectionMessage}
+use Rattle.isdb_tlv.specs.Messages.{messageOf, messageIn, prefixedAt, messageAt, messageStep, messagesFrom, messagesOf}
 use Rattle.isdb_tlv.specs.declared.mmtp.TableIds.{TableIds}
-use Rattle.isdb_tlv.specs.declared.mmtp.Message.{Message}
 use Rattle.isdb_tlv.specs.declared.mmtp.MaybeMessage.the-variants.{Some as someMessage}
 use Rattle.isdb_tlv.specs.declared.mmtp.MessageStep.the-variants.{End, Found}
 use Rattle.isdb_tlv.proofs.Guards.{either}
 use Rattle.isdb_tlv.proofs.Fields.{be-one, length-written}
 use Rattle.isdb_tlv.proofs.Messages.{insert-both, walked-next, walked-end, messages-at}
 use Rattle.isdb_mmt.specs.Standards.StdB60Sections.{All}
-use Rattle.isdb_mmt.proofs.BytesAt.{FoundAt, located-whole, located-part, located-drop, located-within, located-front, located-rest, field-read, first-read, byte-read}
-use Rattle.isdb_mmt.specs.Standards.StdB60Messages.{SentTable, tableFields, tableSent, tablesSent, listFields, listSent, paBody}
-use Rattle.isdb_mmt.specs.Standards.StdB60Messages.{SentMessage, pa, m2Section, ca, m2ShortSection, paFields, oneTableFields, oneTableSent, messageSent}
-use Rattle.isdb_mmt.specs.Standards.StdB60Messages.{TableConforming, OneTableConforming, PaConforming, MessageConforming, tableIds, messageSeen}
-use Rattle.isdb_mmt.specs.Standards.StdB60Messages.{single, aggregated, Carried, aggregationFlag, lengthWidth, aggregatedSent, SentContent, carriedSent, contentSent, SentControl, controlSent}
-use Rattle.isdb_mmt.specs.Standards.StdB60Messages.{Sized, CarriedConforming, ControlConforming, carriedMessages, ListedTheorem}
+use Rattle.isdb_mmt.proofs.BytesAt.{FoundAt, located-whole, located-part, located-drop, located-within, located-front, located-rest}
+use Rattle.isdb_mmt.proofs.BytesAt.{field-read, first-read}
+use Rattle.isdb_mmt.specs.Standards.StdB60Messages.{SentTable, tableFields, tableSent, tablesSent, listFields, listSent, paBody, SentMessage}
+use Rattle.isdb_mmt.specs.Standards.StdB60Messages.{pa, m2Section, ca, m2ShortSection, oneTableSent, messageSent, TableConforming}
+use Rattle.isdb_mmt.specs.Standards.StdB60Messages.{OneTableConforming, PaConforming, MessageConforming, tableIds, messageSeen, single}
+use Rattle.isdb_mmt.specs.Standards.StdB60Messages.{aggregated, Carried, aggregationFlag, lengthBytes, aggregatedSent, SentContent}
+use Rattle.isdb_mmt.specs.Standards.StdB60Messages.{carriedSent, Sized, CarriedConforming, carriedMessages, ListedTheorem}
 use Rattle.isdb_mmt.proofs.StdB60Messages.{table-length, one-table-fields, pa-body, pa-count, pa-fields, Payload, undivided}
 
 -- the ids of the list
 module _ {s : List ℕ} where
-  listed-read : (at : ℕ) (ts : List SentTable) → All TableConforming ts → FoundAt s at (listSent ts) → listedFrom (length ts) s at ≡ tableIds ts
+  listed-read : (at : ℕ) (ts : List SentTable) → All TableConforming ts → FoundAt s at (listSent ts)
+      → listedFrom (length ts) s at ≡ tableIds ts
   listed-read at [] c h = refl
   listed-read at (t ∷ ts) c h =
       let front = located-front (written (listFields t)) (listSent ts) h in
@@ -58,7 +58,8 @@ module _ {s : List ℕ} where
       let id : getD s at 0 ≡ t .id = be-one s at ∙ first-read (tableFields t) fits front in
       let len : be 2 s (at + 2) ≡ length (t .content) = field-read (tableFields t) fits front 2 in
       let next : at + length (tableSent t) ≡ at + 4 + length (t .content) = omega arith in
-      let rest = walked-read (at + 4 + length (t .content)) ts (insert (t .id) u) (c .1) (rw next at (located-rest (tableSent t) (tablesSent ts) h refl))
+      let behind = located-rest (tableSent t) (tablesSent ts) h refl in
+      let rest = walked-read (at + 4 + length (t .content)) ts (insert (t .id) u) (c .1) (rw next at behind)
       (omega (arith, length-append (tableSent t) (tablesSent ts))) in
       sym (walked-next s at (length (t .content)) u (insert (t .id) u) (omega arith) (rw id) (sym len)) ∙ rest
 
@@ -71,7 +72,8 @@ module _ (id v : ℕ) (t : List ℕ) (from : 0x8000 ≤ id) (to : id ≤ 0x8002)
       let f = one-table-fields id v t from to c in
       let long = f .long in
       let there = c .there in
-      let first : getD m 5 0 ≡ getD t 0 0 = sym (getD-drop 5 m 0 0) ∙ rw (located-drop t (f .body)) (List·getD-append t (f .body .behind) 0 0 there) in
+      let first : getD m 5 0 ≡ getD t 0 0 =
+      sym (getD-drop 5 m 0 0) ∙ rw (located-drop t (f .body)) (List·getD-append t (f .body .behind) 0 0 there) in
       rw (le-ltb (length m) 2 (omega arith), f .kind, ne-eqb id 0 (λ e. omega arith), le-ltb id 0x8000 from, le-leb id 0x8002 to)
       (rw (le-ltb (length m) 6 (omega arith), first))
 
@@ -121,7 +123,8 @@ module _ {s : List ℕ} {c : SentContent} {b : List ℕ} (u : Payload s 0 c b) w
   none-left : (at : ℕ) → 2 < at → length s ≤ at → messagesFrom s at ≡ some []
   unfolding messageStep
   none-left at from h =
-      let end : messageStep s at ≡ End = rw (le-ltb (length s) 2 (omega (arith, u .long)), u .division, lt-leb at 2 from, le-leb (length s) at h) in
+      let end : messageStep s at ≡ End =
+      rw (le-ltb (length s) 2 (omega (arith, u .long)), u .division, lt-leb at 2 from, le-leb (length s) at h) in
       messages-at s at ∙ rw end
 
   -- one message
@@ -140,7 +143,7 @@ module _ {s : List ℕ} {c : SentContent} {b : List ℕ} (u : Payload s 0 c b) w
   -- aggregated messages, each behind its length
   module _ (flag : aggregationFlag (c .carried) ≡ 1) (bit : c .extension < 2) where
     abbrev w : ℕ
-    w = lengthWidth (c .extension)
+    w = lengthBytes (c .extension)
 
     abbrev lengthField : SentMessage → List Field
     lengthField m = field w (length (messageSent m)) ∷ []
@@ -160,14 +163,16 @@ module _ {s : List ℕ} {c : SentContent} {b : List ℕ} (u : Payload s 0 c b) w
     next-listed at m r from h fits found =
         let n = length (messageSent m) in
         let size : length (written (lengthField m)) ≡ w = rw (length-written (lengthField m)) (omega arith) in
-        let len : be w s at ≡ n = first-read (lengthField m) (fits, tt) (located-front (written (lengthField m)) (messageSent m ++ r) found) in
+        let front = located-front (written (lengthField m)) (messageSent m ++ r) found in
+        let len : be w s at ≡ n = first-read (lengthField m) (fits, tt) front in
         let here = located-front (messageSent m) r (located-rest (written (lengthField m)) (messageSent m ++ r) found size) in
         let within = located-within (messageSent m) here in
         let long = message-long m h in
         let out : at + w + n - (at + w) ≡ n = omega arith in
         let step : messageStep s at ≡ Found (messageSeen m) (at + w + n) =
         step-at at from (omega arith) ∙ prefixed at
-        ∙ rw (le-ltb (length s - at) w (omega arith), len, le-ltb (length s - (at + w)) n (omega arith), out, located-part (messageSent m) here, message-seen m h) in
+        ∙ rw (le-ltb (length s - at) w (omega arith), len, le-ltb (length s - (at + w)) n (omega arith), out)
+        (rw (located-part (messageSent m) here, message-seen m h)) in
         messages-at s at ∙ rw step
 
     -- what follows it, and that it ends where all ends
@@ -193,8 +198,8 @@ module _ {s : List ℕ} {c : SentContent} {b : List ℕ} (u : Payload s 0 c b) w
         let on = several-listed (at + w + length (messageSent m)) n ms (omega arith) (h .1) (fits .1) (r .0) (r .1) in
         next-listed at m (aggregatedSent w (n ∷ ms)) from (h .0) (fits .0) found ∙ rw on
 
-carried-listed : {s : List ℕ} (extension : ℕ) (x : Carried) → extension < 2 → CarriedConforming (lengthWidth extension) x
-    → Payload s 0 (record { extension = extension; carried = x }) (carriedSent (lengthWidth extension) x)
+carried-listed : {s : List ℕ} (extension : ℕ) (x : Carried) → extension < 2 → CarriedConforming (lengthBytes extension) x
+    → Payload s 0 (record { extension = extension; carried = x }) (carriedSent (lengthBytes extension) x)
     → messagesOf s ≡ some (map messageSeen (carriedMessages x))
 unfolding messagesOf
 carried-listed extension (single m) bit h u = single-listed u m h refl refl
@@ -204,4 +209,5 @@ carried-listed extension (aggregated (m ∷ ms)) bit h u =
 
 pub listed : ListedTheorem
 listed p c =
-    record { messages = carried-listed (p .content .extension) (p .content .carried) (c .content .extension) (c .content .carried) (undivided p c) }
+    let x = p .content in
+    record { messages = carried-listed (x .extension) (x .carried) (c .content .extension) (c .content .carried) (undivided p c) }

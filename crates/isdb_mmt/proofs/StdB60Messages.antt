@@ -1,39 +1,45 @@
 -- What a sender that conforms to ARIB STD-B60 writes of control payloads and messages is read right. Assumes nothing.
 use Prim.Native.Nat.{ℕ, _+_, _-_, _*_, _/_, _%_, _^_, _≤_, _<_}
 use mathlib.Core.Path.{_≡_, refl, ap, ap₂, _∙_}
-use mathlib.Core.Bool.{Bool, true, false}
+use mathlib.Core.Bool.{Bool, false}
 use mathlib.Core.List.{List, [], _∷_, _++_, append-assoc, append-nil, map}
 use mathlib.Core.Option.{Option, none, some}
 use native.Mathlib.Nat.{add-zero, zero-add}
 use native.Mathlib.Omega.{arith}
 use lib.ListN.{length, getD, drop, length-append}
 use lib.Seq.{drop-at}
-use borrow.Author.Tests.{le-ltb, lt-ltb, lt-leb, le-leb, ne-eqb, eq-eqb}
+use borrow.Author.Tests.{le-ltb, lt-ltb, le-leb, ne-eqb, eq-eqb}
 use Rattle.isdb_tlv.specs.Guards.{_=?_}
 use Rattle.isdb_tlv.specs.Bytes.{be}
-use Rattle.isdb_tlv.specs.Fields.{bytesOf, Field, field, bits, packed, written, Fit}
+use Rattle.isdb_tlv.specs.Fields.{bytesOf, Field, field, written, Fit}
 use Rattle.isdb_tlv.proofs.Fields.{be-one, length-written}
 use Rattle.isdb_mmt.specs.Formats.Part.{partAt, partOf}
-use Rattle.isdb_mmt.specs.Formats.Message.{divisionOf, fragmentOf, prefixWidth, aggregatedAt, aggregatedFrom, paTables, sectionTable, contentOf, tableAt, tablesFrom, Aggregated}
+use Rattle.isdb_mmt.specs.Formats.Message.{divisionOf, prefixWidth, aggregatedAt, aggregatedFrom, paTables, sectionTable, contentOf}
+use Rattle.isdb_mmt.specs.Formats.Message.{tableAt, tablesFrom, Aggregated}
 use Rattle.isdb_mmt.specs.Decoder.Packet.{MessagePacket, messagePacket}
-use Rattle.isdb_mmt.specs.Decoder.Reassembly.{PartialMessage, Reassembly, short, partBefore, joinedOn, partAfter, wholeOf, reassemblyAfter, messageCompleted, orphan, oversize, tablesOf, tablesOfAll, messagesOf, cutOf, cutOfAll}
+use Rattle.isdb_mmt.specs.Decoder.Reassembly.{PartialMessage, Reassembly, short, partBefore, joinedOn, partAfter, wholeOf}
+use Rattle.isdb_mmt.specs.Decoder.Reassembly.{reassemblyAfter, messageCompleted, orphan, oversize, tablesOf, tablesOfAll, messagesOf}
+use Rattle.isdb_mmt.specs.Decoder.Reassembly.{cutOf, cutOfAll}
 use Rattle.isdb_mmt.specs.Decoder.GivenTables.{tablesGiven}
 use Rattle.isdb_mmt.specs.Decoder.Maps.{isSome}
 use Rattle.isdb_mmt.specs.Decoder.Objects.{gap}
 use Rattle.isdb_mmt.specs.Formats.Mpu.{follows}
 use Rattle.isdb_mmt.specs.Standards.StdB60Sections.{All}
-use Rattle.isdb_mmt.specs.declared.message.Content.the-variants.{Table as oneTable, Tables}
 use Rattle.isdb_mmt.specs.declared.message.MessageStep.the-variants.{End, Message}
 use Rattle.isdb_mmt.specs.declared.message.TableStep.the-variants.{End as noMore, Table as table}
 use Rattle.isdb_mmt.proofs.AggregatedMessages.{width-ge, aggregated-at, tables-at}
-use Rattle.isdb_mmt.proofs.BytesAt.{FoundAt, located-whole, located-first, located-last, located-part, located-within, located-front, located-rest, field-read, first-read, byte-read}
-use Rattle.isdb_mmt.specs.Standards.StdB60Messages.{SentTable, tableFields, tableSent, tablesSent, listFields, listSent, paBody}
-use Rattle.isdb_mmt.specs.Standards.StdB60Messages.{SentMessage, pa, m2Section, ca, m2ShortSection, paFields, oneTableFields, oneTableSent, messageSent}
-use Rattle.isdb_mmt.specs.Standards.StdB60Messages.{TableConforming, OneTableConforming, PaConforming, MessageConforming, messageTables, tablesOfMessages, allRead, MessageTheorem}
-use Rattle.isdb_mmt.specs.Standards.StdB60Messages.{single, aggregated, Carried, aggregationFlag, lengthWidth, aggregatedSent, SentContent, carriedSent, contentSent, controlFields, SentControl, controlSent}
-use Rattle.isdb_mmt.specs.Standards.StdB60Messages.{Sized, CarriedConforming, ContentConforming, ControlConforming, contentTables, contentSeen, ContentTheorem, ControlTheorem}
-use Rattle.isdb_mmt.specs.Standards.StdB60Messages.{SentPart, SentDivided, partSent, numberBehind, restSent, dividedSent, restBytes, PartConforming, DividedConforming, Joined, joinedBy, DividedTheorem}
-use Rattle.isdb_mmt.specs.Standards.StdB60Messages.{undividedWitness, undividedBytes, aggregatedWitness, aggregatedBytes, Witness, dividedWitness, dividedPackets, DividedWitness}
+use Rattle.isdb_mmt.proofs.BytesAt.{FoundAt, located-whole, located-first, located-last, located-part, located-within, located-front}
+use Rattle.isdb_mmt.proofs.BytesAt.{located-rest, field-read, first-read, byte-read}
+use Rattle.isdb_mmt.specs.Standards.StdB60Messages.{SentTable, tableFields, tableSent, tablesSent, listFields, listSent, paBody, SentMessage}
+use Rattle.isdb_mmt.specs.Standards.StdB60Messages.{pa, m2Section, ca, m2ShortSection, paFields, oneTableFields, oneTableSent, messageSent}
+use Rattle.isdb_mmt.specs.Standards.StdB60Messages.{TableConforming, OneTableConforming, PaConforming, MessageConforming, tablesOfMessages}
+use Rattle.isdb_mmt.specs.Standards.StdB60Messages.{allRead, MessageTheorem, single, aggregated, Carried, carriedMessages, aggregationFlag}
+use Rattle.isdb_mmt.specs.Standards.StdB60Messages.{lengthBytes, aggregatedSent, SentContent, contentSent, controlFields, SentControl}
+use Rattle.isdb_mmt.specs.Standards.StdB60Messages.{controlSent, Sized, CarriedConforming, ControlConforming, contentTables, contentSeen}
+use Rattle.isdb_mmt.specs.Standards.StdB60Messages.{ContentTheorem, ControlTheorem, SentPart, partSent, numberBehind, restSent, restBytes}
+use Rattle.isdb_mmt.specs.Standards.StdB60Messages.{PartConforming, Joined, joinedBy, DividedTheorem, undividedWitness, undividedBytes}
+use Rattle.isdb_mmt.specs.Standards.StdB60Messages.{aggregatedWitness, aggregatedBytes, Witness, dividedWitness, dividedPackets}
+use Rattle.isdb_mmt.specs.Standards.StdB60Messages.{DividedWitness}
 
 -- a table that stands at `at`
 pub table-length : (t : SentTable) → length (tableSent t) ≡ length (t .content) + 4
@@ -45,7 +51,8 @@ module _ {s : List ℕ} {at : ℕ} (t : SentTable) (c : TableConforming t) (h : 
   table-step =
       let within = located-within (tableSent t) h in
       let fits : Fit (tableFields t) = omega arith in
-      let len : be 2 s (at + 2) ≡ length (t .content) = field-read (tableFields t) fits (located-front (written (tableFields t)) (t .content) h) 2 in
+      let front = located-front (written (tableFields t)) (t .content) h in
+      let len : be 2 s (at + 2) ≡ length (t .content) = field-read (tableFields t) fits front 2 in
       let size = table-length t in
       rw (size, le-ltb (length s - at) 4 (omega arith), len, le-ltb (length s - at) (length (t .content) + 4) (omega arith))
 
@@ -190,7 +197,8 @@ module _ (s : List ℕ) (long : Bool) where
       let w = prefixWidth long in
       let n = length (messageSent m) in
       let rest = aggregatedSent w ms in
-      let len : be w s at ≡ n = first-read (lengthField m) (c .0, tt) (located-front (written (lengthField m)) (messageSent m ++ rest) h) in
+      let front = located-front (written (lengthField m)) (messageSent m ++ rest) h in
+      let len : be w s at ≡ n = first-read (lengthField m) (c .0, tt) front in
       let size : length (written (lengthField m)) ≡ w = rw (length-written (lengthField m)) (omega arith) in
       let body = located-rest (written (lengthField m)) (messageSent m ++ rest) h size in
       let here = located-front (messageSent m) rest body in
@@ -207,12 +215,12 @@ unfolding tablesOfAll
 tables-of-all [] c = refl
 tables-of-all (m ∷ ms) c = rw (messages m (c .0) .tables, tables-of-all ms (c .1))
 
-carried-read : (extension : ℕ) (x : Carried) → CarriedConforming (lengthWidth extension) x
-    → cutOf (contentSeen (record { extension = extension; carried = x })) ≡ allRead (contentTables (record { extension = extension; carried = x }))
+carried-read : (extension : ℕ) (x : Carried) → CarriedConforming (lengthBytes extension) x
+    → cutOf (contentSeen (record { extension = extension; carried = x })) ≡ allRead (tablesOfMessages (carriedMessages x))
 unfolding cutOf messagesOf
 carried-read extension (single m) c = rw append-nil (messages m c .tables)
 carried-read extension (aggregated ms) c =
-    let b = aggregatedSent (lengthWidth extension) ms in
+    let b = aggregatedSent (lengthBytes extension) ms in
     let r = aggregated-read b (extension =? 1) 0 ms (c .1) (located-whole b) (omega arith) in
     rw (r .found, r .none-bad, tables-of-all ms (c .0))
 
@@ -232,7 +240,8 @@ pub record Payload (s : List ℕ) (d : ℕ) (c : SentContent) (b : List ℕ) : T
   pub body : FoundAt s 2 b
   pub content : drop 2 s ≡ b
 
-payload-read : (d reserved : ℕ) (c : SentContent) (counter : ℕ) (b : List ℕ) → d < 2 ^ 2 → reserved < 2 ^ 4 → c .extension < 2 → counter < 2 ^ 8
+payload-read : (d reserved : ℕ) (c : SentContent) (counter : ℕ) (b : List ℕ)
+    → d < 2 ^ 2 → reserved < 2 ^ 4 → c .extension < 2 → counter < 2 ^ 8
     → Payload (written (controlFields d reserved c counter) ++ b) d c b
 payload-read d reserved c counter b index fits flag small =
     let fs = controlFields d reserved c counter in
@@ -247,6 +256,10 @@ payload-read d reserved c counter b index fits flag small =
       body = located-last (written fs) b (length-written fs);
       content = drop-at (written fs) b 2 (length-written fs);
     }
+
+-- after the packet with the number `n` nothing is being joined
+abbrev nothingLeft : ℕ → Reassembly
+nothingLeft n = record { number = some n; partial = none }
 
 -- what a packet does
 record Does (l : Reassembly) (x : MessagePacket) (o : Option PartialMessage) (l′ : Reassembly) : Type 0 where
@@ -265,10 +278,10 @@ joinedAs j n =
       orphans = 0;
       oversizes = 0;
       malformed = cutOf j .malformed;
-      left = record { number = some n; partial = none };
+      left = nothingLeft n;
     }
 
-whole-joined : {l : Reassembly} {x : MessagePacket} {j : PartialMessage} {n : ℕ} → Does l x (some j) (record { number = some n; partial = none })
+whole-joined : {l : Reassembly} {x : MessagePacket} {j : PartialMessage} {n : ℕ} → Does l x (some j) (nothingLeft n)
     → joinedBy l (x ∷ []) ≡ joinedAs j n
 unfolding cutOfAll
 whole-joined e = rw (e .whole, e .orphans, e .oversizes, e .shorts, e .after) (simp (add-zero, zero-add, append-nil))
@@ -277,10 +290,11 @@ module _ (p : SentControl) (c : ControlConforming p) where
   pub undivided : Payload (controlSent p) 0 (p .content) (contentSent (p .content))
   unfolding controlSent
   undivided =
-      payload-read 0 (p .reserved) (p .content) (p .counter) (contentSent (p .content)) (omega arith) (c .reserved) (c .content .extension) (c .counter)
+      let x = p .content in
+      payload-read 0 (p .reserved) x (p .counter) (contentSent x) (omega arith) (c .reserved) (c .content .extension) (c .counter)
 
   undivided-does : (id number : ℕ) (l : Reassembly)
-      → Does l (messagePacket id number (controlSent p)) (some (contentSeen (p .content))) (record { number = some number; partial = none })
+      → Does l (messagePacket id number (controlSent p)) (some (contentSeen (p .content))) (nothingLeft number)
   unfolding messageCompleted wholeOf orphan oversize reassemblyAfter partAfter divisionOf
   undivided-does id number l =
       let u = undivided in
@@ -330,7 +344,8 @@ module _ (id : ℕ) (c : SentContent) (flag : c .extension < 2) where
       }
 
   module _ (n : ℕ) (b : List ℕ) (p : SentPart) (h : PartConforming p) (room : length b + length (p .bytes) ≤ 1048576) where
-    middle-does : Does (joining n c b) (messagePacket id (numberBehind n) (partSent 2 c p)) none (joining (numberBehind n) c (b ++ p .bytes))
+    middle-does : Does (joining n c b) (messagePacket id (numberBehind n) (partSent 2 c p)) none
+        (joining (numberBehind n) c (b ++ p .bytes))
     unfolding messageCompleted wholeOf orphan oversize reassemblyAfter partBefore partAfter joinedOn gap follows isSome divisionOf
     middle-does =
         let s = partSent 2 c p in
@@ -347,7 +362,7 @@ module _ (id : ℕ) (c : SentContent) (flag : c .extension < 2) where
         }
 
     last-does : Does (joining n c b) (messagePacket id (numberBehind n) (partSent 3 c p)) (some (partialOf c (b ++ p .bytes)))
-        (record { number = some (numberBehind n); partial = none })
+        (nothingLeft (numberBehind n))
     unfolding messageCompleted wholeOf orphan oversize reassemblyAfter partBefore partAfter joinedOn gap follows isSome divisionOf
     last-does =
         let s = partSent 3 c p in
@@ -366,7 +381,8 @@ module _ (id : ℕ) (c : SentContent) (flag : c .extension < 2) where
   -- the bytes `b` that are held and the parts that follow
   rest-joined : (n : ℕ) (b : List ℕ) (qs : List SentPart) (p : SentPart) → All PartConforming qs → PartConforming p
       → length b + length (restBytes qs p) ≤ 1048576
-      → joinedBy (joining n c b) (restSent id (numberBehind n) c qs p) ≡ joinedAs (partialOf c (b ++ restBytes qs p)) ((n + length qs + 1) % 2 ^ 32)
+      → joinedBy (joining n c b) (restSent id (numberBehind n) c qs p)
+      ≡ joinedAs (partialOf c (b ++ restBytes qs p)) ((n + length qs + 1) % 2 ^ 32)
   unfolding cutOfAll
   rest-joined n b [] p hs h room =
       rw (add-zero n) (whole-joined (last-does n b p h room))

@@ -7,3 +7,4 @@ pub mod StdB60Mpu
 pub mod StdB60Objects
 pub mod StdB60Messages
 pub mod StdB60Kept
+pub mod StdB60Descriptors

@@ -11,7 +11,8 @@ use Rattle.isdb_mmt.specs.Decoder.Model.{State, controlOf, pushed}
 use Rattle.isdb_mmt.specs.Books.Demand.{pushAll}
 use Rattle.isdb_mmt.specs.Standards.StdB60Sections.{All}
 use Rattle.isdb_mmt.specs.Standards.StdB60Tables.{SentMpt, mptRest, mptSent, MptConforming}
-use Rattle.isdb_mmt.specs.Standards.StdB60Messages.{SentTable, pa, single, SentContent, contentSent, contentTables, SentControl, controlSent, ControlConforming, SentDivided, dividedSent, DividedConforming}
+use Rattle.isdb_mmt.specs.Standards.StdB60Messages.{SentTable, pa, single, SentContent, contentSent, contentTables, SentControl, controlSent}
+use Rattle.isdb_mmt.specs.Standards.StdB60Messages.{ControlConforming, SentDivided, dividedSent, DividedConforming}
 
 abbrev pub stateAfter : State → List MessagePacket → State
 stateAfter s xs = pushAll s (map message xs)
@@ -45,10 +46,12 @@ pub record LastMpt (t : SentMpt) (bs : List Bytes) : Type 0 where
 
 -- proved in proofs/StdB60Kept.antt
 abbrev pub UndividedPushed : Type 0
-UndividedPushed = (p : SentControl) → ControlConforming p → (id number : ℕ) → ContentPushed (p .content) id (messagePacket id number (controlSent p) ∷ [])
+UndividedPushed =
+    (p : SentControl) → ControlConforming p → (id number : ℕ) → ContentPushed (p .content) id (messagePacket id number (controlSent p) ∷ [])
 
 abbrev pub DividedPushed : Type 0
-DividedPushed = (d : SentDivided) → DividedConforming d → length (contentSent (d .content)) ≤ 1048576 → ContentPushed (d .content) (d .id) (dividedSent d)
+DividedPushed =
+    (d : SentDivided) → DividedConforming d → length (contentSent (d .content)) ≤ 1048576 → ContentPushed (d .content) (d .id) (dividedSent d)
 
 abbrev pub MptRecognized : Type 0
 MptRecognized = (t : SentMpt) → MptConforming t → IsMptId (t .tableId) → tableRead (mptSent t) ≡ mptTable true 0 (mptSent t)
@@ -72,12 +75,15 @@ pub record MptInPa : Type 0 where
   pub listed : ℕ
   pub behind : List SentTable
 
+abbrev pub mptInPaTables : MptInPa → List SentTable
+mptInPaTables x = x .before ++ (mptAsTable (x .mpt) (x .listed) ∷ x .behind)
+
 abbrev pub mptInPaSent : MptInPa → SentControl
 mptInPaSent x =
     record {
       reserved = x .reserved;
       counter = x .counter;
-      content = record { extension = x .extension; carried = single (pa (x .version) (x .before ++ (mptAsTable (x .mpt) (x .listed) ∷ x .behind))) };
+      content = record { extension = x .extension; carried = single (pa (x .version) (mptInPaTables x)) };
     }
 
 pub record MptInPaConforming (x : MptInPa) : Type 0 where

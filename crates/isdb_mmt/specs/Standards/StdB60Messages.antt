@@ -1,8 +1,7 @@
 -- ARIB STD-B60, 7.2 (Tables 7-1 to 7-4), in the payload of STD-B32 Part 3, Figure 2: control payloads and the messages in them as
 -- a conforming sender writes them, whole or divided, and what it means to read them right.
-use Prim.Native.Nat.{ℕ, suc, _+_, _%_, _^_, _≤_, _<_}
+use Prim.Native.Nat.{ℕ, _+_, _%_, _^_, _≤_, _<_}
 use mathlib.Core.Path.{_≡_}
-use mathlib.Core.Bool.{Bool}
 use mathlib.Core.List.{List, [], _∷_, _++_, map}
 use mathlib.Core.Option.{Option, none, some}
 use lib.ListN.{length, getD}
@@ -13,7 +12,8 @@ use Rattle.isdb_tlv.specs.declared.mmtp.Message.{Message}
 use Rattle.isdb_mmt.specs.Standards.StdB60Sections.{All}
 use Rattle.isdb_mmt.specs.Formats.Message.{fragmentOf}
 use Rattle.isdb_mmt.specs.Decoder.Packet.{Bytes, MessagePacket, messagePacket}
-use Rattle.isdb_mmt.specs.Decoder.Reassembly.{PartialMessage, Reassembly, short, reassemblyAfter, messageCompleted, orphan, oversize, TablesFound, tablesOf, cutOf, cutOfAll}
+use Rattle.isdb_mmt.specs.Decoder.Reassembly.{PartialMessage, Reassembly, short, reassemblyAfter, messageCompleted, orphan, oversize}
+use Rattle.isdb_mmt.specs.Decoder.Reassembly.{TablesFound, tablesOf, cutOf, cutOfAll}
 use Rattle.isdb_mmt.specs.Decoder.Maps.{one}
 use Rattle.isdb_mmt.specs.Decoder.Kept.{tableRead}
 use Rattle.isdb_mmt.specs.Decoder.GivenTables.{tablesGiven}
@@ -130,8 +130,8 @@ aggregationFlag (single m) = 0
 aggregationFlag (aggregated ms) = 1
 
 -- the length before an aggregated message: 16 bits, or 32 with the length extension flag
-abbrev pub lengthWidth : ℕ → ℕ
-lengthWidth extension = if extension =? 1 then 4 else 2
+abbrev pub lengthBytes : ℕ → ℕ
+lengthBytes extension = if extension =? 1 then 4 else 2
 
 abbrev pub aggregatedSent : ℕ → List SentMessage → List ℕ
 aggregatedSent w [] = []
@@ -147,7 +147,7 @@ carriedSent w (single m) = messageSent m
 carriedSent w (aggregated ms) = aggregatedSent w ms
 
 abbrev pub contentSent : SentContent → List ℕ
-contentSent c = carriedSent (lengthWidth (c .extension)) (c .carried)
+contentSent c = carriedSent (lengthBytes (c .extension)) (c .carried)
 
 -- division index 2 bits, reserved 4, length extension flag 1, aggregation flag 1, division number counter 8
 abbrev pub controlFields : ℕ → ℕ → SentContent → ℕ → List Field
@@ -175,7 +175,7 @@ CarriedConforming w (aggregated ms) = All MessageConforming ms × Sized w ms × 
 
 pub record ContentConforming (c : SentContent) : Type 0 where
   pub extension : c .extension < 2
-  pub carried : CarriedConforming (lengthWidth (c .extension)) (c .carried)
+  pub carried : CarriedConforming (lengthBytes (c .extension)) (c .carried)
 
 pub record ControlConforming (p : SentControl) : Type 0 where
   pub reserved : p .reserved < 2 ^ 4
@@ -326,18 +326,21 @@ ContentTheorem = (c : SentContent) → ContentConforming c → ContentRead c
 abbrev pub ControlTheorem : Type 0
 ControlTheorem = (p : SentControl) → ControlConforming p → ControlRead p
 
--- proved in proofs/StdB60MessageIds.antt
-abbrev pub ListedTheorem : Type 0
-ListedTheorem = (p : SentControl) → ControlConforming p → ControlListed p
-
 -- up to the largest message that is joined
 abbrev pub DividedTheorem : Type 0
 DividedTheorem = (d : SentDivided) → DividedConforming d → length (contentSent (d .content)) ≤ 1048576 → DividedRead d
 
+-- proved in proofs/StdB60MessageIds.antt
+abbrev pub ListedTheorem : Type 0
+ListedTheorem = (p : SentControl) → ControlConforming p → ControlListed p
+
 -- witnesses: payloads that conform, with their bytes
 abbrev pub paWitness : SentMessage
 paWitness =
-    pa 0 (record { id = 0x20; version = 3; content = 0x01 ∷ []; listed = 1 } ∷ record { id = 0x80; version = 1; content = 0xAA ∷ 0xBB ∷ []; listed = 2 } ∷ [])
+    pa 0
+    (record { id = 0x20; version = 3; content = 0x01 ∷ []; listed = 1 }
+    ∷ record { id = 0x80; version = 1; content = 0xAA ∷ 0xBB ∷ []; listed = 2 }
+    ∷ [])
 
 abbrev pub undividedWitness : SentControl
 undividedWitness = record { reserved = 0; counter = 0; content = record { extension = 0; carried = single paWitness } }
