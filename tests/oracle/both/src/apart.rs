@@ -1,4 +1,4 @@
-//! Tables, loops and locations apart from any session, most of them damaged: the code of each, and its fields where it can be read.
+//! Tables, loops and locations apart from any session, a third of the tables broken: the code of each, and its fields where it can be read.
 use crate::calls::{self, MALFORMED, Said};
 use crate::covered::Covered;
 use crate::differ::same;

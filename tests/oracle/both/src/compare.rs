@@ -192,6 +192,8 @@ impl<'a> Run<'a> {
                 let of = self.area(*area).into_iter().flatten().skip(*at);
                 of.zip(b).for_each(|(x, &y)| *x = y);
             }
+            // a state that was lent shorter may not have these bytes
+            Step::Copy(from, to, n) if from.max(to) + n <= self.memory.state.len() => self.memory.state.copy_within(*from..from + n, *to),
             Step::Shorten(area, n) => self.area(*area).into_iter().for_each(|b| b.truncate(b.len().saturating_sub(*n))),
             _ => {}
         }

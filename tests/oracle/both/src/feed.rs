@@ -16,6 +16,8 @@ pub enum Step {
     Packet(u8, Vec<u8>),
     /// Someone else writes to the lent memory.
     Write(Area, usize, Vec<u8>),
+    /// Bytes of the state stand a second time: from a place, to a place, how many.
+    Copy(usize, usize, usize),
     /// A buffer is lent shorter by so many bytes from now on.
     Shorten(Area, usize),
     /// Everything that the session knows is compared.
@@ -43,6 +45,7 @@ impl fmt::Display for Step {
         match self {
             Step::Packet(kind, data) => write!(f, "packet {kind:02x} {}", hex(data)),
             Step::Write(area, at, b) => write!(f, "write {area:?} {at} {}", hex(b)),
+            Step::Copy(from, to, n) => write!(f, "copy {from} {to} {n}"),
             Step::Shorten(area, n) => write!(f, "shorten {area:?} {n}"),
             Step::Look => write!(f, "look"),
         }

@@ -177,7 +177,12 @@ impl Maker {
             (36 * 64, 1 << if style.unit > 1000 || style.big { 18 } else { 15 })
         };
         let steps = self.steps(&style, &limits);
-        Feed { limits, slack: self.r.pick(&[0, 0, 1, 16]), rows, out, fill, steps }
+        let mut feed = Feed { limits, slack: self.r.pick(&[0, 0, 1, 16]), rows, out, fill, steps };
+        // drawn last, so that the packets do not depend on it: crates/replay has some of them stored
+        if style.spoilt && self.r.once_in(3) {
+            self.name_twice(&mut feed.steps);
+        }
+        feed
     }
 
     /// An MPT of nearly as many bytes as there can be, as the rest of a message that begins with the next part.

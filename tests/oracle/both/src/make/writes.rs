@@ -78,6 +78,14 @@ impl Maker {
         Step::Write(Area::Tables, at as usize, self.word(1))
     }
 
+    /// Somewhere among the steps a place gets the name that another of its sort has.
+    pub fn name_twice(&mut self, steps: &mut Vec<Step>) {
+        let (start, size) = self.r.pick(&[(MEDIA, MEDIA_SIZE), (CONTROL, CONTROL_SIZE), (SECTION, SECTION_SIZE)]);
+        let (from, to) = self.r.pick(&[(0, 1), (1, 0), (0, 2), (2, 1)]);
+        let at = self.r.below(steps.len());
+        steps.splice(at..at, [Step::Copy(start + from * size, start + to * size, 4), Step::Look]);
+    }
+
     /// A write into a session with these limits.
     pub fn write(&mut self, l: &Limits) -> Step {
         let (at, b) = match self.r.below(17) {
