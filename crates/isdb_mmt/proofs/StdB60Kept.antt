@@ -173,8 +173,8 @@ joined-pushed id (x ∷ xs) h s k d =
       orphans = r .orphans ∙ rw (e .orphans) (add-assoc (c .«orphan_fragments») (one (orphan l x)) (rest .orphans));
       oversizes = r .oversizes ∙ rw (e .oversizes) (add-assoc (c .oversize) (one (oversize l x)) (rest .oversizes));
       malformed =
-          r .malformed
-          ∙ rw (e .malformed) (add-assoc (c .«message_malformed») (one (short x) + cutOfAll (messageCompleted l x) .malformed) (rest .malformed));
+          let here = one (short x) + cutOfAll (messageCompleted l x) .malformed in
+          r .malformed ∙ rw (e .malformed) (add-assoc (c .«message_malformed») here (rest .malformed));
     }
 
 -- a content that is joined whole

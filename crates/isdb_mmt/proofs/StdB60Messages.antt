@@ -35,11 +35,10 @@ use Rattle.isdb_mmt.specs.Standards.StdB60Messages.{pa, m2Section, ca, m
 use Rattle.isdb_mmt.specs.Standards.StdB60Messages.{TableConforming, OneTableConforming, PaConforming, MessageConforming, tablesOfMessages}
 use Rattle.isdb_mmt.specs.Standards.StdB60Messages.{allRead, MessageTheorem, single, aggregated, Carried, carriedMessages, aggregationFlag}
 use Rattle.isdb_mmt.specs.Standards.StdB60Messages.{lengthBytes, aggregatedSent, SentContent, contentSent, controlFields, SentControl}
-use Rattle.isdb_mmt.specs.Standards.StdB60Messages.{controlSent, Sized, CarriedConforming, ControlConforming, contentTables, contentSeen}
-use Rattle.isdb_mmt.specs.Standards.StdB60Messages.{ContentTheorem, ControlTheorem, SentPart, partSent, numberBehind, restSent, restBytes}
-use Rattle.isdb_mmt.specs.Standards.StdB60Messages.{PartConforming, Joined, joinedBy, DividedTheorem, undividedWitness, undividedBytes}
-use Rattle.isdb_mmt.specs.Standards.StdB60Messages.{aggregatedWitness, aggregatedBytes, Witness, dividedWitness, dividedPackets}
-use Rattle.isdb_mmt.specs.Standards.StdB60Messages.{DividedWitness}
+use Rattle.isdb_mmt.specs.Standards.StdB60Messages.{controlSent, Sized, CarriedConforming, ControlConforming, contentSeen, ContentTheorem}
+use Rattle.isdb_mmt.specs.Standards.StdB60Messages.{ControlTheorem, SentPart, partSent, numberBehind, restSent, restBytes, PartConforming}
+use Rattle.isdb_mmt.specs.Standards.StdB60Messages.{Joined, joinedBy, DividedTheorem, undividedWitness, undividedBytes, aggregatedWitness}
+use Rattle.isdb_mmt.specs.Standards.StdB60Messages.{aggregatedBytes, Witness, dividedWitness, dividedPackets, DividedWitness}
 
 -- a table that stands at `at`
 pub table-length : (t : SentTable) → length (tableSent t) ≡ length (t .content) + 4

@@ -8,3 +8,4 @@ pub mod StdB60Objects
 pub mod StdB60Messages
 pub mod StdB60Kept
 pub mod StdB60Descriptors
+pub mod StdB60KeptSections

@@ -47,11 +47,13 @@ pub record LastMpt (t : SentMpt) (bs : List Bytes) : Type 0 where
 -- proved in proofs/StdB60Kept.antt
 abbrev pub UndividedPushed : Type 0
 UndividedPushed =
-    (p : SentControl) → ControlConforming p → (id number : ℕ) → ContentPushed (p .content) id (messagePacket id number (controlSent p) ∷ [])
+    (p : SentControl) → ControlConforming p → (id number : ℕ)
+    → ContentPushed (p .content) id (messagePacket id number (controlSent p) ∷ [])
 
 abbrev pub DividedPushed : Type 0
 DividedPushed =
-    (d : SentDivided) → DividedConforming d → length (contentSent (d .content)) ≤ 1048576 → ContentPushed (d .content) (d .id) (dividedSent d)
+    (d : SentDivided) → DividedConforming d → length (contentSent (d .content)) ≤ 1048576
+    → ContentPushed (d .content) (d .id) (dividedSent d)
 
 abbrev pub MptRecognized : Type 0
 MptRecognized = (t : SentMpt) → MptConforming t → IsMptId (t .tableId) → tableRead (mptSent t) ≡ mptTable true 0 (mptSent t)
