@@ -27,6 +27,7 @@ pub mod StdB60Scan
 pub mod StdB60Rows
 pub mod StdB60Extended
 pub mod StdB60Descriptors
+pub mod StdB60Tlv
 pub mod Steps
 pub mod Walks
 pub mod SectionWalks

@@ -6,27 +6,31 @@ use mathlib.Core.List.{List, [], _∷_, _++_, map}
 use mathlib.Core.Option.{Option, none, some}
 use native.Mathlib.Nat.{add-zero, add-comm}
 use native.Mathlib.Omega.{arith}
-use lib.ListN.{length, getD, drop, length-append, drop-of-length-le}
+use lib.ListN.{length, getD, drop, length-append, length-map, drop-of-length-le}
 use lib.Seq.{drop-at}
 use borrow.Author.Tests.{le-ltb, lt-ltb, lt-leb, le-leb}
 use Rattle.isdb_tlv.specs.Guards.{_=?_}
 use Rattle.isdb_tlv.specs.Bytes.{be}
-use Rattle.isdb_tlv.specs.Fields.{Field, field, bits, packed, written, Fit}
+use Rattle.isdb_tlv.specs.Fields.{bytesOf, Field, field, bits, packed, written, Fit}
 use Rattle.isdb_tlv.proofs.Fields.{be-one, size, fieldAt, offsetOf, length-written}
 use Rattle.isdb_mmt.specs.Formats.Part.{partAt, partOf}
 use Rattle.isdb_mmt.specs.Formats.Location.{locationOf}
-use Rattle.isdb_mmt.specs.Standards.StdB60.{SentLocation, sameFlow, ipv4, ipv6, mpeg2Ts, mpeg2TsIpv6, url, locationFields, locationBytes, locationSent, LocationConforming, locationSeen}
+use Rattle.isdb_mmt.specs.Standards.StdB60.{widthOf, Descriptor, loopSent, LoopConforming, SentLocation, sameFlow, ipv4, ipv6, mpeg2Ts, mpeg2TsIpv6, url, locationFields, locationBytes, locationSent, LocationConforming, locationSeen}
 use Rattle.isdb_mmt.specs.Formats.Desc.{descriptorOf, accessControl, scrambler, streamIdentifier, serviceText, shortEvent, hevc, serviceAt, genreAt}
 use Rattle.isdb_mmt.specs.Formats.Timestamp.{timestampAt}
-use Rattle.isdb_mmt.specs.WholeValues.Steps.{Stood, atEnd, element, Gives, Ends}
-use Rattle.isdb_mmt.specs.WholeValues.WholeDescriptors.{urlIn, valueIn, timestampSeen, timestampsIn, serviceSeen, servicesIn, genreSeen as genreStood, genresIn}
+use Rattle.isdb_mmt.specs.WholeValues.Steps.{atEnd, element, Counts}
+use Rattle.isdb_mmt.specs.WholeValues.WholeDescriptors.{urlIn, valueIn, timestampSeen, timestampsIn, serviceSeen, servicesIn, genreSeen as genreStood, genresIn, locationSeen as locationStood}
+use Rattle.isdb_mmt.specs.WholeValues.WholeLists.{wholeSent as sentWhole}
 use Rattle.isdb_mmt.specs.Standards.StdB60Sections.{All}
-use Rattle.isdb_mmt.proofs.BytesAt.{FoundAt, located-whole, located-first, located-part, located-within, located-front, located-rest, field-read, first-read, byte-read}
+use Rattle.isdb_mmt.proofs.BytesAt.{FoundAt, located-whole, located-first, located-last, located-part, located-drop, located-within, located-front, located-rest, field-read, first-read, byte-read}
 use Rattle.isdb_mmt.proofs.StdB60.{places}
 use Rattle.isdb_mmt.proofs.DescriptorWalks.{rows}
+use Rattle.isdb_mmt.proofs.BytesBehind.{found-is}
+use Rattle.isdb_mmt.proofs.WholeLists.{sent as sent-read}
 use Rattle.isdb_mmt.specs.Standards.StdB60Descriptors.{rowsSent, SentTime, timeFields, timeSent, TimeConforming, timeSeen, SentListed, listedFields, listedSent, ListedConforming, listedSeen, SentGenre, genreFields, genreSent, GenreConforming, genreSeen}
 use Rattle.isdb_mmt.specs.Standards.StdB60Descriptors.{SentHevc, hevcFields, HevcConforming, eventFields, scramblerFields, serviceFields}
 use Rattle.isdb_mmt.specs.Standards.StdB60Descriptors.{SentBody, mpuTimes, caSystem, caSystemAt, scrambling, hevcVideo, servicesListed, eventTexts, componentTag, genres, broadcasterCalled, serviceCalled, mpuTimesExtended, tagOf, bodySent, BodyConforming, valueSeen, BodyRead, BodyTheorem}
+use Rattle.isdb_mmt.specs.Standards.StdB60Descriptors.{placeSeen, lengthBytes, wholeSent, WholeConforming, wholeSeen, DescriptorsTheorem, LocationsTheorem, Examples}
 use Rattle.isdb_mmt.proofs.StdB60Rows.{rows-given, ends-same}
 use Rattle.isdb_mmt.proofs.StdB60Extended.{extended-read}
 
@@ -266,3 +270,106 @@ bodies (genres xs) c = rw (genres-whole xs c)
 bodies (broadcasterCalled name) c = broadcaster-read name
 bodies (serviceCalled t provider name) c = service-read t provider name c
 bodies (mpuTimesExtended e) c = extended-read e c
+
+-- whole descriptors
+abbrev described : SentBody → Descriptor
+described d = record { tag = tagOf d; content = bodySent d }
+
+width : (d : SentBody) → widthOf (tagOf d) ≡ lengthBytes d
+unfolding widthOf
+width (mpuTimes ts) = refl
+width (caSystem ca) = refl
+width (caSystemAt ca p private) = refl
+width (scrambling layer reserved system private) = refl
+width (hevcVideo x) = refl
+width (servicesListed xs) = refl
+width (eventTexts a b d name text) = refl
+width (componentTag d) = refl
+width (genres xs) = refl
+width (broadcasterCalled name) = refl
+width (serviceCalled t provider name) = refl
+width (mpuTimesExtended e) = refl
+
+tag-fits : (d : SentBody) → tagOf d < 2 ^ 16
+tag-fits (mpuTimes ts) = omega arith
+tag-fits (caSystem ca) = omega arith
+tag-fits (caSystemAt ca p private) = omega arith
+tag-fits (scrambling layer reserved system private) = omega arith
+tag-fits (hevcVideo x) = omega arith
+tag-fits (servicesListed xs) = omega arith
+tag-fits (eventTexts a b d name text) = omega arith
+tag-fits (componentTag d) = omega arith
+tag-fits (genres xs) = omega arith
+tag-fits (broadcasterCalled name) = omega arith
+tag-fits (serviceCalled t provider name) = omega arith
+tag-fits (mpuTimesExtended e) = omega arith
+
+loop-is : (ds : List SentBody) → loopSent (map described ds) ≡ rowsSent wholeSent ds
+loop-is [] = refl
+loop-is (d ∷ ds) = rw (width d, loop-is ds)
+
+loop-fits : (ds : List SentBody) → All WholeConforming ds → LoopConforming (map described ds)
+loop-fits [] c = tt
+loop-fits (d ∷ ds) c = (record { tag = tag-fits d; short = rw (width d) (c .0 .short) }, loop-fits ds (c .1))
+
+loop-seen : (ds : List SentBody) → All WholeConforming ds → map sentWhole (map described ds) ≡ map wholeSeen ds
+loop-seen [] c = refl
+loop-seen (d ∷ ds) c = ap₂ _∷_ (rw (bodies d (c .0 .body))) (loop-seen ds (c .1))
+
+pub descriptors : DescriptorsTheorem
+descriptors ds c = rw (loop-is ds, loop-seen ds c) at (sent-read (map described ds) (loop-fits ds c))
+
+-- locations
+location-step : (s : List ℕ) (at : ℕ) (p : SentLocation) → LocationConforming p → FoundAt s at (locationSent p)
+    → locationStood s at ≡ element (placeSeen p) (at + length (locationSent p))
+location-step s at p c h =
+    let rest = located-drop (locationSent p) h in
+    rw (rest, places p c (h .behind) .location) (rw (rest, url-read p (h .behind)))
+
+pub locations : LocationsTheorem
+locations a ps r c =
+    let all = rowsSent locationSent ps in
+    let s = a ++ (all ++ r) in
+    let there : FoundAt s (length a) all = located-front all r (located-last a (all ++ r) refl) in
+    let g = rows-given locationSent placeSeen LocationConforming s (locationStood s) (location-step s) (length a) ps c there in
+    let all-given : Counts (locationStood s) (length ps) (length a) (map placeSeen ps) =
+    record { count = length-map ps placeSeen; stop = length a + length all; gives = g } in
+    found-is (locationStood s) all-given
+
+pub examples-conform : Examples
+unfolding bytesOf
+examples-conform =
+    record {
+      conform = (
+        omega arith,
+        (
+          omega arith,
+          (
+            omega arith,
+            (
+              omega arith,
+              (
+                omega arith,
+                (
+                  omega arith,
+                  (
+                    omega arith,
+                    (
+                      omega arith,
+                      (
+                        omega arith,
+                        (
+                          omega arith,
+                          (record { body = tt; short = omega arith }, (omega arith, (omega arith, (omega arith, (omega arith, tt))))),
+                        ),
+                      ),
+                    ),
+                  ),
+                ),
+              ),
+            ),
+          ),
+        ),
+      );
+      bytes = refl;
+    }

@@ -1,16 +1,18 @@
--- ARIB STD-B60, 7.4.3: the bodies of descriptors as a conforming sender writes them, and what it means to read them right.
+-- ARIB STD-B60, 7.4.3: descriptors with their bodies as a conforming sender writes them, the bytes of locations' URLs (Table 7-9), and
+-- what it means to read them right.
 use Prim.Native.Nat.{ℕ, _+_, _^_, _<_}
 use mathlib.Core.Path.{_≡_}
 use mathlib.Core.Bool.{true}
 use mathlib.Core.List.{List, [], _∷_, _++_, map}
 use mathlib.Core.Option.{Option, none, some}
 use lib.ListN.{length}
-use Rattle.isdb_tlv.specs.Guards.{_=?_}
+use Rattle.isdb_tlv.specs.Guards.{if_then_else_, _≤?_, _=?_}
 use Rattle.isdb_tlv.specs.Fields.{Field, field, bits, packed, written, Fit}
 use Rattle.isdb_mmt.specs.Formats.Desc.{descriptorOf}
 use Rattle.isdb_mmt.specs.Standards.StdB60.{SentLocation, locationSent, locationBytes, LocationConforming, locationSeen, url, sameFlow}
 use Rattle.isdb_mmt.specs.Standards.StdB60Sections.{All}
-use Rattle.isdb_mmt.specs.WholeValues.WholeDescriptors.{WholeLocation, MpuTime, WholeMpu, WholeExtended, Listed, Genre, Value, valueIn, loopIn}
+use Rattle.isdb_mmt.specs.WholeValues.Steps.{counted}
+use Rattle.isdb_mmt.specs.WholeValues.WholeDescriptors.{WholeLocation, MpuTime, WholeMpu, WholeExtended, Listed, Genre, Value, valueIn, WholeDescriptor, loopIn, locationSeen as locationStood}
 use Rattle.isdb_mmt.specs.WholeValues.WholeDescriptors.{mpuTimestamp, extendedTimestamp, accessControl, scrambler, streamIdentifier, serviceNames, serviceList, shortEvent, content, hevc, broadcasterName}
 use Rattle.isdb_mmt.specs.declared.maybe.MaybeU16.{MaybeU16}
 use Rattle.isdb_mmt.specs.declared.maybe.MaybeU16.the-variants.{None as noU16, Some as someU16}
@@ -309,11 +311,15 @@ BodyConforming (broadcasterCalled name) = Unit {0}
 BodyConforming (serviceCalled t provider name) = (t < 2 ^ 8) × (length provider < 2 ^ 8) × (length name < 2 ^ 8)
 BodyConforming (mpuTimesExtended e) = ExtendedConforming e
 
--- what is read of each: every value, text and entry; of a URL its bytes
+-- a location, with the bytes of its URL
+abbrev pub placeSeen : SentLocation → WholeLocation
+placeSeen p = record { location = locationSeen p; url = locationBytes p }
+
+-- what is read of each: every value, text and entry
 abbrev pub valueSeen : SentBody → Value
 valueSeen (mpuTimes ts) = mpuTimestamp (map timeSeen ts)
 valueSeen (caSystem ca) = accessControl ca none
-valueSeen (caSystemAt ca p private) = accessControl ca (some (record { location = locationSeen p; url = locationBytes p }))
+valueSeen (caSystemAt ca p private) = accessControl ca (some (placeSeen p))
 valueSeen (scrambling layer reserved system private) = scrambler layer system
 valueSeen (hevcVideo x) = hevc (x .profile) (x .tier =? 1) (x .level)
 valueSeen (servicesListed xs) = serviceList (map listedSeen xs)
@@ -328,6 +334,109 @@ valueSeen (mpuTimesExtended e) = extendedTimestamp (extendedSeen e)
 abbrev pub BodyRead : SentBody → Type 0
 BodyRead d = valueIn (bodySent d) (descriptorOf (tagOf d) (bodySent d)) ≡ valueSeen d
 
+-- 7.4, Table 4-10: tag 16 bits, a length of 8 bits, or of 16 where the tag is F000h or above, and the body
+abbrev pub lengthBytes : SentBody → ℕ
+lengthBytes d = if 0xF000 ≤? tagOf d then 2 else 1
+
+abbrev pub wholeSent : SentBody → List ℕ
+wholeSent d = written (field 2 (tagOf d) ∷ field (lengthBytes d) (length (bodySent d)) ∷ []) ++ bodySent d
+
+pub record WholeConforming (d : SentBody) : Type 0 where
+  pub body : BodyConforming d
+  pub short : length (bodySent d) < 256 ^ lengthBytes d
+
+abbrev pub wholeSeen : SentBody → WholeDescriptor
+wholeSeen d = record { tag = tagOf d; body = bodySent d; value = valueSeen d }
+
+-- a loop of such descriptors gives each of them in order, and breaks nowhere
+abbrev pub DescriptorsRead : List SentBody → Type 0
+DescriptorsRead ds = loopIn (rowsSent wholeSent ds) ≡ record { found = map wholeSeen ds; whole = true }
+
+-- Table 7-9: locations one behind another, between other bytes: each is read with the bytes of its URL
+abbrev pub LocationsRead : List ℕ → List SentLocation → List ℕ → Type 0
+LocationsRead a ps r =
+    counted (locationStood (a ++ (rowsSent locationSent ps ++ r))) (length ps) (length a) .found ≡ map placeSeen ps
+
 -- proved in proofs/StdB60Descriptors.antt
 abbrev pub BodyTheorem : Type 0
 BodyTheorem = (d : SentBody) → BodyConforming d → BodyRead d
+
+abbrev pub DescriptorsTheorem : Type 0
+DescriptorsTheorem = (ds : List SentBody) → All WholeConforming ds → DescriptorsRead ds
+
+abbrev pub LocationsTheorem : Type 0
+LocationsTheorem = (a : List ℕ) (ps : List SentLocation) (r : List ℕ) → All LocationConforming ps → LocationsRead a ps r
+
+-- conforming descriptors, and their bytes: each stands as a line `descriptors HEX` in crates/cases/stdin
+abbrev pub unitExample : ℕ → ℕ → SentAccessUnit
+unitExample dts pts = record { dtsPtsOffset = dts; ptsOffset = pts }
+
+abbrev pub mpuExample : ℕ → List SentAccessUnit → SentMpu
+mpuExample q us = record { sequenceNumber = q; leapIndicator = 1; reserved = 0; decodingTimeOffset = 100; units = us }
+
+abbrev pub examples : List SentBody
+examples =
+    mpuTimes (record { sequenceNumber = 7; presentationTime = 0xE12345678000ABCD } ∷ record { sequenceNumber = 8; presentationTime = 0 } ∷ [])
+    ∷ caSystem 5
+    ∷ caSystemAt 5 (sameFlow 0xF101) []
+    ∷ caSystemAt 5 (url (0x61 ∷ 0x62 ∷ 0x63 ∷ [])) []
+    ∷ scrambling 2 0 2 []
+    ∷ hevcVideo (record {
+      profileSpace = 0;
+      tier = 1;
+      profile = 2;
+      compatibility = 0;
+      flags = 0;
+      reserved = 0;
+      level = 0x99;
+      behind = [];
+    })
+    ∷ servicesListed (record { serviceId = 101; serviceType = 1 } ∷ record { serviceId = 0x166; serviceType = 2 } ∷ [])
+    ∷ eventTexts 0x6A 0x70 0x6E (0x41 ∷ 0x42 ∷ []) (0x78 ∷ 0x79 ∷ 0x7A ∷ [])
+    ∷ componentTag 16
+    ∷ genres (record { level1 = 7; level2 = 1; user = 0xF0 } ∷ [])
+    ∷ broadcasterCalled (0x42 ∷ 0x53 ∷ 0x2D ∷ 0x4E ∷ 0x48 ∷ 0x4B ∷ [])
+    ∷ serviceCalled 1 (0x4E ∷ 0x48 ∷ 0x4B ∷ []) (0x42 ∷ 0x53 ∷ 0x34 ∷ 0x4B ∷ [])
+    -- one PTS offset for each access unit, and a timescale; then without one; then each with its own
+    ∷ mpuTimesExtended (record {
+      reserved = 0;
+      timescale = some 90000;
+      offsets = same 16;
+      mpus = mpuExample 7 (unitExample 1 0 ∷ unitExample 2 0 ∷ []) ∷ [];
+    })
+    ∷ mpuTimesExtended (record {
+      reserved = 0;
+      timescale = none;
+      offsets = same 16;
+      mpus = mpuExample 7 [] ∷ mpuExample 8 (unitExample 3 0 ∷ []) ∷ [];
+    })
+    ∷ mpuTimesExtended (record {
+      reserved = 0;
+      timescale = none;
+      offsets = own;
+      mpus = mpuExample 7 (unitExample 1 2 ∷ unitExample 3 4 ∷ []) ∷ [];
+    })
+    ∷ []
+
+abbrev pub exampleBytes : List (List ℕ)
+exampleBytes =
+    (0x00 ∷ 0x01 ∷ 0x18 ∷ 0x00 ∷ 0x00 ∷ 0x00 ∷ 0x07 ∷ 0xE1 ∷ 0x23 ∷ 0x45 ∷ 0x67 ∷ 0x80 ∷ 0x00 ∷ 0xAB ∷ 0xCD ∷ 0x00 ∷ 0x00 ∷ 0x00 ∷ 0x08 ∷ 0x00 ∷ 0x00 ∷ 0x00 ∷ 0x00 ∷ 0x00 ∷ 0x00 ∷ 0x00 ∷ 0x00 ∷ [])
+    ∷ (0x80 ∷ 0x04 ∷ 0x02 ∷ 0x00 ∷ 0x05 ∷ [])
+    ∷ (0x80 ∷ 0x04 ∷ 0x05 ∷ 0x00 ∷ 0x05 ∷ 0x00 ∷ 0xF1 ∷ 0x01 ∷ [])
+    ∷ (0x80 ∷ 0x04 ∷ 0x07 ∷ 0x00 ∷ 0x05 ∷ 0x05 ∷ 0x03 ∷ 0x61 ∷ 0x62 ∷ 0x63 ∷ [])
+    ∷ (0x80 ∷ 0x05 ∷ 0x02 ∷ 0x80 ∷ 0x02 ∷ [])
+    ∷ (0x80 ∷ 0x0A ∷ 0x0C ∷ 0x22 ∷ 0x00 ∷ 0x00 ∷ 0x00 ∷ 0x00 ∷ 0x00 ∷ 0x00 ∷ 0x00 ∷ 0x00 ∷ 0x00 ∷ 0x00 ∷ 0x99 ∷ [])
+    ∷ (0x80 ∷ 0x0D ∷ 0x06 ∷ 0x00 ∷ 0x65 ∷ 0x01 ∷ 0x01 ∷ 0x66 ∷ 0x02 ∷ [])
+    ∷ (0xF0 ∷ 0x01 ∷ 0x00 ∷ 0x0B ∷ 0x6A ∷ 0x70 ∷ 0x6E ∷ 0x02 ∷ 0x41 ∷ 0x42 ∷ 0x00 ∷ 0x03 ∷ 0x78 ∷ 0x79 ∷ 0x7A ∷ [])
+    ∷ (0x80 ∷ 0x11 ∷ 0x02 ∷ 0x00 ∷ 0x10 ∷ [])
+    ∷ (0x80 ∷ 0x12 ∷ 0x02 ∷ 0x71 ∷ 0xF0 ∷ [])
+    ∷ (0x80 ∷ 0x18 ∷ 0x06 ∷ 0x42 ∷ 0x53 ∷ 0x2D ∷ 0x4E ∷ 0x48 ∷ 0x4B ∷ [])
+    ∷ (0x80 ∷ 0x19 ∷ 0x0A ∷ 0x01 ∷ 0x03 ∷ 0x4E ∷ 0x48 ∷ 0x4B ∷ 0x04 ∷ 0x42 ∷ 0x53 ∷ 0x34 ∷ 0x4B ∷ [])
+    ∷ (0x80 ∷ 0x26 ∷ 0x13 ∷ 0x03 ∷ 0x00 ∷ 0x01 ∷ 0x5F ∷ 0x90 ∷ 0x00 ∷ 0x10 ∷ 0x00 ∷ 0x00 ∷ 0x00 ∷ 0x07 ∷ 0x40 ∷ 0x00 ∷ 0x64 ∷ 0x02 ∷ 0x00 ∷ 0x01 ∷ 0x00 ∷ 0x02 ∷ [])
+    ∷ (0x80 ∷ 0x26 ∷ 0x15 ∷ 0x02 ∷ 0x00 ∷ 0x10 ∷ 0x00 ∷ 0x00 ∷ 0x00 ∷ 0x07 ∷ 0x40 ∷ 0x00 ∷ 0x64 ∷ 0x00 ∷ 0x00 ∷ 0x00 ∷ 0x00 ∷ 0x08 ∷ 0x40 ∷ 0x00 ∷ 0x64 ∷ 0x01 ∷ 0x00 ∷ 0x03 ∷ [])
+    ∷ (0x80 ∷ 0x26 ∷ 0x11 ∷ 0x04 ∷ 0x00 ∷ 0x00 ∷ 0x00 ∷ 0x07 ∷ 0x40 ∷ 0x00 ∷ 0x64 ∷ 0x02 ∷ 0x00 ∷ 0x01 ∷ 0x00 ∷ 0x02 ∷ 0x00 ∷ 0x03 ∷ 0x00 ∷ 0x04 ∷ [])
+    ∷ []
+
+pub record Examples : Type 0 where
+  pub conform : All WholeConforming examples
+  pub bytes : map wholeSent examples ≡ exampleBytes
