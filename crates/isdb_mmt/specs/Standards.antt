@@ -9,3 +9,4 @@ pub mod StdB60Messages
 pub mod StdB60Kept
 pub mod StdB60Descriptors
 pub mod StdB60KeptSections
+pub mod StdB60Feed
