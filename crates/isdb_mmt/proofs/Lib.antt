@@ -23,6 +23,7 @@ pub mod StdB60Messages
 pub mod StdB60MessageIds
 pub mod StdB60Kept
 pub mod StdB60KeptSections
+pub mod StdB60Feed
 pub mod StdB60Scan
 pub mod StdB60Rows
 pub mod StdB60Extended

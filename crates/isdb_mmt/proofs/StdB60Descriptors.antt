@@ -1,15 +1,12 @@
 -- What a sender that conforms to ARIB STD-B60 writes of the bodies of descriptors is read right. Assumes nothing.
-use Prim.Native.Nat.{ℕ, _+_, _-_, _*_, _/_, _%_, _^_, _≤_, _<_}
-use mathlib.Core.Path.{_≡_, refl, sym, ap, ap₂, _∙_}
-use mathlib.Core.Bool.{Bool, true, false}
+use Prim.Native.Nat.{ℕ, _+_, _-_, _/_, _%_, _^_, _≤_, _<_}
+use mathlib.Core.Path.{_≡_, refl, ap₂, _∙_}
 use mathlib.Core.List.{List, [], _∷_, _++_, map}
-use mathlib.Core.Option.{Option, none, some}
-use native.Mathlib.Nat.{add-zero, add-comm}
+use native.Mathlib.Nat.{add-zero}
 use native.Mathlib.Omega.{arith}
-use lib.ListN.{length, getD, drop, length-append, length-map, drop-of-length-le}
+use lib.ListN.{length, getD, length-append, length-map, drop-of-length-le}
 use lib.Seq.{drop-at}
-use borrow.Author.Tests.{le-ltb, lt-ltb, lt-leb, le-leb}
-use Rattle.isdb_tlv.specs.Guards.{_=?_}
+use borrow.Author.Tests.{le-ltb, lt-ltb}
 use Rattle.isdb_tlv.specs.Bytes.{be}
 use Rattle.isdb_tlv.specs.Fields.{bytesOf, Field, field, bits, packed, written, Fit}
 use Rattle.isdb_tlv.proofs.Fields.{be-one, size, fieldAt, offsetOf, length-written}
@@ -19,7 +16,7 @@ use Rattle.isdb_mmt.specs.Standards.StdB60.{widthOf, Descriptor, loopSen
 use Rattle.isdb_mmt.specs.Formats.Desc.{descriptorOf, accessControl, scrambler, streamIdentifier, serviceText, shortEvent, hevc, serviceAt, genreAt}
 use Rattle.isdb_mmt.specs.Formats.Timestamp.{timestampAt}
 use Rattle.isdb_mmt.specs.WholeValues.Steps.{atEnd, element, Counts}
-use Rattle.isdb_mmt.specs.WholeValues.WholeDescriptors.{urlIn, valueIn, timestampSeen, timestampsIn, serviceSeen, servicesIn, genreSeen as genreStood, genresIn, locationSeen as locationStood}
+use Rattle.isdb_mmt.specs.WholeValues.WholeDescriptors.{urlIn, timestampSeen, timestampsIn, serviceSeen, servicesIn, genreSeen as genreStood, genresIn, locationSeen as locationStood}
 use Rattle.isdb_mmt.specs.WholeValues.WholeLists.{wholeSent as sentWhole}
 use Rattle.isdb_mmt.specs.Standards.StdB60Sections.{All}
 use Rattle.isdb_mmt.proofs.BytesAt.{FoundAt, located-whole, located-first, located-last, located-part, located-drop, located-within, located-front, located-rest, field-read, first-read, byte-read}
@@ -29,7 +26,7 @@ use Rattle.isdb_mmt.proofs.BytesBehind.{found-is}
 use Rattle.isdb_mmt.proofs.WholeLists.{sent as sent-read}
 use Rattle.isdb_mmt.specs.Standards.StdB60Descriptors.{rowsSent, SentTime, timeFields, timeSent, TimeConforming, timeSeen, SentListed, listedFields, listedSent, ListedConforming, listedSeen, SentGenre, genreFields, genreSent, GenreConforming, genreSeen}
 use Rattle.isdb_mmt.specs.Standards.StdB60Descriptors.{SentHevc, hevcFields, HevcConforming, eventFields, scramblerFields, serviceFields}
-use Rattle.isdb_mmt.specs.Standards.StdB60Descriptors.{SentBody, mpuTimes, caSystem, caSystemAt, scrambling, hevcVideo, servicesListed, eventTexts, componentTag, genres, broadcasterCalled, serviceCalled, mpuTimesExtended, tagOf, bodySent, BodyConforming, valueSeen, BodyRead, BodyTheorem}
+use Rattle.isdb_mmt.specs.Standards.StdB60Descriptors.{SentBody, mpuTimes, caSystem, caSystemAt, scrambling, hevcVideo, servicesListed, eventTexts, componentTag, genres, broadcasterCalled, serviceCalled, mpuTimesExtended, tagOf, bodySent, BodyConforming, BodyRead, BodyTheorem}
 use Rattle.isdb_mmt.specs.Standards.StdB60Descriptors.{placeSeen, lengthBytes, wholeSent, WholeConforming, wholeSeen, DescriptorsTheorem, LocationsTheorem, Examples}
 use Rattle.isdb_mmt.proofs.StdB60Rows.{rows-given, ends-same}
 use Rattle.isdb_mmt.proofs.StdB60Extended.{extended-read}
@@ -140,7 +137,8 @@ event-read a b c name text h =
     let second : TextAt s 2 (n + 4) text = rw e at (text-at 2 text (h .4) (located-rest name last there refl)) in
     let long : n + 4 + 2 + length text ≤ length s = second .long in
     let body : partOf s (partAt (n + 6) (length text)) ≡ text = rw e2 at (second .text) in
-    rw (le-ltb (length s) 4 (omega arith), front-byte fs fit r 3 refl, front-byte fs fit r 0 refl, front-byte fs fit r 1 refl, front-byte fs fit r 2 refl, second .size)
+    let byte = front-byte fs fit r in
+    rw (le-ltb (length s) 4 (omega arith), byte 3 refl, byte 0 refl, byte 1 refl, byte 2 refl, second .size)
     (rw (le-ltb (length s) (n + 6) (omega arith), le-ltb (length s) (n + 6 + length text) (omega arith), first, body))
 
 -- MH-broadcaster name
@@ -170,8 +168,9 @@ module _ (ts : List SentTime) (c : All TimeConforming ts) where
   unfolding descriptorOf
   times-read =
       let g = rows-given timeSent timeSeen TimeConforming times (timestampSeen times) time-step 0 ts c (located-whole times) in
-      let e : timestampsIn times ≡ map timeSeen ts = ends-same (timestampSeen times) (rows times .timestamps) (record { stop = 0 + length times; gives = g; ends = times-end }) in
-      rw e
+      let all : timestampsIn times ≡ map timeSeen ts =
+      ends-same (timestampSeen times) (rows times .timestamps) (record { stop = 0 + length times; gives = g; ends = times-end }) in
+      rw all
 
 module _ (xs : List SentListed) (c : All ListedConforming xs) where
   abbrev listed : List ℕ
@@ -372,4 +371,6 @@ examples-conform =
         ),
       );
       bytes = refl;
+      urlConforms = omega arith;
+      urlBytes = refl;
     }

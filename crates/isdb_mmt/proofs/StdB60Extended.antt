@@ -1,21 +1,20 @@
 -- What a sender that conforms to ARIB STD-B60 writes of an MPU extended timestamp descriptor (7.4.3.35) is read right. Assumes nothing.
-use Prim.Native.Nat.{ℕ, _+_, _-_, _*_, _/_, _%_, _^_, _≤_, _<_}
+use Prim.Native.Nat.{ℕ, _+_, _-_, _*_, _/_, _%_, _≤_, _<_}
 use mathlib.Core.Path.{_≡_, refl, sym, ap, _∙_}
-use mathlib.Core.Bool.{Bool, true, false}
+use mathlib.Core.Bool.{Bool, true}
 use mathlib.Core.List.{List, [], _∷_, _++_, map}
 use mathlib.Core.Option.{Option, none, some}
 use native.Mathlib.Nat.{add-zero, zero-mul, suc-mul, add-comm}
 use native.Mathlib.Omega.{arith}
 use lib.ListN.{length, getD, length-append, length-map}
-use borrow.Author.Tests.{le-ltb, lt-ltb, lt-leb, le-leb}
+use borrow.Author.Tests.{le-ltb, lt-leb, le-leb}
 use Rattle.isdb_tlv.specs.Guards.{_=?_}
-use Rattle.isdb_tlv.specs.Bytes.{be}
-use Rattle.isdb_tlv.specs.Fields.{Field, field, bits, packed, written, Fit}
-use Rattle.isdb_tlv.proofs.Fields.{be-one, size, length-written}
-use Rattle.isdb_mmt.specs.Formats.Part.{partAt, partOf}
+use Rattle.isdb_tlv.specs.Fields.{bits, packed, written, Fit}
+use Rattle.isdb_tlv.proofs.Fields.{size, length-written}
+use Rattle.isdb_mmt.specs.Formats.Part.{partAt}
 use Rattle.isdb_mmt.specs.Formats.Desc.{descriptorOf, extendedTimestamp}
 use Rattle.isdb_mmt.specs.Formats.Timestamp.{scaleEnd, headEnd, timescaleOf, defaultOffset, unitSize, mpuAt, mpusWhole, extendedOf, unitStep}
-use Rattle.isdb_mmt.specs.WholeValues.Steps.{atEnd, element, Counts, Ends}
+use Rattle.isdb_mmt.specs.WholeValues.Steps.{atEnd, element, Counts}
 use Rattle.isdb_mmt.specs.WholeValues.WholeDescriptors.{unitSeen, unitsIn, mpuSeen as mpuStood, wholeExtended}
 use Rattle.isdb_mmt.specs.Standards.StdB60Sections.{All}
 use Rattle.isdb_mmt.specs.declared.desc.Descriptor.the-variants.{ExtendedTimestamp}
@@ -27,7 +26,7 @@ use Rattle.isdb_mmt.proofs.BytesBehind.{found-is}
 use Rattle.isdb_mmt.proofs.Timestamps.{whole-end, whole-on}
 use Rattle.isdb_mmt.proofs.DescriptorWalks.{extendedTimestamps}
 use Rattle.isdb_mmt.specs.Standards.StdB60Descriptors.{rowsSent, PtsOffsets, unsaid, same, own, offsetType, offsetFields, SentAccessUnit, accessUnitFields, accessUnitSent, accessUnitSeen, SentMpu, mpuFields, mpuSent, MpuConforming, mpuSeen}
-use Rattle.isdb_mmt.specs.Standards.StdB60Descriptors.{SentExtended, timescaleFlag, timescaleFields, flagsFields, extendedSent, ExtendedConforming, timescaleSeen, offsetSeen, extendedSeen, mpuTimesExtended, BodyRead}
+use Rattle.isdb_mmt.specs.Standards.StdB60Descriptors.{SentExtended, timescaleFlag, timescaleFields, flagsFields, extendedSent, ExtendedConforming, timescaleSeen, offsetSeen, mpuTimesExtended, BodyRead}
 use Rattle.isdb_mmt.proofs.StdB60Rows.{rows-given, ends-same}
 
 -- each access unit has a PTS offset of its own
@@ -78,7 +77,8 @@ units-read : (t : Option ℕ) (o : PtsOffsets) (start : ℕ) (us : List SentAcce
 units-read t o start us c =
     let s = rowsSent (accessUnitSent o) us in
     let step = unitSeen s (headSeen t o start) in
-    let g = rows-given (accessUnitSent o) (accessUnitSeen o) (λ u. Fit (accessUnitFields o u)) s step (unit-step s t o start) 0 us c (located-whole s) in
+    let fits : SentAccessUnit → Type 0 = λ u. Fit (accessUnitFields o u) in
+    let g = rows-given (accessUnitSent o) (accessUnitSeen o) fits s step (unit-step s t o start) 0 us c (located-whole s) in
     let all : Counts step (length us) 0 (map (accessUnitSeen o) us) =
     record { count = length-map us (accessUnitSeen o); stop = 0 + length s; gives = g } in
     found-is step all
@@ -98,7 +98,8 @@ module _ {s : List ℕ} {at : ℕ} (o : PtsOffsets) (m : SentMpu) (c : MpuConfor
   mpu-length = rw (length-append, length-written (mpuFields m), units-size o (m .units))
 
   mpu-step : mpuAt s (isOwn o) at
-      ≡ Mpu (m .sequenceNumber) (m .leapIndicator) (m .decodingTimeOffset) (length (m .units)) (partAt (at + 8) (length units)) (at + length (mpuSent o m))
+      ≡ Mpu (m .sequenceNumber) (m .leapIndicator) (m .decodingTimeOffset) (length (m .units)) (partAt (at + 8) (length units))
+      (at + length (mpuSent o m))
   unfolding mpuAt
   mpu-step =
       let fs = mpuFields m in
@@ -143,8 +144,8 @@ scale-read : {s : List ℕ} (t : Option ℕ) (f : ℕ) → f % 2 ≡ timescaleFl
 scale-read none f e fit h = rw e
 scale-read (some t) f e fit h = rw (e, first-read (timescaleFields (some t)) fit h)
 
-offset-read : {s : List ℕ} (o : PtsOffsets) (f : ℕ) → f / 2 % 4 ≡ offsetType o → Fit (offsetFields o) → FoundAt s (scaleEnd f) (written (offsetFields o))
-    → defaultOffset s f ≡ offsetSeen o
+offset-read : {s : List ℕ} (o : PtsOffsets) (f : ℕ) → f / 2 % 4 ≡ offsetType o → Fit (offsetFields o)
+    → FoundAt s (scaleEnd f) (written (offsetFields o)) → defaultOffset s f ≡ offsetSeen o
 offset-read unsaid f e fit h = rw e
 offset-read (same d) f e fit h = rw (e, first-read (offsetFields (same d)) fit h)
 offset-read own f e fit h = rw e
@@ -238,8 +239,11 @@ module _ (e : SentExtended) (c : ExtendedConforming e) where
   mpus-read : wholeExtended s head .mpus ≡ map (mpuSeen (e .offsets)) (e .mpus)
   mpus-read =
       let o = e .offsets in
-      let g = rows-given (mpuSent o) (mpuSeen o) (MpuConforming o) s (mpuStood s head) (λ at m d f. mpu-stood o m d f (e .timescale) start) start (e .mpus) (c .mpus) mpus-found in
-      ends-same (mpuStood s head) (extendedTimestamps 0x8026 s head decoded) (record { stop = start + length mpus; gives = g; ends = mpus-end })
+      let g =
+      rows-given (mpuSent o) (mpuSeen o) (MpuConforming o) s (mpuStood s head) (λ at m d f. mpu-stood o m d f (e .timescale) start) start
+      (e .mpus) (c .mpus) mpus-found in
+      ends-same (mpuStood s head) (extendedTimestamps 0x8026 s head decoded)
+      (record { stop = start + length mpus; gives = g; ends = mpus-end })
 
   pub extended-read : BodyRead (mpuTimesExtended e)
   extended-read = rw (decoded, mpus-read)

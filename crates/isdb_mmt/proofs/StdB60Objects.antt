@@ -348,7 +348,7 @@ in-flow : (b : List ℕ) (f : MaybeFlow) → NotNtp f → inFlow b f ≡ mmtpIn 
 in-flow b noFlow n = refl
 in-flow b (someFlow f) n = rw (ne-eqb (f .dport) 123 n)
 
-carried : {b : List ℕ} {x : ℕ × List ℕ} → Carried b x → classify (x .0) (x .1) ≡ mmtpIn b (mmtpOf b)
+pub carried : {b : List ℕ} {x : ℕ × List ℕ} → Carried b x → classify (x .0) (x .1) ≡ mmtpIn b (mmtpOf b)
 unfolding classify packetType
 carried (byIpv4 d c n) = rw (rfc791 d c .fields, rfc791 d c .payload) (in-flow (d .payload) (someFlow (ipv4Flow d)) n)
 carried (byIpv6 d c n) = rw (rfc8200 d c .fields, rfc8200 d c .payload) (in-flow (d .payload) (someFlow (ipv6Flow d)) n)

@@ -1,18 +1,16 @@
 -- What a sender that conforms to ARIB STD-B60 writes of TLV-SI descriptors is read right. Assumes nothing.
 use Prim.Native.Nat.{ℕ, suc, _+_, _-_, _*_, _/_, _%_, _^_, _≤_, _<_}
-use mathlib.Core.Path.{_≡_, refl, sym, ap, _∙_}
-use mathlib.Core.List.{List, [], _∷_, _++_, map}
-use native.Mathlib.Nat.{pow-suc, div-div-eq-div-mul, div-add-mod', add-assoc}
+use mathlib.Core.Path.{_≡_, refl, ap, _∙_}
+use mathlib.Core.List.{List}
+use native.Mathlib.Nat.{pow-suc, div-div-eq-div-mul, div-add-mod'}
 use native.Mathlib.Omega.{arith}
 use lib.ListN.{length, getD, length-append}
 use borrow.Author.Tests.{le-ltb, lt-ltb}
-use Rattle.isdb_tlv.specs.Fields.{bytesOf, Field, field, bits, packed, written, Fit}
+use Rattle.isdb_tlv.specs.Fields.{bytesOf, written, Fit}
 use Rattle.isdb_tlv.proofs.Fields.{be-one, fieldAt, offsetOf, length-written}
-use Rattle.isdb_mmt.specs.Formats.Part.{partAt, partOf}
 use Rattle.isdb_mmt.specs.Formats.Nit.{tlvStepAt, digit, bcdFrom, frequencyOf, wholeBody}
 use Rattle.isdb_mmt.specs.WholeValues.Steps.{atEnd, element}
-use Rattle.isdb_mmt.specs.WholeValues.WholeDescriptors.{tlvSeen as tlvStood, tlvsIn}
-use Rattle.isdb_mmt.specs.Standards.StdB60Sections.{All}
+use Rattle.isdb_mmt.specs.WholeValues.WholeDescriptors.{tlvSeen as tlvStood}
 use Rattle.isdb_mmt.specs.declared.maybe.MaybeU64.the-variants.{Some as someU64}
 use Rattle.isdb_mmt.proofs.BytesAt.{FoundAt, located-whole, located-part, located-within, located-front, located-rest, first-read, byte-read}
 use Rattle.isdb_mmt.proofs.DescriptorWalks.{rows}

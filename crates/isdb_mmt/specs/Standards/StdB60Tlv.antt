@@ -1,6 +1,6 @@
 -- ARIB STD-B60, 5.3: TLV-SI descriptors as a conforming sender writes them, network name, service list (Table 5-4) and satellite
 -- delivery system (Table 5-6), and what it means to read them right.
-use Prim.Native.Nat.{ℕ, _+_, _*_, _/_, _%_, _^_, _<_}
+use Prim.Native.Nat.{ℕ, _*_, _/_, _%_, _^_, _<_}
 use mathlib.Core.Path.{_≡_}
 use mathlib.Core.List.{List, [], _∷_, _++_, map}
 use mathlib.Core.Option.{Option, none, some}
