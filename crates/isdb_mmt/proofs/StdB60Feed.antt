@@ -1,7 +1,8 @@
 -- An MPT that a conforming sender puts into a feed is the one that a push keeps. Assumes nothing.
 use Prim.Native.Nat.{ℕ}
 use mathlib.Core.Path.{_≡_, refl, sym, ap, subst, _∙_}
-use mathlib.Core.List.{List, []}
+use mathlib.Core.Bool.{Bool}
+use mathlib.Core.List.{List, [], _∷_, _++_}
 use mathlib.Core.Option.{some}
 use native.Mathlib.Omega.{arith}
 use lib.ListN.{drop, getD}
@@ -13,16 +14,21 @@ use Rattle.isdb_tlv.specs.StdB32.{Tlv, tlvSent, TlvConforming, hcfbSent, ipv6Id
 use Rattle.isdb_tlv.proofs.Iso23008.{iso23008}
 use Rattle.isdb_tlv.proofs.StdB32.{tlv}
 use Rattle.isdb_mmt.specs.Decoder.Packet.{Bytes, message, messagePacket, classify}
-use Rattle.isdb_mmt.specs.Decoder.Maps.{orElse}
-use Rattle.isdb_mmt.specs.Decoder.Model.{controlOf}
+use Rattle.isdb_mmt.specs.Decoder.Maps.{find, orElse}
+use Rattle.isdb_mmt.specs.Decoder.Objects.{fresh}
+use Rattle.isdb_mmt.specs.Decoder.Model.{State, opened, assetOf, controlOf, pushed}
+use Rattle.isdb_mmt.specs.Books.Demand.{pushAll, packetsOf as fedPackets}
 use Rattle.isdb_mmt.specs.Memory.View.{view}
+use Rattle.isdb_mmt.specs.Pushes.Push.{Input, packetOf, packetsOf}
 use Rattle.isdb_mmt.specs.Standards.StdB60Tables.{SentMpt, mptSent, MptConforming}
 use Rattle.isdb_mmt.specs.Standards.StdB60Messages.{controlSent}
 use Rattle.isdb_mmt.specs.Standards.StdB60Kept.{MptInPa, mptInPaSent, mptWitness}
-use Rattle.isdb_mmt.specs.Standards.StdB60Objects.{byHcfb}
+use Rattle.isdb_mmt.specs.Standards.StdB60Objects.{SentObject, Awaited, idRecords, byHcfb}
 use Rattle.isdb_mmt.specs.Standards.StdB60Feed.{MptCarried, MptFed, MptPushed, MptInTlv, ReadAsSent, AssetsPushed, fedMmtp, fedHcfb, FedWitness}
+use Rattle.isdb_mmt.specs.Standards.StdB60Feed.{feedOf, ObjectHanded, ObjectHandedAmong, MptPushedLast}
 use Rattle.isdb_mmt.proofs.StdB60Tables.{mpt}
-use Rattle.isdb_mmt.proofs.StdB60Objects.{carried}
+use Rattle.isdb_mmt.proofs.StdB60Objects.{among-others, carried, feeds}
+use Rattle.isdb_mmt.proofs.Accepted.{demand-2}
 use Rattle.isdb_mmt.proofs.StdB60Kept.{mpt-in-pa, mpt-witness}
 
 -- the packet is classified as a message packet, with the sender's payload
@@ -97,3 +103,38 @@ fed-witness =
       bytes = refl;
       kept = λ s. mpt-fed mptWitness fedMmtp 0x03 (hcfbSent fedHcfb) fed-carried s;
     }
+
+-- ---- a divided object
+
+feed-packets : (xs : List Input) → fedPackets (feedOf xs) ≡ packetsOf xs
+feed-packets [] = refl
+feed-packets (i ∷ xs) = ap (λ ps. packetOf i ∷ ps) (feed-packets xs)
+
+-- an opened state awaits every object
+opened-awaits : (pass : Bool) (o : SentObject) → Awaited (opened pass) o
+unfolding assetOf opened orElse find fresh
+opened-awaits pass o = record { held = refl; number = tt }
+
+pub object-handed : ObjectHanded
+object-handed o c short l s a h xs b t all =
+    let pass = l .«pass_scrambled» in
+    let d = feeds o c short (opened pass) (opened-awaits pass o) (feedOf xs) all in
+    demand-2 l s a h xs b t .records ∙ (rw (feed-packets xs) at (d .given))
+
+pub object-handed-among : ObjectHandedAmong
+object-handed-among o c short l s a h xs b t own =
+    let pass = l .«pass_scrambled» in
+    let d = among-others o c short (opened pass) (opened-awaits pass o) (packetsOf xs) own in
+    ap (idRecords (o .packetId)) (demand-2 l s a h xs b t .records) ∙ d .0
+
+-- the last of some packets
+push-last : (s : State) (xs : List Input) (i : Input) → pushAll s (packetsOf (xs ++ (i ∷ []))) ≡ pushed (pushAll s (packetsOf xs)) (packetOf i)
+unfolding pushAll
+push-last s [] i = refl
+push-last s (x ∷ xs) i = push-last (pushed s (packetOf x)) xs i
+
+pub mpt-pushed-last : MptPushedLast
+mpt-pushed-last x m i c l s a h xs b t =
+    let o = opened (l .«pass_scrambled») in
+    ap (λ y. controlOf (m .packetId) y .mpt) (demand-2 l s a h (xs ++ (i ∷ [])) b t .state ∙ push-last o xs i)
+    ∙ mpt-fed x m (i .kind) (i .bytes) c (pushAll o (packetsOf xs))

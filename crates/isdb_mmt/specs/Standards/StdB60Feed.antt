@@ -1,24 +1,31 @@
 -- ARIB STD-B60 in ISO/IEC 23008-1, IP and ARIB STD-B32: an MPT in a PA message, in an MMTP packet, in an IP datagram, in a TLV packet,
 -- and the MPT that a push of that packet keeps.
-use Prim.Native.Nat.{ℕ}
+use Prim.Native.Nat.{ℕ, _≤_}
 use mathlib.Core.Path.{_≡_}
-use mathlib.Core.List.{List, _∷_, [], map}
+use mathlib.Core.List.{List, [], _∷_, _++_, map}
 use mathlib.Core.Option.{none, some}
-use lib.ListN.{drop, getD}
+use lib.ListN.{length, drop, getD}
 use Rattle.isdb_tlv.specs.Iso23008.{notProtected, controlMessage, noExtension, Mmtp, Conforming, sent as mmtpSent}
 use Rattle.isdb_tlv.specs.StdB32.{compressedIp, kindCode, Tlv, tlvSent, TlvConforming, ipv6Id, Hcfb, hcfbSent}
 use Rattle.isdb_mmt.specs.Formats.Part.{partOf}
 use Rattle.isdb_mmt.specs.Formats.Mpt.{mptOf, assetsFrom}
 use Rattle.isdb_mmt.specs.Decoder.Packet.{Bytes, classify}
 use Rattle.isdb_mmt.specs.Decoder.Model.{State, controlOf, pushed}
+use Rattle.isdb_mmt.specs.Books.Demand.{Feed}
+use Rattle.isdb_mmt.specs.Memory.Limits.{asked}
 use Rattle.isdb_mmt.specs.Memory.Session.{Session}
+use Rattle.isdb_mmt.specs.Memory.Check.{lengthsOf}
 use Rattle.isdb_mmt.specs.Memory.View.{view}
-use Rattle.isdb_mmt.specs.Pushes.Push.{Input, Pushed}
+use Rattle.isdb_mmt.specs.Memory.Opening.{openedSession}
+use Rattle.isdb_mmt.specs.Memory.Octets.{Lent}
+use Rattle.isdb_mmt.specs.Pushes.Push.{Input, Pushed, leavesAll, handedAll, AllTaken, AllBytes, packetsOf}
 use Rattle.isdb_mmt.specs.Standards.StdB60.{loopSent}
 use Rattle.isdb_mmt.specs.Standards.StdB60Tables.{assetSeen, assetValue, SentMpt, mptSent}
 use Rattle.isdb_mmt.specs.Standards.StdB60Messages.{controlSent}
-use Rattle.isdb_mmt.specs.Standards.StdB60Objects.{Carried}
+use Rattle.isdb_mmt.specs.Standards.StdB60Objects.{SentObject, objectPackets, objectData, ObjectConforming, received, objectSeen, recordOf}
+use Rattle.isdb_mmt.specs.Standards.StdB60Objects.{idPackets, idRecords, Carried, AllCarried}
 use Rattle.isdb_mmt.specs.Standards.StdB60Kept.{MptInPa, mptInPaSent, MptInPaConforming, mptWitness, mptWitnessBytes}
+use Rattle.isdb_mmt.specs.declared.decoder.limits.Limits.{Limits}
 use Rattle.isdb_mmt.specs.declared.table.mpt.Mpt.{Mpt}
 use Rattle.isdb_mmt.specs.declared.table.mpt.MaybeMpt.the-variants.{Some as someMpt}
 
@@ -104,3 +111,33 @@ pub record FedWitness : Type 0 where
   pub bytes : tlvSent fedTlv ≡ fedBytes
   pub kept : (s : State) → controlOf 0x8001 (pushed s (classify 0x03 (drop 4 fedBytes))) .mpt
       ≡ some (0x20 ∷ 0x01 ∷ 0x00 ∷ 0x05 ∷ 0xFC ∷ 0x00 ∷ 0x00 ∷ 0x00 ∷ 0x00 ∷ [])
+
+-- ---- a divided object, at the level of accepted pushes from an opened session
+
+abbrev pub feedOf : List Input → Feed
+feedOf xs = map (λ i. (i .kind, i .bytes)) xs
+
+-- pushes of packets that carry the object's MMTP packets hand out one record: the object, whole
+abbrev pub ObjectHanded : Type 0
+ObjectHanded =
+    (o : SentObject) → ObjectConforming o → length (objectData o) ≤ 16777216
+    → (l : Limits) (s : Session) → asked l (lengthsOf s) ≡ 0 → Lent s
+    → (xs : List Input) → AllBytes xs → AllTaken (openedSession l s) xs → AllCarried (objectPackets o) (feedOf xs)
+    → handedAll (openedSession l s) xs ≡ recordOf (o .packetId) (objectSeen o) ∷ []
+
+-- the same of the records of its packet id, whatever else is pushed in between
+abbrev pub ObjectHandedAmong : Type 0
+ObjectHandedAmong =
+    (o : SentObject) → ObjectConforming o → length (objectData o) ≤ 16777216
+    → (l : Limits) (s : Session) → asked l (lengthsOf s) ≡ 0 → Lent s
+    → (xs : List Input) → AllBytes xs → AllTaken (openedSession l s) xs
+    → idPackets (o .packetId) (packetsOf xs) ≡ map received (objectPackets o)
+    → idRecords (o .packetId) (handedAll (openedSession l s) xs) ≡ recordOf (o .packetId) (objectSeen o) ∷ []
+
+-- and the MPT after every list of accepted pushes, the last of which carries it
+abbrev pub MptPushedLast : Type 0
+MptPushedLast =
+    (x : MptInPa) (m : Mmtp) (i : Input) → MptCarried x m (i .kind) (i .bytes)
+    → (l : Limits) (s : Session) → asked l (lengthsOf s) ≡ 0 → Lent s
+    → (xs : List Input) → AllBytes (xs ++ (i ∷ [])) → AllTaken (openedSession l s) (xs ++ (i ∷ []))
+    → controlOf (m .packetId) (view (leavesAll (openedSession l s) (xs ++ (i ∷ [])))) .mpt ≡ some (mptSent (x .mpt))
