@@ -1,4 +1,5 @@
--- An MPT that a conforming sender puts into a feed is the one that a push keeps. Assumes nothing.
+-- An MPT that a conforming sender puts into a feed is the one that a push keeps, and an object that it divides is handed out
+-- whole. Assumes nothing.
 use Prim.Native.Nat.{ℕ}
 use mathlib.Core.Path.{_≡_, refl, sym, ap, subst, _∙_}
 use mathlib.Core.Bool.{Bool}
@@ -24,8 +25,8 @@ use Rattle.isdb_mmt.specs.Standards.StdB60Tables.{SentMpt, mptSent, MptC
 use Rattle.isdb_mmt.specs.Standards.StdB60Messages.{controlSent}
 use Rattle.isdb_mmt.specs.Standards.StdB60Kept.{MptInPa, mptInPaSent, mptWitness}
 use Rattle.isdb_mmt.specs.Standards.StdB60Objects.{SentObject, Awaited, idRecords, byHcfb}
-use Rattle.isdb_mmt.specs.Standards.StdB60Feed.{MptCarried, MptFed, MptPushed, MptInTlv, ReadAsSent, AssetsPushed, fedMmtp, fedHcfb, FedWitness}
-use Rattle.isdb_mmt.specs.Standards.StdB60Feed.{feedOf, ObjectHanded, ObjectHandedAmong, MptPushedLast}
+use Rattle.isdb_mmt.specs.Standards.StdB60Feed.{MptCarried, MptFed, MptPushed, MptInTlv, ReadAsSent, AssetsPushed}
+use Rattle.isdb_mmt.specs.Standards.StdB60Feed.{fedMmtp, fedHcfb, FedWitness, feedOf, ObjectHanded, ObjectHandedAmong, MptPushedLast}
 use Rattle.isdb_mmt.proofs.StdB60Tables.{mpt}
 use Rattle.isdb_mmt.proofs.StdB60Objects.{among-others, carried, feeds}
 use Rattle.isdb_mmt.proofs.Accepted.{demand-2}
@@ -128,7 +129,8 @@ object-handed-among o c short l s a h xs b t own =
     ap (idRecords (o .packetId)) (demand-2 l s a h xs b t .records) ∙ d .0
 
 -- the last of some packets
-push-last : (s : State) (xs : List Input) (i : Input) → pushAll s (packetsOf (xs ++ (i ∷ []))) ≡ pushed (pushAll s (packetsOf xs)) (packetOf i)
+push-last : (s : State) (xs : List Input) (i : Input)
+    → pushAll s (packetsOf (xs ++ (i ∷ []))) ≡ pushed (pushAll s (packetsOf xs)) (packetOf i)
 unfolding pushAll
 push-last s [] i = refl
 push-last s (x ∷ xs) i = push-last (pushed s (packetOf x)) xs i

@@ -1,5 +1,5 @@
 -- ARIB STD-B60 in ISO/IEC 23008-1, IP and ARIB STD-B32: an MPT in a PA message, in an MMTP packet, in an IP datagram, in a TLV packet,
--- and the MPT that a push of that packet keeps.
+-- and the MPT that a push of that packet keeps; a divided object, and the record that pushes hand out.
 use Prim.Native.Nat.{ℕ, _≤_}
 use mathlib.Core.Path.{_≡_}
 use mathlib.Core.List.{List, [], _∷_, _++_, map}
@@ -22,8 +22,8 @@ use Rattle.isdb_mmt.specs.Pushes.Push.{Input, Pushed, leavesAll, handedA
 use Rattle.isdb_mmt.specs.Standards.StdB60.{loopSent}
 use Rattle.isdb_mmt.specs.Standards.StdB60Tables.{assetSeen, assetValue, SentMpt, mptSent}
 use Rattle.isdb_mmt.specs.Standards.StdB60Messages.{controlSent}
-use Rattle.isdb_mmt.specs.Standards.StdB60Objects.{SentObject, objectPackets, objectData, ObjectConforming, received, objectSeen, recordOf}
-use Rattle.isdb_mmt.specs.Standards.StdB60Objects.{idPackets, idRecords, Carried, AllCarried}
+use Rattle.isdb_mmt.specs.Standards.StdB60Objects.{SentObject, objectPackets, objectData, ObjectConforming}
+use Rattle.isdb_mmt.specs.Standards.StdB60Objects.{received, objectSeen, recordOf, idPackets, idRecords, Carried, AllCarried}
 use Rattle.isdb_mmt.specs.Standards.StdB60Kept.{MptInPa, mptInPaSent, MptInPaConforming, mptWitness, mptWitnessBytes}
 use Rattle.isdb_mmt.specs.declared.decoder.limits.Limits.{Limits}
 use Rattle.isdb_mmt.specs.declared.table.mpt.Mpt.{Mpt}
