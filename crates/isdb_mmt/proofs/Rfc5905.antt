@@ -13,6 +13,7 @@ use Rattle.isdb_tlv.proofs.Numbers.{be-add}
 use Rattle.isdb_tlv.proofs.Fields.{read, be-behind, be-before, length-written}
 use Rattle.isdb_tlv.proofs.Rfc791.{rfc791}
 use Rattle.isdb_tlv.proofs.Rfc8200.{rfc8200}
+use Rattle.isdb_tlv.proofs.StdB32.{hcfb}
 use Rattle.isdb_mmt.specs.Decoder.Packet.{ntp, toPort, classify}
 use Rattle.isdb_mmt.specs.Standards.Rfc5905.{Timestamp, sent, Conforming, ticks, Theorem, Packet, packetFields, packetSent, PacketConforming, PacketTheorem, PacketExample}
 use Rattle.isdb_mmt.proofs.Floats as Floats
@@ -60,7 +61,8 @@ module _ (p : Packet) (c : PacketConforming p) (r : List ℕ) where
   transmit-read =
       let t = sent (p .transmit) in
       let inside : be 8 (t ++ r) 0 ≡ be 8 t 0 = be-before 8 t r 0 (omega (arith, sent-length (p .transmit))) in
-      rw (split p, append-assoc (before p) t r) (be-behind 8 (before p) (t ++ r) (before-length p) 0 ∙ inside ∙ number (p .transmit) (c .transmit))
+      rw (split p, append-assoc (before p) t r)
+      (be-behind 8 (before p) (t ++ r) (before-length p) 0 ∙ inside ∙ number (p .transmit) (c .transmit))
 
   taken : toPort (packetSent p ++ r) 123 ≡ ntp (some (ticks (p .transmit)))
   taken =
@@ -75,8 +77,11 @@ packets p c r =
       transmit = taken p c r;
       overIpv4 = λ d h port payload. let w = rfc791 d h in rw (w .fields, w .payload, port, payload) (taken p c r);
       overIpv6 = λ d h port payload. let w = rfc8200 d h in rw (w .fields, w .payload, port, payload) (taken p c r);
+      compressed =
+          λ d h f flow port payload.
+          let w = hcfb d h in rw (w .fields, w .payload, flow, port, payload) (taken p c r);
     }
 
 pub packet-example : PacketExample
 unfolding bytesOf
-packet-example = record { conforms = omega arith; bytes = refl }
+packet-example = record { conforms = omega arith; bytes = refl; carried = omega arith }

@@ -12,7 +12,7 @@ use Rattle.isdb_tlv.specs.Fields.{bytesOf, Field, field, bits, packed, written,
 use Rattle.isdb_tlv.proofs.Fields.{be-one, size, fieldAt, offsetOf, length-written}
 use Rattle.isdb_mmt.specs.Formats.Part.{partAt, partOf}
 use Rattle.isdb_mmt.specs.Formats.Location.{locationOf}
-use Rattle.isdb_mmt.specs.Standards.StdB60.{widthOf, Descriptor, loopSent, LoopConforming, SentLocation, sameFlow, ipv4, ipv6, mpeg2Ts, mpeg2TsIpv6, url, locationFields, locationBytes, locationSent, LocationConforming, locationSeen}
+use Rattle.isdb_mmt.specs.Standards.StdB60.{widthOf, loopSent, LoopConforming, SentLocation, sameFlow, ipv4, ipv6, mpeg2Ts, mpeg2TsIpv6, url, locationFields, locationBytes, locationSent, LocationConforming, locationSeen}
 use Rattle.isdb_mmt.specs.Formats.Desc.{descriptorOf, accessControl, scrambler, streamIdentifier, serviceText, shortEvent, hevc, serviceAt, genreAt}
 use Rattle.isdb_mmt.specs.Formats.Timestamp.{timestampAt}
 use Rattle.isdb_mmt.specs.WholeValues.Steps.{atEnd, element, Counts}
@@ -27,7 +27,7 @@ use Rattle.isdb_mmt.proofs.WholeLists.{sent as sent-read}
 use Rattle.isdb_mmt.specs.Standards.StdB60Descriptors.{rowsSent, SentTime, timeFields, timeSent, TimeConforming, timeSeen, SentListed, listedFields, listedSent, ListedConforming, listedSeen, SentGenre, genreFields, genreSent, GenreConforming, genreSeen}
 use Rattle.isdb_mmt.specs.Standards.StdB60Descriptors.{SentHevc, hevcFields, HevcConforming, eventFields, scramblerFields, serviceFields}
 use Rattle.isdb_mmt.specs.Standards.StdB60Descriptors.{SentBody, mpuTimes, caSystem, caSystemAt, scrambling, hevcVideo, servicesListed, eventTexts, componentTag, genres, broadcasterCalled, serviceCalled, mpuTimesExtended, tagOf, bodySent, BodyConforming, BodyRead, BodyTheorem}
-use Rattle.isdb_mmt.specs.Standards.StdB60Descriptors.{placeSeen, lengthBytes, wholeSent, WholeConforming, wholeSeen, DescriptorsTheorem, LocationsTheorem, Examples}
+use Rattle.isdb_mmt.specs.Standards.StdB60Descriptors.{placeSeen, lengthBytes, wholeSent, WholeConforming, wholeSeen, described, DescriptorsTheorem, LocationsTheorem, Examples}
 use Rattle.isdb_mmt.proofs.StdB60Rows.{rows-given, ends-same}
 use Rattle.isdb_mmt.proofs.StdB60Extended.{extended-read}
 
@@ -88,7 +88,8 @@ pub record TextAt (s : List ℕ) (w at : ℕ) (t : List ℕ) : Type 0 where
   pub size : be w s at ≡ length t
   pub text : partOf s (partAt (at + w) (length t)) ≡ t
 
-text-at : {s : List ℕ} {at : ℕ} (w : ℕ) (t : List ℕ) → length t < 256 ^ w → FoundAt s at (written (field w (length t) ∷ []) ++ t) → TextAt s w at t
+text-at : {s : List ℕ} {at : ℕ} (w : ℕ) (t : List ℕ) → length t < 256 ^ w → FoundAt s at (written (field w (length t) ∷ []) ++ t)
+    → TextAt s w at t
 text-at {s} {at} w t short h =
     let fs : List Field = field w (length t) ∷ [] in
     let fit : Fit fs = (short, tt) in
@@ -271,9 +272,6 @@ bodies (serviceCalled t provider name) c = service-read t provider name c
 bodies (mpuTimesExtended e) c = extended-read e c
 
 -- whole descriptors
-abbrev described : SentBody → Descriptor
-described d = record { tag = tagOf d; content = bodySent d }
-
 width : (d : SentBody) → widthOf (tagOf d) ≡ lengthBytes d
 unfolding widthOf
 width (mpuTimes ts) = refl
@@ -316,7 +314,12 @@ loop-seen [] c = refl
 loop-seen (d ∷ ds) c = ap₂ _∷_ (rw (bodies d (c .0 .body))) (loop-seen ds (c .1))
 
 pub descriptors : DescriptorsTheorem
-descriptors ds c = rw (loop-is ds, loop-seen ds c) at (sent-read (map described ds) (loop-fits ds c))
+descriptors ds c =
+    record {
+      loop = loop-is ds;
+      conforms = loop-fits ds c;
+      values = rw (loop-is ds, loop-seen ds c) at (sent-read (map described ds) (loop-fits ds c));
+    }
 
 -- locations
 location-step : (s : List ℕ) (at : ℕ) (p : SentLocation) → LocationConforming p → FoundAt s at (locationSent p)

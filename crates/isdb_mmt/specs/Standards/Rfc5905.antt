@@ -8,6 +8,9 @@ use Rattle.isdb_tlv.specs.Bytes.{be}
 use Rattle.isdb_tlv.specs.Fields.{Field, field, bits, packed, written}
 use Rattle.isdb_tlv.specs.Rfc791 as Rfc791
 use Rattle.isdb_tlv.specs.Rfc8200 as Rfc8200
+use Rattle.isdb_tlv.specs.StdB32 as StdB32
+use Rattle.isdb_tlv.specs.declared.ip.Flow.{Flow}
+use Rattle.isdb_tlv.specs.declared.ip.MaybeFlow.the-variants.{Some as someFlow}
 use Rattle.isdb_mmt.specs.Decoder.Packet.{ntp, toPort, classify}
 use Rattle.isdb_mmt.specs.Formats.Ntp.{ntpToUnix, Exact}
 
@@ -80,7 +83,7 @@ pub record PacketConforming (p : Packet) : Type 0 where
   pub transmit : Conforming (p .transmit)
 
 -- of a packet sent to port 123, with extension fields and a MAC or nothing behind it, the transmit timestamp is taken; so it is of a
--- TLV packet with an IPv4 or an IPv6 datagram that carries it
+-- TLV packet that carries it in an IPv4 or an IPv6 datagram, or in a compressed one with its addresses
 pub record PacketRead (p : Packet) (r : List ℕ) : Type 0 where
   pub long : length (packetSent p) ≡ 48
   pub transmit : toPort (packetSent p ++ r) 123 ≡ ntp (some (ticks (p .transmit)))
@@ -88,6 +91,8 @@ pub record PacketRead (p : Packet) (r : List ℕ) : Type 0 where
       → classify 0x01 (Rfc791.sent d) ≡ ntp (some (ticks (p .transmit)))
   pub overIpv6 : (d : Rfc8200.Ipv6) → Rfc8200.Conforming d → d .destinationPort ≡ 123 → d .payload ≡ packetSent p ++ r
       → classify 0x02 (Rfc8200.sent d) ≡ ntp (some (ticks (p .transmit)))
+  pub compressed : (d : StdB32.Hcfb) → StdB32.HcfbConforming d → (f : Flow) → StdB32.flowIn (d .header) ≡ someFlow f → f .dport ≡ 123
+      → d .payload ≡ packetSent p ++ r → classify 0x03 (StdB32.hcfbSent d) ≡ ntp (some (ticks (p .transmit)))
 
 -- proved in proofs/Rfc5905.antt
 abbrev pub Theorem : Type 0
@@ -124,6 +129,22 @@ packetBytes =
     ∷ 0xE1 ∷ 0x23 ∷ 0x45 ∷ 0x67 ∷ 0x00 ∷ 0x00 ∷ 0x00 ∷ 0x00 ∷ 0x00 ∷ 0x00 ∷ 0x00 ∷ 0x00 ∷ 0x00 ∷ 0x00 ∷ 0x00 ∷ 0x00
     ∷ 0x00 ∷ 0x00 ∷ 0x00 ∷ 0x00 ∷ 0x00 ∷ 0x00 ∷ 0x00 ∷ 0x00 ∷ 0xE1 ∷ 0x23 ∷ 0x45 ∷ 0x67 ∷ 0x80 ∷ 0x00 ∷ 0x00 ∷ 0xFF ∷ []
 
+-- a datagram that carries it
+abbrev pub datagramExample : Rfc8200.Ipv6
+datagramExample =
+    record {
+      trafficClass = 0;
+      flowLabel = 0;
+      hopLimit = 32;
+      source = record { high = 0x20010DB800B50000; low = 1 };
+      destination = record { high = 0xFF0E000000000000; low = 0x101 };
+      sourcePort = 123;
+      destinationPort = 123;
+      udpChecksum = 0;
+      payload = packetBytes;
+    }
+
 pub record PacketExample : Type 0 where
   pub conforms : PacketConforming packetExample
   pub bytes : packetSent packetExample ≡ packetBytes
+  pub carried : Rfc8200.Conforming datagramExample

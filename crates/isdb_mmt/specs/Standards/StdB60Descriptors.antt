@@ -9,7 +9,7 @@ use lib.ListN.{length}
 use Rattle.isdb_tlv.specs.Guards.{if_then_else_, _≤?_, _=?_}
 use Rattle.isdb_tlv.specs.Fields.{Field, field, bits, packed, written, Fit}
 use Rattle.isdb_mmt.specs.Formats.Desc.{descriptorOf}
-use Rattle.isdb_mmt.specs.Standards.StdB60.{SentLocation, locationSent, locationBytes, LocationConforming, locationSeen, url, sameFlow}
+use Rattle.isdb_mmt.specs.Standards.StdB60.{Descriptor, loopSent, LoopConforming, SentLocation, locationSent, locationBytes, LocationConforming, locationSeen, url, sameFlow}
 use Rattle.isdb_mmt.specs.Standards.StdB60Sections.{All}
 use Rattle.isdb_mmt.specs.WholeValues.Steps.{counted}
 use Rattle.isdb_mmt.specs.WholeValues.WholeDescriptors.{WholeLocation, MpuTime, WholeMpu, WholeExtended, Listed, Genre, Value, valueIn, WholeDescriptor, loopIn, locationSeen as locationStood}
@@ -348,9 +348,15 @@ pub record WholeConforming (d : SentBody) : Type 0 where
 abbrev pub wholeSeen : SentBody → WholeDescriptor
 wholeSeen d = record { tag = tagOf d; body = bodySent d; value = valueSeen d }
 
--- a loop of such descriptors gives each of them in order, and breaks nowhere
-abbrev pub DescriptorsRead : List SentBody → Type 0
-DescriptorsRead ds = loopIn (rowsSent wholeSent ds) ≡ record { found = map wholeSeen ds; whole = true }
+-- as one of a table's loop
+abbrev pub described : SentBody → Descriptor
+described d = record { tag = tagOf d; content = bodySent d }
+
+-- a loop of such descriptors, as a table may have it, gives each of them in order, and breaks nowhere
+pub record DescriptorsRead (ds : List SentBody) : Type 0 where
+  pub loop : loopSent (map described ds) ≡ rowsSent wholeSent ds
+  pub conforms : LoopConforming (map described ds)
+  pub values : loopIn (rowsSent wholeSent ds) ≡ record { found = map wholeSeen ds; whole = true }
 
 -- Table 7-9: locations one behind another, between other bytes: each is read with the bytes of its URL
 abbrev pub LocationsRead : List ℕ → List SentLocation → List ℕ → Type 0
@@ -367,14 +373,14 @@ DescriptorsTheorem = (ds : List SentBody) → All WholeConforming ds → Descrip
 abbrev pub LocationsTheorem : Type 0
 LocationsTheorem = (a : List ℕ) (ps : List SentLocation) (r : List ℕ) → All LocationConforming ps → LocationsRead a ps r
 
--- conforming descriptors, and their bytes, as a line `descriptors HEX` of crates/cases/stdin has them
+-- conforming descriptors, and their bytes, as they may stand in lines `descriptors HEX` of crates/cases/stdin
 abbrev pub unitExample : ℕ → ℕ → SentAccessUnit
 unitExample dts pts = record { dtsPtsOffset = dts; ptsOffset = pts }
 
 abbrev pub mpuExample : ℕ → List SentAccessUnit → SentMpu
 mpuExample q us = record { sequenceNumber = q; leapIndicator = 1; reserved = 0; decodingTimeOffset = 100; units = us }
 
--- a location with a URL, as a line `location HEX` has it
+-- a location with a URL, as it may stand in a line `location HEX`
 abbrev pub urlExample : SentLocation
 urlExample = url (0x61 ∷ 0x62 ∷ 0x63 ∷ [])
 
@@ -393,7 +399,7 @@ examples =
       flags = 0;
       reserved = 0;
       level = 0x99;
-      behind = [];
+      behind = 0x0C ∷ [];
     })
     ∷ servicesListed (record { serviceId = 101; serviceType = 1 } ∷ record { serviceId = 0x166; serviceType = 2 } ∷ [])
     ∷ eventTexts 0x6A 0x70 0x6E (0x41 ∷ 0x42 ∷ []) (0x78 ∷ 0x79 ∷ 0x7A ∷ [])
@@ -430,7 +436,7 @@ exampleBytes =
     ∷ (0x80 ∷ 0x04 ∷ 0x05 ∷ 0x00 ∷ 0x05 ∷ 0x00 ∷ 0xF1 ∷ 0x01 ∷ [])
     ∷ (0x80 ∷ 0x04 ∷ 0x07 ∷ 0x00 ∷ 0x05 ∷ 0x05 ∷ 0x03 ∷ 0x61 ∷ 0x62 ∷ 0x63 ∷ [])
     ∷ (0x80 ∷ 0x05 ∷ 0x02 ∷ 0x80 ∷ 0x02 ∷ [])
-    ∷ (0x80 ∷ 0x0A ∷ 0x0C ∷ 0x22 ∷ 0x00 ∷ 0x00 ∷ 0x00 ∷ 0x00 ∷ 0x00 ∷ 0x00 ∷ 0x00 ∷ 0x00 ∷ 0x00 ∷ 0x00 ∷ 0x99 ∷ [])
+    ∷ (0x80 ∷ 0x0A ∷ 0x0D ∷ 0x22 ∷ 0x00 ∷ 0x00 ∷ 0x00 ∷ 0x00 ∷ 0x00 ∷ 0x00 ∷ 0x00 ∷ 0x00 ∷ 0x00 ∷ 0x00 ∷ 0x99 ∷ 0x0C ∷ [])
     ∷ (0x80 ∷ 0x0D ∷ 0x06 ∷ 0x00 ∷ 0x65 ∷ 0x01 ∷ 0x01 ∷ 0x66 ∷ 0x02 ∷ [])
     ∷ (0xF0 ∷ 0x01 ∷ 0x00 ∷ 0x0B ∷ 0x6A ∷ 0x70 ∷ 0x6E ∷ 0x02 ∷ 0x41 ∷ 0x42 ∷ 0x00 ∷ 0x03 ∷ 0x78 ∷ 0x79 ∷ 0x7A ∷ [])
     ∷ (0x80 ∷ 0x11 ∷ 0x02 ∷ 0x00 ∷ 0x10 ∷ [])
