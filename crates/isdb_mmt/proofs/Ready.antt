@@ -29,6 +29,7 @@ use Rattle.isdb_mmt.specs.declared.message.Division.the-variants.{Undivi
 use Rattle.isdb_mmt.specs.declared.decoder.limits.Limits.{Limits}
 use Rattle.isdb_mmt.proofs.Views.{keys}
 use Rattle.isdb_mmt.proofs.Every.{Every, every-put, every-found, every-mono, distinct-put}
+use Rattle.isdb_mmt.proofs.Named.{Takes}
 use Rattle.isdb_mmt.proofs.Amounts.{fills-cut, total}
 use Rattle.isdb_mmt.proofs.Brief.{octets-drop, octets-take, octets-append, AllOctets, Plain}
 use Rattle.isdb_mmt.proofs.Fits.{mostAdded, one-le, AssetFits, asset-more, fresh-fits, asset-fits}
@@ -166,20 +167,10 @@ pub record Ready (l : Limits) (n : ℕ) (s : State) : Type 0 where
   pub lines : length (s .controls) ≤ l .«control_ids»
   pub sections : length (s .store .kept) ≤ l .sections
 
--- what the questions say of a state and a packet
-pub record Takes (l : Limits) (s : State) (p : Packet) : Type 0 where
-  pub packets : s .counters .«tlv_packets» < l .packets
-  pub media : length (s .assets) + needs s p .mediaIds ≤ l .«media_ids»
-  pub lines : length (s .controls) + needs s p .controlIds ≤ l .«control_ids»
-  pub sections : length (s .store .kept) + needs s p .sections ≤ l .sections
-  pub object : needs s p .object ≤ l .«mfu_area»
-  pub message : needs s p .message ≤ l .«message_area»
-  pub table : needs s p .table ≤ l .«table_area»
-
-abbrev blank : ℕ → List ℕ
+abbrev pub blank : ℕ → List ℕ
 blank n = replicate n 0
 
-zero-at : (n i : ℕ) → getD (blank n) i 0 ≡ 0
+pub zero-at : (n i : ℕ) → getD (blank n) i 0 ≡ 0
 zero-at zero i = refl
 zero-at (suc n) zero = refl
 zero-at (suc n) (suc i) = zero-at n i
