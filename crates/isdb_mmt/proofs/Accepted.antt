@@ -34,8 +34,8 @@ use Rattle.isdb_mmt.proofs.Checks.{sound-session}
 use Rattle.isdb_mmt.proofs.Opening.{opening}
 use Rattle.isdb_mmt.proofs.Every.{Every}
 use Rattle.isdb_mmt.proofs.Brief.{Plain, plain-of, octets-append, octets-written, octets-over, lent-opened}
-use Rattle.isdb_mmt.proofs.Fits.{mostAdded}
-use Rattle.isdb_mmt.proofs.Ready.{JoinFits}
+use Rattle.isdb_mmt.specs.Theorems.Room.{mostAdded}
+use Rattle.isdb_mmt.proofs.Joins.{JoinFits}
 use Rattle.isdb_mmt.proofs.Outs.{HeldOk, PacketOk, packet-ok}
 use Rattle.isdb_mmt.proofs.PlaceFits.{TableOk, KeptOk, section-place, control-place}
 use Rattle.isdb_mmt.proofs.Storable.{Storable, HasAreas, control-of, asset-next, storable-view, storable-next}

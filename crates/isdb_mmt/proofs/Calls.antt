@@ -19,17 +19,17 @@ use Rattle.isdb_mmt.specs.Decoder.Model.{opened, pushed, gives}
 use Rattle.isdb_mmt.specs.Books.Book.{wellFormed}
 use Rattle.isdb_mmt.specs.Books.Demand.{pushAll, giveAll, EverySmall, Keeps, never, keeps, Holds}
 use Rattle.isdb_mmt.specs.Memory.Limits.{asked}
-use Rattle.isdb_mmt.specs.Memory.Layout.{mediaPlaces, mediaSize, controlPlaces, controlSize, sectionPlaces, sectionSize}
-use Rattle.isdb_mmt.specs.Memory.Session.{Session, limitsOf, usedOf, countersOf, timeOf, mediaAt, mediaPlaceOf, controlPlaceOf, sectionPlaceOf}
-use Rattle.isdb_mmt.specs.Memory.Check.{mediaIn, controlsIn, sectionsIn, lengthsOf, sound}
-use Rattle.isdb_mmt.specs.Memory.View.{assetEntry, controlEntry, sectionEntry, viewBy, view}
+use Rattle.isdb_mmt.specs.Memory.Layout.{mostCount}
+use Rattle.isdb_mmt.specs.Memory.Session.{Session, limitsOf, usedOf, countersOf, timeOf, mediaAt}
+use Rattle.isdb_mmt.specs.Memory.Check.{lengthsOf, sound}
+use Rattle.isdb_mmt.specs.Memory.View.{view}
 use Rattle.isdb_mmt.specs.Memory.Opening.{openedSession}
 use Rattle.isdb_mmt.specs.Memory.Octets.{Octets, Lent}
 use Rattle.isdb_mmt.specs.Pushes.Records.{readRows}
 use Rattle.isdb_mmt.specs.Pushes.Leaves.{packetLeaves}
 use Rattle.isdb_tlv.specs.Guards.{_<?_, _≤?_}
 use Rattle.isdb_mmt.specs.Decoder.Needs.{needs}
-use Rattle.isdb_mmt.specs.Pushes.Push.{Input, packetOf, mostBytes, hasPlaces, hasAreas, hasOutputs, asksOf, asks, Taken, handed as handedBy}
+use Rattle.isdb_mmt.specs.Pushes.Push.{Input, packetOf, mostBytes, hasPlaces, hasAreas, hasOutputs, asksOf, asks, handed as handedBy}
 use Rattle.isdb_mmt.specs.Answers.Readings.{mediaFound, controlFound, countersRead, timeRead, timeAt, countRead, mediaNames, controlNames, keysIn, leastFrom, mostName, nameTold, nextMediaRead, nextControlRead, nextKeyRead, mediaIf, mediaRead, heldAt, heldIf, heldRead, controlIf, controlRead, sectionRead, mptRead, pltRead, totRead, assetRead, timeNumber, nameNumber, mediaNumber, heldNumber, controlNumber, tableNumber, assetNumber, TableTold, refused, nothing, these, toldBy}
 use Rattle.isdb_mmt.specs.Answers.TableReadingLaws.{sectionBytes, mptBytes, handsOut, AsKept}
 use Rattle.isdb_mmt.specs.Theorems.Calls.{keptIn, droppedIn, lostIn, heldIn, Reading, counters, time, count, nextMedia, nextControl, nextKey, mediaOf, held, controlOf, mpt, plt, tot, section, assetOf, readingNumber, Call, push, read, after, pushes, accepted, handed, AllBytes, leavesOf, replyOf, decoder, PushDetermined, Tells, none-kept, kept, After, Demand3, AllAsModel, AnswersAsModel}
@@ -47,9 +47,10 @@ use Rattle.isdb_mmt.specs.declared.decoder.readings.AssetReading.the-var
 use Rattle.isdb_mmt.specs.Theorems.Room.{mostAdded, SoundWithin}
 use Rattle.isdb_mmt.proofs.Brief.{plain-of, lent-opened}
 use Rattle.isdb_mmt.proofs.Ready.{Ready, ready-push, ready-opened}
-use Rattle.isdb_mmt.proofs.Storable.{storable-opened}
+use Rattle.isdb_mmt.proofs.Storable.{storable-opened, storable-view}
+use Rattle.isdb_mmt.proofs.Outs.{packet-ok}
 use Rattle.isdb_mmt.proofs.Limits.{passed}
-use Rattle.isdb_mmt.proofs.SoundStays.{counts-within, takes, push-lasts, sound-stays, leaves-taken, leaves-same}
+use Rattle.isdb_mmt.proofs.SoundStays.{counts-within, takes, sound-stays, leaves-taken, leaves-same}
 use Rattle.isdb_mmt.proofs.Checks.{sound-session}
 use Rattle.isdb_mmt.proofs.Opening.{opening}
 use Rattle.isdb_mmt.proofs.Smallness.{small-of}
@@ -142,19 +143,21 @@ module _ (Good : Session → Type 0) (r : Steps Good) where
 pub record Good (s : Session) : Type 0 where
   pub bound : ℕ
   pub whole : SoundWithin bound s
-  pub ready : Ready (limitsOf (s .state)) bound (view s)
+  pub ready : Ready bound (view s)
 
 stays : (s : Session) (x : Input) → Good s → Octets (x .bytes) → asks s x ≡ 0 → Good (packetLeaves s (packetOf x))
 stays s x g o e =
     let q = taken s x e in
     let h = g .whole .lent in
     let t = takes s x q in
-    let p = passed (limitsOf (s .state)) (lengthsOf s) (sound-session s (q .session) .limits) in
-    let y = ready-push (limitsOf (s .state)) (g .bound) (view s) (g .ready) (packetOf x) (plain-of (x .kind) (x .bytes) (omega (arith, q .short)) o) t in
+    let ok = sound-session s (q .session) in
+    let p = passed (limitsOf (s .state)) (lengthsOf s) (ok .limits) in
+    let y = ready-push (limitsOf (s .state)) mostCount (g .bound) (view s) (storable-view s ok h) (g .ready) (packetOf x)
+    (packet-ok (x .kind) (x .bytes) (omega (arith, q .short)) o) (plain-of (x .kind) (x .bytes) (omega (arith, q .short)) o) in
     record {
       bound = g .bound + mostAdded;
       whole = sound-stays s x h o (g .bound) (g .whole .counts) (omega (arith, g .ready .counts, t .packets, p .packets)) e;
-      ready = rw (push-lasts s x h o e .limits, push-moved s h x o e) y;
+      ready = rw (push-moved s h x o e) y;
     }
 
 steps : Steps Good
@@ -214,12 +217,12 @@ asset-zero (assetRefused n) h = absurd (h n refl)
 asset-zero noAsset h = refl
 asset-zero (theAsset a) h = refl
 
-module _ (s : Session) (e : sound s ≡ true) (h : Lent s) (n : ℕ) (z : Ready (limitsOf (s .state)) n (view s)) where
+module _ (s : Session) (e : sound s ≡ true) (h : Lent s) (n : ℕ) (z : Ready n (view s)) where
   abbrev l : Limits
   l = limitsOf (s .state)
 
   as-view : AsKept s (view s)
-  as-view = as-kept (view s) l n z s e h refl
+  as-view = as-kept (view s) n z s e h refl
 
   pub section-tells : (k : ℕ) → toldBy (s .tables) (sectionRead s k) ≡ keptTold (keptIn s k)
   section-tells k = as-view .section k ∙ hands-kept (find k (view s .store .kept)) ∙ ap keptTold (sym (kept-said s k))
@@ -277,16 +280,15 @@ module _ (l : Limits) (s : Session) (a : asked l (lengthsOf s) ≡ 0) (o : Lent 
   good : Good s0
   good =
       let f = opening l s a in
-      let l0 = limitsOf (s0 .state) in
       record {
         bound = 0;
         whole =
             record {
               lent = lent-opened l s o;
               session = f .session;
-              counts = counts-within s0 0 (rw (f .state) (storable-opened l0 (l .«pass_scrambled»)));
+              counts = counts-within s0 0 (rw (f .state) (storable-opened (limitsOf (s0 .state)) (l .«pass_scrambled»)));
             };
-        ready = rw (f .state) (ready-opened l0 (l .«pass_scrambled»));
+        ready = rw (f .state) (ready-opened (l .«pass_scrambled»));
       }
 
   come : Ran Good steps s0 s′ (handed (pushes decoder s0 cs)) (accepted (pushes decoder s0 cs))
@@ -315,7 +317,7 @@ module _ (l : Limits) (s : Session) (a : asked l (lengthsOf s) ≡ 0) (o : Lent 
         state = v;
         records = rw f at (come .hands);
         tables =
-            as-kept (pushAll (opened (l .«pass_scrambled»)) (accepted (pushes decoder s0 cs))) (limitsOf (s′ .state)) (g .bound) (rw v at (g .ready)) s′ (g .whole .session) (g .whole .lent) v;
+            as-kept (pushAll (opened (l .«pass_scrambled»)) (accepted (pushes decoder s0 cs))) (g .bound) (rw v at (g .ready)) s′ (g .whole .session) (g .whole .lent) v;
       }
 
 pub demand-3 : Demand3 decoder

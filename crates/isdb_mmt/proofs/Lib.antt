@@ -68,6 +68,7 @@ pub mod Named
 pub mod Fits
 pub mod RecordRows
 pub mod Stores
+pub mod Joins
 pub mod Ready
 pub mod Stays
 pub mod Lasting

@@ -9,7 +9,6 @@ use lib.ListN.{length, getD}
 use lib.Dec.{eqb}
 use borrow.Author.Tests.{eqb-true}
 use Rattle.isdb_tlv.proofs.Guards.{either}
-use Rattle.isdb_mmt.specs.Decoder.Model.{pushed}
 use Rattle.isdb_mmt.specs.Memory.Lent.{indexed}
 use Rattle.isdb_mmt.specs.Memory.Limits.{asked}
 use Rattle.isdb_mmt.specs.Memory.Layout.{mostCount, mediaPlaces, mediaSize, controlPlaces, controlSize, sectionPlaces, sectionSize}
@@ -18,9 +17,9 @@ use Rattle.isdb_mmt.specs.Memory.Check.{statsCounts, packetCounts, table
 use Rattle.isdb_mmt.specs.Memory.View.{assetOfPlace, assetEntry, controlEntry, sectionEntry, viewBy, view}
 use Rattle.isdb_mmt.specs.Memory.Octets.{Octets, Lent}
 use Rattle.isdb_mmt.specs.Pushes.Leaves.{packetLeaves}
-use Rattle.isdb_mmt.specs.Pushes.Push.{Input, packetOf, asks, Taken, leavesAll, AllTaken, AllBytes}
+use Rattle.isdb_mmt.specs.Pushes.Push.{Input, packetOf, asks, Taken, leavesAll}
 use Rattle.isdb_mmt.specs.Theorems.Calls.{leavesOf}
-use Rattle.isdb_mmt.specs.Theorems.Room.{mostAdded, AllAtMost, MediaWithin, CountsWithin, SoundWithin, SoundStays, AllStaySound, asksLater, leavesOver, AskedBefore, AskedOnce}
+use Rattle.isdb_mmt.specs.Theorems.Room.{mostAdded, AllAtMost, MediaWithin, CountsWithin, SoundWithin, SoundStays, AllStaySound, asksLater, leavesOver, AskedOnce}
 use Rattle.isdb_mmt.specs.declared.decoder.limits.Limits.{Limits}
 use Rattle.isdb_mmt.specs.declared.decoder.media.Media.{Media}
 use Rattle.isdb_mmt.proofs.Checks.{sound-session}

@@ -32,7 +32,7 @@ use Rattle.isdb_mmt.proofs.Guards.{was-both}
 use Rattle.isdb_mmt.proofs.Every.{Every}
 use Rattle.isdb_mmt.proofs.Fits.{AssetFits}
 use Rattle.isdb_mmt.proofs.Named.{Named}
-use Rattle.isdb_mmt.proofs.Ready.{JoinFits}
+use Rattle.isdb_mmt.proofs.Joins.{JoinFits}
 use Rattle.isdb_mmt.proofs.PlaceFits.{TableOk, KeptOk, ControlOk}
 use Rattle.isdb_mmt.proofs.Storable.{MediaFits, ReassemblyFits, Storable}
 

@@ -7,7 +7,7 @@ use mathlib.Core.Bool.{Bool, true, false}
 use mathlib.Core.Option.{Option, none, some}
 use mathlib.Core.List.{List, map}
 use native.Mathlib.Omega.{arith}
-use lib.ListN.{length, getD, drop, length-take}
+use lib.ListN.{length, getD, drop, replicate, length-take}
 use Rattle.isdb_mmt.specs.Decoder.Packet.{Bytes, MpuPacket, MessagePacket, Packet, ipError, ntp, nonMmtp, media, message, control, other, classify}
 use Rattle.isdb_mmt.specs.Decoder.Objects.{Mfu, Asset, fresh, assetAfter}
 use Rattle.isdb_mmt.specs.Decoder.Reassembly.{PartialMessage, mostMessage, reassemblyAfter, messageCompleted, cutOfAll}
@@ -31,9 +31,10 @@ use Rattle.isdb_mmt.proofs.Checks.{media-was, control-was, section-was,
 use Rattle.isdb_mmt.proofs.Guards.{was-both}
 use Rattle.isdb_mmt.proofs.Every.{Every, every-put, every-found, every-mono}
 use Rattle.isdb_mmt.proofs.Brief.{octets-drop, octets-take, Plain, plain-of}
-use Rattle.isdb_mmt.proofs.Fits.{mostAdded, asset-more}
+use Rattle.isdb_mmt.specs.Theorems.Room.{mostAdded}
+use Rattle.isdb_mmt.proofs.Fits.{asset-more}
 use Rattle.isdb_mmt.proofs.Stores.{breaksIn, breaks-read, breaks-control, CountersFit, counters-more, counted-fit}
-use Rattle.isdb_mmt.proofs.Ready.{zero-at, JoinFits, reassembly-fits, gives-fits, Given, given-cut, length-map, length-control, packet-fits, reassembly-counts}
+use Rattle.isdb_mmt.proofs.Joins.{JoinFits, reassembly-fits, gives-fits, Given, given-cut, length-map, length-control, packet-fits, reassembly-counts}
 use Rattle.isdb_mmt.proofs.Outs.{be-small, HeaderOk, MfuOk, ItemOk, ObjectOk, HeldOk, MediaOk, TimeOk, PacketOk, packet-ok}
 use Rattle.isdb_mmt.proofs.PlaceFits.{NumberOk, AssetOk, fresh-ok, asset-after, TableOk, KeptOk, StoreOk, store-ok-more, tables-ok, control-ok, stores-ok, mpts-ok, ControlOk, idle-ok}
 
@@ -108,7 +109,7 @@ module _ (l : Limits) (n : ℕ) (s : State) (h : Storable l n s) where
       (i, asset-after (l .«mfu_area») n (assetOf (m .id) s) m (asset-of (m .id) i .1) o q t)
 
   -- a message packet: the tables that it gives, and its reassembly after it
-  tables-given : (c : MessagePacket) → PacketOk (message c) → Plain (message c) → Given (cutOfAll (messageCompleted (reassemblyOf (c .id) s) c))
+  pub tables-given : (c : MessagePacket) → PacketOk (message c) → Plain (message c) → Given (cutOfAll (messageCompleted (reassemblyOf (c .id) s) c))
   tables-given c o q =
       given-cut (messageCompleted (reassemblyOf (c .id) s) c)
       (gives-fits (l .«message_area») (reassemblyOf (c .id) s) c (control-of (c .id) (omega (arith, o .0)) .1 .joins) (q .0) (q .1))
@@ -225,6 +226,14 @@ module _ (l : Limits) (n : ℕ) (s : State) (h : Storable l n s) where
   storable-push other o q a = counted-stored 0 0 0 (omega arith) (omega arith) (omega arith) (s .time) (h .time)
 
 -- ---- an opened state
+
+abbrev blank : ℕ → List ℕ
+blank n = replicate n 0
+
+zero-at : (n i : ℕ) → getD (blank n) i 0 ≡ 0
+zero-at zero i = refl
+zero-at (suc n) zero = refl
+zero-at (suc n) (suc i) = zero-at n i
 
 pub storable-opened : (l : Limits) (pass : Bool) → Storable l 0 (opened pass)
 unfolding opened zeros
