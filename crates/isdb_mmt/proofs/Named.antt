@@ -37,7 +37,8 @@ pub record Takes (l : Limits) (s : State) (p : Packet) : Type 0 where
 
 -- ---- sections that are kept
 
-names-if : (h n b : Bool) (x : Section) (m : List (ℕ × Kept)) → distinct (keys m) ≡ true → distinct (keys (cond h (keepIf n b x m) m)) ≡ true
+names-if : (h n b : Bool) (x : Section) (m : List (ℕ × Kept)) → distinct (keys m) ≡ true
+    → distinct (keys (cond h (keepIf n b x m) m)) ≡ true
 unfolding keepIf
 names-if true true true x m d = distinct-put (x .key) _ m d
 names-if true true false x m d = d

@@ -28,10 +28,10 @@ use Rattle.isdb_mmt.proofs.Brief.{plain-of}
 use Rattle.isdb_mmt.proofs.Named.{Named, Takes, named-push}
 use Rattle.isdb_mmt.proofs.Outs.{packet-ok}
 use Rattle.isdb_mmt.proofs.Storable.{MediaFits, Storable, HasAreas, stats-of, counters-of, storable-push, storable-view}
-use Rattle.isdb_mmt.proofs.Stays.{stays-sound, length-view, names-view, media-name, control-name, section-name}
+use Rattle.isdb_mmt.proofs.Stays.{stays-sound, media-keys, control-keys, section-keys}
 use Rattle.isdb_mmt.proofs.Lasting.{Lasts, lasting, packet-lasts}
 use Rattle.isdb_mmt.proofs.PacketLeaves.{taken}
-use Rattle.isdb_mmt.proofs.Accepted.{stores-of, push-moved, push-lent}
+use Rattle.isdb_mmt.proofs.Accepted.{media-length, control-length, section-length, stores-of, push-moved, push-lent}
 
 -- ---- counts of a session, and of its view
 
@@ -141,40 +141,15 @@ module _ (s : Session) where
   abbrev l : Limits
   l = limitsOf (s .state)
 
-  media-length : length (view s .assets) ≡ usedOf (s .state) .«media_ids»
-  unfolding view viewBy mediaIn
-  media-length =
-      length-view mediaPlaceOf (λ m. m .«packet_id») (assetEntry l s) mediaSize mediaPlaces (usedOf (s .state) .«media_ids») (s .state)
-
-  control-length : length (view s .controls) ≡ usedOf (s .state) .«control_ids»
-  unfolding view viewBy controlsIn
-  control-length =
-      length-view controlPlaceOf (λ c. c .«packet_id») (controlEntry l s) controlSize controlPlaces (usedOf (s .state) .«control_ids») (s .state)
-
-  section-length : length (view s .store .kept) ≡ usedOf (s .state) .sections
-  unfolding view viewBy sectionsIn
-  section-length = length-view sectionPlaceOf (λ x. x .key) (sectionEntry l s) sectionSize sectionPlaces (usedOf (s .state) .sections) (s .state)
-
   named-view : Sound (s .state) (s .others) (lengthsOf s) → Named l (view s)
-  unfolding view viewBy mediaIn controlsIn sectionsIn
   named-view q =
-      let u = usedOf (s .state) in
       record {
-        mediaNames =
-            rw (names-view mediaPlaceOf (λ m. m .«packet_id») (assetEntry l s) mediaSize mediaPlaces (u .«media_ids») (s .state) (omega arith)
-            (λ i m. refl) media-name)
-            (q .mediaNames);
-        controlNames =
-            rw (names-view controlPlaceOf (λ c. c .«packet_id») (controlEntry l s) controlSize controlPlaces (u .«control_ids») (s .state) (omega arith)
-            (λ i c. refl) control-name)
-            (q .controlNames);
-        keptNames =
-            rw (names-view sectionPlaceOf (λ x. x .key) (sectionEntry l s) sectionSize sectionPlaces (u .sections) (s .state) (omega arith)
-            (λ i x. refl) section-name)
-            (q .keys);
-        media = omega (arith, media-length, q .media);
-        lines = omega (arith, control-length, q .controls);
-        sections = omega (arith, section-length, q .sections);
+        mediaNames = rw (media-keys s) (q .mediaNames);
+        controlNames = rw (control-keys s) (q .controlNames);
+        keptNames = rw (section-keys s) (q .keys);
+        media = omega (arith, media-length s, q .media);
+        lines = omega (arith, control-length s, q .controls);
+        sections = omega (arith, section-length s, q .sections);
       }
 
   -- the questions, of the view
@@ -183,9 +158,9 @@ module _ (s : Session) where
   takes x q =
       record {
         packets = q .packets;
-        media = omega (arith, media-length, q .fits .media);
-        lines = omega (arith, control-length, q .fits .controls);
-        sections = omega (arith, section-length, q .fits .sections);
+        media = omega (arith, media-length s, q .fits .media);
+        lines = omega (arith, control-length s, q .fits .controls);
+        sections = omega (arith, section-length s, q .fits .sections);
         object = q .fits .object;
         message = q .fits .message;
         table = q .fits .table;
@@ -264,5 +239,6 @@ asked-once s n h (x ∷ xs) o room =
     record {
       numbers = (asks-later s x (h .session), r .numbers);
       after =
-          within-more (n + mostAdded + length xs * mostAdded) (n + suc (length xs) * mostAdded) (omega arith) (leavesOver s′ xs) (r .after);
+          within-more (n + mostAdded + length xs * mostAdded) (n + suc (length xs) * mostAdded) (omega arith) (leavesOver s′ xs)
+          (r .after);
     }

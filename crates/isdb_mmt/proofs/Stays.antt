@@ -153,7 +153,8 @@ module _ (l : Limits) (s : Session) (n : ℕ) (big : n ≤ mostCount) where
       (λ t. let k = join-length (c .joining) _ (l .«message_area») (h .joins) t in omega (arith, part-length (i * l .«message_area») (c .length) (s .messages) (e .0 t)))
       (λ t. let k = table-length (l .«table_area») (c .mpt) _ (h .mpt) t in omega (arith, part-length ((l .sections + i) * l .«table_area») (c .«mpt_length») (s .tables) (e .1 t)))
 
-  section-sound : (i : ℕ) (x : KeptSection) → KeptOk (l .«table_area») (x .key) (sectionEntry l s i x .1) → sectionThere l s i x → sectionSound l x ≡ true
+  section-sound : (i : ℕ) (x : KeptSection) → KeptOk (l .«table_area») (x .key) (sectionEntry l s i x .1) → sectionThere l s i x
+      → sectionSound l x ≡ true
   section-sound i x h e =
       le-leb (x .length) (l .«table_area») (omega (arith, h .fits, part-length (i * l .«table_area») (x .length) (s .tables) e))
 
@@ -187,6 +188,28 @@ unfolding sectionPlaceOf
 section-name p = refl
 
 -- ---- the session
+
+module _ (s : Session) where
+  abbrev limits : Limits
+  limits = limitsOf (s .state)
+
+  pub media-keys : keys (view s .assets) ≡ namesFrom (usedOf (s .state) .«media_ids») mediaSize mediaPlaces (s .state)
+  unfolding view viewBy mediaIn
+  media-keys =
+      names-view mediaPlaceOf (λ m. m .«packet_id») (assetEntry limits s) mediaSize mediaPlaces (usedOf (s .state) .«media_ids») (s .state)
+      (omega arith) (λ i m. refl) media-name
+
+  pub control-keys : keys (view s .controls) ≡ namesFrom (usedOf (s .state) .«control_ids») controlSize controlPlaces (s .state)
+  unfolding view viewBy controlsIn
+  control-keys =
+      names-view controlPlaceOf (λ c. c .«packet_id») (controlEntry limits s) controlSize controlPlaces (usedOf (s .state) .«control_ids»)
+      (s .state) (omega arith) (λ i c. refl) control-name
+
+  pub section-keys : keys (view s .store .kept) ≡ namesFrom (usedOf (s .state) .sections) sectionSize sectionPlaces (s .state)
+  unfolding view viewBy sectionsIn
+  section-keys =
+      names-view sectionPlaceOf (λ x. x .key) (sectionEntry limits s) sectionSize sectionPlaces (usedOf (s .state) .sections) (s .state)
+      (omega arith) (λ i x. refl) section-name
 
 pub stays-sound : (s : Session) (n : ℕ) → n ≤ mostCount → asked (limitsOf (s .state)) (lengthsOf s) ≡ 0 → Exact (limitsOf (s .state)) s
     → Storable (limitsOf (s .state)) n (view s) → Named (limitsOf (s .state)) (view s) → sound s ≡ true
@@ -223,12 +246,18 @@ stays-sound s n big a e h w =
           (omega (arith, c .tables)) (omega (arith, c .«crc_errors»)) (omega (arith, c .malformed)) (omega (arith, c .«version_changes»))
           (omega (arith, c .«orphan_fragments»)) (omega (arith, c .oversize)) (omega (arith, c .«message_malformed»)) (omega (arith, c .«split_errors»));
       counts = counts-fit n big (s .others) (h .store .others);
-      objects = every-is (assetEntry l s) (mediaSound l) (MediaFits l n) (mediaThere l s) (λ i m f t. media-sound l s n big i m (f .1 .counts) t) (mediaIn (s .state)) 0 (h .assets) (e .media);
-      messages = every-is (controlEntry l s) (controlSound l) (ReassemblyFits l) (controlThere l s) (λ i c f t. control-sound l s n big i c (f .1) t) (controlsIn (s .state)) 0 (h .controls) (e .controls);
-      kept = every-is (sectionEntry l s) (sectionSound l) (KeptOk (l .«table_area»)) (sectionThere l s) (λ i x f t. section-sound l s n big i x f t) (sectionsIn (s .state)) 0 (h .store .kept) (e .sections);
-      mediaNames = rw (names-view mediaPlaceOf (λ m. m .«packet_id») (assetEntry l s) mediaSize mediaPlaces (u .«media_ids») (s .state) (omega arith) (λ i m. refl) (media-name)) at (w .mediaNames);
-      controlNames = rw (names-view controlPlaceOf (λ m. m .«packet_id») (controlEntry l s) controlSize controlPlaces (u .«control_ids») (s .state) (omega arith) (λ i m. refl) (control-name)) at (w .controlNames);
-      keys = rw (names-view sectionPlaceOf (λ m. m .key) (sectionEntry l s) sectionSize sectionPlaces (u .sections) (s .state) (omega arith) (λ i m. refl) (section-name)) at (w .keptNames);
+      objects =
+          every-is (assetEntry l s) (mediaSound l) (MediaFits l n) (mediaThere l s) (λ i m f t. media-sound l s n big i m (f .1 .counts) t)
+          (mediaIn (s .state)) 0 (h .assets) (e .media);
+      messages =
+          every-is (controlEntry l s) (controlSound l) (ReassemblyFits l) (controlThere l s) (λ i c f t. control-sound l s n big i c (f .1) t)
+          (controlsIn (s .state)) 0 (h .controls) (e .controls);
+      kept =
+          every-is (sectionEntry l s) (sectionSound l) (KeptOk (l .«table_area»)) (sectionThere l s)
+          (λ i x f t. section-sound l s n big i x f t) (sectionsIn (s .state)) 0 (h .store .kept) (e .sections);
+      mediaNames = rw (media-keys s) at (w .mediaNames);
+      controlNames = rw (control-keys s) at (w .controlNames);
+      keys = rw (section-keys s) at (w .keptNames);
     })
 
 -- ---- a session that passes question 5 has what it says: nothing is to be shown of places that a push leaves

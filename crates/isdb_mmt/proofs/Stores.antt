@@ -147,7 +147,8 @@ store-parses s (aSection x) h q =
       plt = h .plt;
       tot = h .tot;
       kept =
-          kept-if x (s .kept) (h .kept) q (x .headerAndCrcGood) (otherVersion (find (x .key) (s .kept)) (x .version)) (x .bodyOk) refl refl;
+          kept-if x (s .kept) (h .kept) q (x .headerAndCrcGood) (otherVersion (find (x .key) (s .kept)) (x .version)) (x .bodyOk) refl
+          refl;
     }
 store-parses s (otherTable id) h q = record { plt = h .plt; tot = h .tot; kept = h .kept }
 

@@ -53,8 +53,8 @@ SoundStays = (s : Session) (x : Input) → Lent s → Octets (x .bytes) → (n :
 
 -- with room for each, pushes that are all accepted do
 abbrev pub AllStaySound : Type 0
-AllStaySound = (s : Session) (n : ℕ) → SoundWithin n s → (xs : List Input) → AllBytes xs → n + length xs * mostAdded ≤ mostCount → AllTaken s xs
-    → SoundWithin (n + length xs * mostAdded) (leavesAll s xs)
+AllStaySound = (s : Session) (n : ℕ) → SoundWithin n s → (xs : List Input) → AllBytes xs → n + length xs * mostAdded ≤ mostCount
+    → AllTaken s xs → SoundWithin (n + length xs * mostAdded) (leavesAll s xs)
 
 -- questions 6 to 10: the first that is answered no, or 0
 unfoldable pub asksLater : Session → Input → ℕ
@@ -79,4 +79,5 @@ pub record AskedBefore (n : ℕ) (s : Session) (xs : List Input) : Type 0 where
 
 -- question 5 asked once before them, and room for each: it need not be asked again
 abbrev pub AskedOnce : Type 0
-AskedOnce = (s : Session) (n : ℕ) → SoundWithin n s → (xs : List Input) → AllBytes xs → n + length xs * mostAdded ≤ mostCount → AskedBefore n s xs
+AskedOnce = (s : Session) (n : ℕ) → SoundWithin n s → (xs : List Input) → AllBytes xs → n + length xs * mostAdded ≤ mostCount
+    → AskedBefore n s xs
