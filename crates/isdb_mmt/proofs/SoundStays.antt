@@ -1,7 +1,7 @@
 -- From any session that passes question 5, with room below 2^53, an accepted push leaves one that passes it, and so does any list of
 -- pushes. Assumes nothing.
 use Prim.Native.Nat.{ℕ, zero, suc, _+_, _*_, _≤_}
-use mathlib.Core.Path.{_≡_, refl}
+use mathlib.Core.Path.{_≡_, refl, ap, _∙_}
 use mathlib.Core.Bool.{true, false}
 use mathlib.Core.List.{List, [], _∷_}
 use native.Mathlib.Omega.{arith}
@@ -9,6 +9,7 @@ use lib.ListN.{length, getD}
 use lib.Dec.{eqb}
 use borrow.Author.Tests.{eqb-true}
 use Rattle.isdb_tlv.proofs.Guards.{either}
+use Rattle.isdb_mmt.specs.Decoder.Model.{State, packetCounted, pushed}
 use Rattle.isdb_mmt.specs.Memory.Lent.{indexed}
 use Rattle.isdb_mmt.specs.Memory.Limits.{asked}
 use Rattle.isdb_mmt.specs.Memory.Layout.{mostCount, mediaPlaces, mediaSize, controlPlaces, controlSize, sectionPlaces, sectionSize}
@@ -19,10 +20,10 @@ use Rattle.isdb_mmt.specs.Memory.Octets.{Octets, Lent}
 use Rattle.isdb_mmt.specs.Pushes.Leaves.{packetLeaves}
 use Rattle.isdb_mmt.specs.Pushes.Push.{Input, packetOf, asks, Taken, leavesAll}
 use Rattle.isdb_mmt.specs.Theorems.Calls.{leavesOf}
-use Rattle.isdb_mmt.specs.Theorems.Room.{mostAdded, AllAtMost, MediaWithin, CountsWithin, SoundWithin, SoundStays, AllStaySound, asksLater, leavesOver, AskedOnce}
+use Rattle.isdb_mmt.specs.Theorems.Room.{mostAdded, AllAtMost, MediaWithin, CountsWithin, SoundWithin, SoundStays, RoomNeeded, AllStaySound, asksLater, leavesOver, AskedOnce}
 use Rattle.isdb_mmt.specs.declared.decoder.limits.Limits.{Limits}
 use Rattle.isdb_mmt.specs.declared.decoder.media.Media.{Media}
-use Rattle.isdb_mmt.proofs.Checks.{sound-session}
+use Rattle.isdb_mmt.proofs.Checks.{count-was, sound-session}
 use Rattle.isdb_mmt.proofs.Every.{Every}
 use Rattle.isdb_mmt.proofs.Brief.{plain-of}
 use Rattle.isdb_mmt.proofs.Named.{Named, Takes, named-push}
@@ -198,6 +199,16 @@ sound-stays s x h o n w room e =
       session = stays-sound s′ (n + mostAdded) room a (lasting s ok s′ t) z d;
       counts = counts-within s′ (n + mostAdded) z;
     }
+
+pub room-needed : RoomNeeded
+unfolding view viewBy pushed packetCounted
+room-needed s x h o c i e =
+    let s′ = packetLeaves s (packetOf x) in
+    let m : countersOf (s′ .state) .«ip_errors» ≡ countersOf (s .state) .«ip_errors» + 1 =
+    ap (λ (v : State). v .counters .«ip_errors») (push-moved s h x o e) ∙ rw i refl in
+    either (sound s′)
+    (λ t. absurd (omega (arith, m, c, count-was (packetCounts (countersOf (s′ .state))) 1 (sound-session s′ t .packets))))
+    (λ f. f)
 
 -- ---- lists of pushes
 

@@ -2,10 +2,11 @@
 -- too. So question 5 asked once answers it for as many pushes as there is room for, whatever the session came from.
 use Prim.Native.Nat.{ℕ, _+_, _*_, _≤_}
 use mathlib.Core.Path.{_≡_}
-use mathlib.Core.Bool.{true, not}
+use mathlib.Core.Bool.{true, false, not}
 use mathlib.Core.List.{List, [], _∷_}
 use lib.ListN.{length}
 use Rattle.isdb_tlv.specs.Guards.{if_then_else_, _<?_, _≤?_}
+use Rattle.isdb_mmt.specs.Decoder.Packet.{ipError}
 use Rattle.isdb_mmt.specs.Memory.Layout.{mostCount}
 use Rattle.isdb_mmt.specs.Memory.Session.{Session, limitsOf, countersOf}
 use Rattle.isdb_mmt.specs.Memory.Check.{statsCounts, packetCounts, tableCounts, mediaIn, sound}
@@ -48,6 +49,11 @@ pub record SoundWithin (n : ℕ) (s : Session) : Type 0 where
 abbrev pub SoundStays : Type 0
 SoundStays = (s : Session) (x : Input) → Lent s → Octets (x .bytes) → (n : ℕ) → CountsWithin n s → n + mostAdded ≤ mostCount → asks s x ≡ 0
     → SoundWithin (n + mostAdded) (packetLeaves s (packetOf x))
+
+-- without room it need not: from a session that counts 2^53 IP errors, an accepted packet with one more leaves none that passes it
+abbrev pub RoomNeeded : Type 0
+RoomNeeded = (s : Session) (x : Input) → Lent s → Octets (x .bytes) → countersOf (s .state) .«ip_errors» ≡ mostCount → packetOf x ≡ ipError
+    → asks s x ≡ 0 → sound (packetLeaves s (packetOf x)) ≡ false
 
 -- ---- lists of pushes
 
