@@ -302,7 +302,8 @@ module _ (l : Limits) (s : Session) (a : asked l (lengthsOf s) ≡ 0) (o : Lent 
         holds = h;
         reads =
             λ k.
-            rw (section-tells s′ (g .whole .session) (g .whole .lent) (g .bound) (g .ready) k) (tells (keptIn s′ k) (wellFormed k (accepted (pushes decoder s0 cs))) (h .keys k));
+            rw (section-tells s′ (g .whole .session) (g .whole .lent) (g .bound) (g .ready) k)
+            (tells (keptIn s′ k) (wellFormed k (accepted (pushes decoder s0 cs))) (h .keys k));
         session = g .whole .session;
         next = never-5 s′ (g .whole .session);
         readings = reading-zero s′ (g .whole .session) (g .whole .lent) (g .bound) (g .ready);
@@ -317,7 +318,8 @@ module _ (l : Limits) (s : Session) (a : asked l (lengthsOf s) ≡ 0) (o : Lent 
         state = v;
         records = rw f at (come .hands);
         tables =
-            as-kept (pushAll (opened (l .«pass_scrambled»)) (accepted (pushes decoder s0 cs))) (g .bound) (rw v at (g .ready)) s′ (g .whole .session) (g .whole .lent) v;
+            as-kept (pushAll (opened (l .«pass_scrambled»)) (accepted (pushes decoder s0 cs))) (g .bound) (rw v at (g .ready)) s′
+            (g .whole .session) (g .whole .lent) v;
       }
 
 pub demand-3 : Demand3 decoder
