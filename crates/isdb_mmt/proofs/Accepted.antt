@@ -34,8 +34,8 @@ use Rattle.isdb_mmt.proofs.Checks.{sound-session}
 use Rattle.isdb_mmt.proofs.Opening.{opening}
 use Rattle.isdb_mmt.proofs.Every.{Every}
 use Rattle.isdb_mmt.proofs.Brief.{Plain, plain-of, octets-append, octets-written, octets-over, lent-opened}
-use Rattle.isdb_mmt.proofs.Fits.{mostAdded}
-use Rattle.isdb_mmt.proofs.Ready.{JoinFits}
+use Rattle.isdb_mmt.specs.Theorems.Room.{mostAdded}
+use Rattle.isdb_mmt.proofs.Joins.{JoinFits}
 use Rattle.isdb_mmt.proofs.Outs.{HeldOk, PacketOk, packet-ok}
 use Rattle.isdb_mmt.proofs.PlaceFits.{TableOk, KeptOk, section-place, control-place}
 use Rattle.isdb_mmt.proofs.Storable.{Storable, HasAreas, control-of, asset-next, storable-view, storable-next}
@@ -61,6 +61,20 @@ join-short : (area : ℕ) (o : Option PartialMessage) → JoinFits area o → pa
 join-short area none h = omega arith
 join-short area (some j) h = h .0
 
+-- the places in use are the entries of the view
+module _ (s : Session) where
+  pub media-length : length (view s .assets) ≡ usedOf (s .state) .«media_ids»
+  unfolding view viewBy
+  media-length = length-indexed (assetEntry (limitsOf (s .state)) s) 0 (mediaIn (s .state)) ∙ length-media (s .state)
+
+  pub control-length : length (view s .controls) ≡ usedOf (s .state) .«control_ids»
+  unfolding view viewBy
+  control-length = length-indexed (controlEntry (limitsOf (s .state)) s) 0 (controlsIn (s .state)) ∙ length-controls (s .state)
+
+  pub section-length : length (view s .store .kept) ≡ usedOf (s .state) .sections
+  unfolding view viewBy
+  section-length = length-indexed (sectionEntry (limitsOf (s .state)) s) 0 (sectionsIn (s .state)) ∙ length-sections (s .state)
+
 module _ (s : Session) (q : Sound (s .state) (s .others) (lengthsOf s)) (h : Lent s) (kind : ℕ) (b : Bytes) (short : length b ≤ 65535) (o : Octets b)
     (rows out : ℕ) (f : Fits s rows out (classify kind b)) where
   abbrev l : Limits
@@ -78,26 +92,14 @@ module _ (s : Session) (q : Sound (s .state) (s .others) (lengthsOf s)) (h : Len
   pub next : Storable l (mostCount + mostAdded) n
   next = storable-next s kind b q h short o areas
 
-  media-length : length (view s .assets) ≡ usedOf (s .state) .«media_ids»
-  unfolding view viewBy
-  media-length = length-indexed (assetEntry l s) 0 (mediaIn (s .state)) ∙ length-media (s .state)
-
-  control-length : length (view s .controls) ≡ usedOf (s .state) .«control_ids»
-  unfolding view viewBy
-  control-length = length-indexed (controlEntry l s) 0 (controlsIn (s .state)) ∙ length-controls (s .state)
-
-  section-length : length (view s .store .kept) ≡ usedOf (s .state) .sections
-  unfolding view viewBy
-  section-length = length-indexed (sectionEntry l s) 0 (sectionsIn (s .state)) ∙ length-sections (s .state)
-
   tables-fit : TablesFit l n
   unfolding needs
   tables-fit =
       record {
         counters = counters-fit s q h kind b short o;
-        media = omega (arith, f .media, media-length, q .media);
-        controls = omega (arith, f .controls, control-length, q .controls);
-        sections = omega (arith, f .sections, section-length, q .sections);
+        media = omega (arith, f .media, media-length s, q .media);
+        controls = omega (arith, f .controls, control-length s, q .controls);
+        sections = omega (arith, f .sections, section-length s, q .sections);
         kept = all-kept (l .«table_area») (in-order .ranges .table .1) (n .store .kept) (next .store .kept);
         plt = table-short (l .«table_area») (n .store .plt) (next .store .plt);
         tot = table-short (l .«table_area») (n .store .tot) (next .store .tot);

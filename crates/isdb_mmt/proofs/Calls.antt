@@ -19,17 +19,17 @@ use Rattle.isdb_mmt.specs.Decoder.Model.{opened, pushed, gives}
 use Rattle.isdb_mmt.specs.Books.Book.{wellFormed}
 use Rattle.isdb_mmt.specs.Books.Demand.{pushAll, giveAll, EverySmall, Keeps, never, keeps, Holds}
 use Rattle.isdb_mmt.specs.Memory.Limits.{asked}
-use Rattle.isdb_mmt.specs.Memory.Layout.{mediaPlaces, mediaSize, controlPlaces, controlSize, sectionPlaces, sectionSize}
-use Rattle.isdb_mmt.specs.Memory.Session.{Session, limitsOf, usedOf, countersOf, timeOf, mediaAt, mediaPlaceOf, controlPlaceOf, sectionPlaceOf}
-use Rattle.isdb_mmt.specs.Memory.Check.{mediaIn, controlsIn, sectionsIn, lengthsOf, sound}
-use Rattle.isdb_mmt.specs.Memory.View.{assetEntry, controlEntry, sectionEntry, viewBy, view}
+use Rattle.isdb_mmt.specs.Memory.Layout.{mostCount}
+use Rattle.isdb_mmt.specs.Memory.Session.{Session, limitsOf, usedOf, countersOf, timeOf, mediaAt}
+use Rattle.isdb_mmt.specs.Memory.Check.{lengthsOf, sound}
+use Rattle.isdb_mmt.specs.Memory.View.{view}
 use Rattle.isdb_mmt.specs.Memory.Opening.{openedSession}
 use Rattle.isdb_mmt.specs.Memory.Octets.{Octets, Lent}
 use Rattle.isdb_mmt.specs.Pushes.Records.{readRows}
 use Rattle.isdb_mmt.specs.Pushes.Leaves.{packetLeaves}
 use Rattle.isdb_tlv.specs.Guards.{_<?_, _≤?_}
 use Rattle.isdb_mmt.specs.Decoder.Needs.{needs}
-use Rattle.isdb_mmt.specs.Pushes.Push.{Input, packetOf, mostBytes, hasPlaces, hasAreas, hasOutputs, asksOf, asks, Taken, handed as handedBy}
+use Rattle.isdb_mmt.specs.Pushes.Push.{Input, packetOf, mostBytes, hasPlaces, hasAreas, hasOutputs, asksOf, asks, handed as handedBy}
 use Rattle.isdb_mmt.specs.Answers.Readings.{mediaFound, controlFound, countersRead, timeRead, timeAt, countRead, mediaNames, controlNames, keysIn, leastFrom, mostName, nameTold, nextMediaRead, nextControlRead, nextKeyRead, mediaIf, mediaRead, heldAt, heldIf, heldRead, controlIf, controlRead, sectionRead, mptRead, pltRead, totRead, assetRead, timeNumber, nameNumber, mediaNumber, heldNumber, controlNumber, tableNumber, assetNumber, TableTold, refused, nothing, these, toldBy}
 use Rattle.isdb_mmt.specs.Answers.TableReadingLaws.{sectionBytes, mptBytes, handsOut, AsKept}
 use Rattle.isdb_mmt.specs.Theorems.Calls.{keptIn, droppedIn, lostIn, heldIn, Reading, counters, time, count, nextMedia, nextControl, nextKey, mediaOf, held, controlOf, mpt, plt, tot, section, assetOf, readingNumber, Call, push, read, after, pushes, accepted, handed, AllBytes, leavesOf, replyOf, decoder, PushDetermined, Tells, none-kept, kept, After, Demand3, AllAsModel, AnswersAsModel}
@@ -44,16 +44,18 @@ use Rattle.isdb_mmt.specs.declared.decoder.readings.TableReading.{TableR
 use Rattle.isdb_mmt.specs.declared.decoder.readings.TableReading.the-variants.{Refused as tableRefused, Nothing as noTable, Bytes as theBytes}
 use Rattle.isdb_mmt.specs.declared.decoder.readings.AssetReading.{AssetReading}
 use Rattle.isdb_mmt.specs.declared.decoder.readings.AssetReading.the-variants.{Refused as assetRefused, Nothing as noAsset, Asset as theAsset}
-use Rattle.isdb_mmt.proofs.Fits.{mostAdded}
+use Rattle.isdb_mmt.specs.Theorems.Room.{mostAdded, SoundWithin}
 use Rattle.isdb_mmt.proofs.Brief.{plain-of, lent-opened}
-use Rattle.isdb_mmt.proofs.Ready.{Ready, Takes, ready-push, ready-opened}
-use Rattle.isdb_mmt.proofs.Stays.{is-ready, length-view}
-use Rattle.isdb_mmt.proofs.Lasting.{Lasts, lasting, packet-lasts}
+use Rattle.isdb_mmt.proofs.Ready.{Ready, ready-push, ready-opened}
+use Rattle.isdb_mmt.proofs.Storable.{storable-opened, storable-view}
+use Rattle.isdb_mmt.proofs.Outs.{packet-ok}
+use Rattle.isdb_mmt.proofs.Limits.{passed}
+use Rattle.isdb_mmt.proofs.SoundStays.{counts-within, takes, sound-stays, leaves-taken, leaves-same}
 use Rattle.isdb_mmt.proofs.Checks.{sound-session}
 use Rattle.isdb_mmt.proofs.Opening.{opening}
 use Rattle.isdb_mmt.proofs.Smallness.{small-of}
 use Rattle.isdb_mmt.proofs.PacketLeaves.{taken}
-use Rattle.isdb_mmt.proofs.Accepted.{stores-of, push-moved, push-lent, push-gave}
+use Rattle.isdb_mmt.proofs.Accepted.{push-moved, push-gave}
 use Rattle.isdb_mmt.proofs.Said.{dropped-said, lost-said, held-said, kept-said}
 use Rattle.isdb_mmt.proofs.NoneDamaged.{as-kept}
 use Rattle.isdb_mmt.proofs.Demand.{demand}
@@ -64,14 +66,6 @@ module _ (s : Session) (x : Input) where
   pub reply-number : replyOf s x .number ≡ asks s x
   unfolding replyOf
   reply-number = either (eqb (asks s x) 0) (λ t. rw t (sym (eqb-true (asks s x) 0 t))) (λ f. rw f)
-
-  leaves-taken : eqb (asks s x) 0 ≡ true → leavesOf s x ≡ packetLeaves s (packetOf x)
-  unfolding leavesOf
-  leaves-taken t = rw t
-
-  leaves-same : eqb (asks s x) 0 ≡ false → leavesOf s x ≡ s
-  unfolding leavesOf
-  leaves-same f = rw f
 
   abbrev readBack : List Rec
   readBack = readRows (replyOf s x .records) (replyOf s x .rows) (replyOf s x .out)
@@ -145,59 +139,32 @@ module _ (Good : Session → Type 0) (r : Steps Good) where
 
 -- ---- what no call breaks
 
+-- `bound` is 2^21 for each packet taken
 pub record Good (s : Session) : Type 0 where
-  pub lent : Lent s
-  pub limits : asked (limitsOf (s .state)) (lengthsOf s) ≡ 0
-  pub session : sound s ≡ true
   pub bound : ℕ
-  pub ready : Ready (limitsOf (s .state)) bound (view s)
-
--- the questions, of the view
-takes : (s : Session) (x : Input) → Taken s x → Takes (limitsOf (s .state)) (view s) (packetOf x)
-unfolding view viewBy mediaIn controlsIn sectionsIn
-takes s x q =
-    let l = limitsOf (s .state) in
-    let u = usedOf (s .state) in
-    let m1 = length-view mediaPlaceOf (λ m. m .«packet_id») (assetEntry l s) mediaSize mediaPlaces (u .«media_ids») (s .state) in
-    let m2 = length-view controlPlaceOf (λ m. m .«packet_id») (controlEntry l s) controlSize controlPlaces (u .«control_ids») (s .state) in
-    let m3 = length-view sectionPlaceOf (λ m. m .key) (sectionEntry l s) sectionSize sectionPlaces (u .sections) (s .state) in
-    record {
-      packets = q .packets;
-      media = omega (arith, m1, q .fits .media);
-      lines = omega (arith, m2, q .fits .controls);
-      sections = omega (arith, m3, q .fits .sections);
-      object = q .fits .object;
-      message = q .fits .message;
-      table = q .fits .table;
-    }
-
-same-lengths : (s s′ : Session) → Lasts s s′ → lengthsOf s′ ≡ lengthsOf s
-same-lengths s s′ h = λ i. record { state = h .state i; objects = h .objects i; messages = h .messages i; tables = h .tables i }
+  pub whole : SoundWithin bound s
+  pub ready : Ready bound (view s)
 
 stays : (s : Session) (x : Input) → Good s → Octets (x .bytes) → asks s x ≡ 0 → Good (packetLeaves s (packetOf x))
 stays s x g o e =
     let q = taken s x e in
+    let h = g .whole .lent in
+    let t = takes s x q in
     let ok = sound-session s (q .session) in
-    let s′ = packetLeaves s (packetOf x) in
-    let st = stores-of s ok (g .lent) (x .kind) (x .bytes) (q .short) o (length (x .rows)) (length (x .out)) (q .fits) (packetOf x) refl in
-    let t : Lasts s s′ = packet-lasts s ok (packetOf x) (length (x .rows)) (length (x .out)) (q .fits) st in
-    let a : asked (limitsOf (s′ .state)) (lengthsOf s′) ≡ 0 = rw (t .limits, same-lengths s s′ t) (g .limits) in
-    let p = plain-of (x .kind) (x .bytes) (omega (arith, q .short)) o in
-    let y = ready-push (limitsOf (s .state)) (g .bound) (view s) (g .ready) (packetOf x) p (takes s x q) in
-    let z : Ready (limitsOf (s′ .state)) (g .bound + mostAdded) (view s′) = rw (t .limits, push-moved s (g .lent) x o e) y in
+    let p = passed (limitsOf (s .state)) (lengthsOf s) (ok .limits) in
+    let y = ready-push (limitsOf (s .state)) mostCount (g .bound) (view s) (storable-view s ok h) (g .ready) (packetOf x)
+    (packet-ok (x .kind) (x .bytes) (omega (arith, q .short)) o) (plain-of (x .kind) (x .bytes) (omega (arith, q .short)) o) in
     record {
-      lent = push-lent s (g .lent) x o e;
-      limits = a;
-      session = is-ready s′ (g .bound + mostAdded) a (lasting s ok s′ t) z;
       bound = g .bound + mostAdded;
-      ready = z;
+      whole = sound-stays s x h o (g .bound) (g .whole .counts) (omega (arith, g .ready .counts, t .packets, p .packets)) e;
+      ready = rw (push-moved s h x o e) y;
     }
 
 steps : Steps Good
 steps =
     record {
-      moved = λ s x g o e. push-moved s (g .lent) x o e;
-      gave = λ s x g o e. push-gave s (g .lent) x o e;
+      moved = λ s x g o e. push-moved s (g .whole .lent) x o e;
+      gave = λ s x g o e. push-gave s (g .whole .lent) x o e;
       stays = λ s x g o e. stays s x g o e;
     }
 
@@ -250,12 +217,12 @@ asset-zero (assetRefused n) h = absurd (h n refl)
 asset-zero noAsset h = refl
 asset-zero (theAsset a) h = refl
 
-module _ (s : Session) (e : sound s ≡ true) (h : Lent s) (n : ℕ) (z : Ready (limitsOf (s .state)) n (view s)) where
+module _ (s : Session) (e : sound s ≡ true) (h : Lent s) (n : ℕ) (z : Ready n (view s)) where
   abbrev l : Limits
   l = limitsOf (s .state)
 
   as-view : AsKept s (view s)
-  as-view = as-kept (view s) l n z s e h refl
+  as-view = as-kept (view s) n z s e h refl
 
   pub section-tells : (k : ℕ) → toldBy (s .tables) (sectionRead s k) ≡ keptTold (keptIn s k)
   section-tells k = as-view .section k ∙ hands-kept (find k (view s .store .kept)) ∙ ap keptTold (sym (kept-said s k))
@@ -314,11 +281,14 @@ module _ (l : Limits) (s : Session) (a : asked l (lengthsOf s) ≡ 0) (o : Lent 
   good =
       let f = opening l s a in
       record {
-        lent = lent-opened l s o;
-        limits = sound-session s0 (f .session) .limits;
-        session = f .session;
         bound = 0;
-        ready = rw (f .state) (ready-opened (limitsOf (s0 .state)) (l .«pass_scrambled»));
+        whole =
+            record {
+              lent = lent-opened l s o;
+              session = f .session;
+              counts = counts-within s0 0 (rw (f .state) (storable-opened (limitsOf (s0 .state)) (l .«pass_scrambled»)));
+            };
+        ready = rw (f .state) (ready-opened (l .«pass_scrambled»));
       }
 
   come : Ran Good steps s0 s′ (handed (pushes decoder s0 cs)) (accepted (pushes decoder s0 cs))
@@ -332,10 +302,11 @@ module _ (l : Limits) (s : Session) (a : asked l (lengthsOf s) ≡ 0) (o : Lent 
         holds = h;
         reads =
             λ k.
-            rw (section-tells s′ (g .session) (g .lent) (g .bound) (g .ready) k) (tells (keptIn s′ k) (wellFormed k (accepted (pushes decoder s0 cs))) (h .keys k));
-        session = g .session;
-        next = never-5 s′ (g .session);
-        readings = reading-zero s′ (g .session) (g .lent) (g .bound) (g .ready);
+            rw (section-tells s′ (g .whole .session) (g .whole .lent) (g .bound) (g .ready) k)
+            (tells (keptIn s′ k) (wellFormed k (accepted (pushes decoder s0 cs))) (h .keys k));
+        session = g .whole .session;
+        next = never-5 s′ (g .whole .session);
+        readings = reading-zero s′ (g .whole .session) (g .whole .lent) (g .bound) (g .ready);
       }
 
   all-as-model : AllAsModel (l .«pass_scrambled») s0 cs
@@ -347,7 +318,8 @@ module _ (l : Limits) (s : Session) (a : asked l (lengthsOf s) ≡ 0) (o : Lent 
         state = v;
         records = rw f at (come .hands);
         tables =
-            as-kept (pushAll (opened (l .«pass_scrambled»)) (accepted (pushes decoder s0 cs))) (limitsOf (s′ .state)) (g .bound) (rw v at (g .ready)) s′ (g .session) (g .lent) v;
+            as-kept (pushAll (opened (l .«pass_scrambled»)) (accepted (pushes decoder s0 cs))) (g .bound) (rw v at (g .ready)) s′
+            (g .whole .session) (g .whole .lent) v;
       }
 
 pub demand-3 : Demand3 decoder

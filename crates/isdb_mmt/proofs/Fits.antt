@@ -12,13 +12,10 @@ use Rattle.isdb_mmt.specs.Decoder.Packet.{PayloadUnit, MpuPacket, readab
 use Rattle.isdb_mmt.specs.Decoder.Maps.{one, isSome}
 use Rattle.isdb_mmt.specs.Decoder.Objects.{Mfu, Asset, fresh, mostObject, gap, lostBy, UnitEffect, grown, continued, effectOf, afterUnit, objectOf, unitEffect, afterUnits, afterHeaders, newMpu, jumped, malformedPayload, assetAfter, mpuIn, completes}
 use Rattle.isdb_mmt.specs.Pushes.MediaPlace.{StatsWithin}
+use Rattle.isdb_mmt.specs.Theorems.Room.{mostAdded}
 use Rattle.isdb_mmt.specs.Decoder.Needs.{heldLength, unitArea, unitsNeed}
 use Rattle.isdb_mmt.specs.declared.mpu.FragmentationIndicator.{FragmentationIndicator}
 use Rattle.isdb_mmt.specs.declared.mpu.FragmentationIndicator.the-variants.{Complete, Head, Middle, Last}
-
--- what one packet adds to a count at most: 2^21
-abbrev pub mostAdded : ℕ
-mostAdded = 2097152
 
 pub one-le : (b : Bool) → one b ≤ 1
 one-le true = omega arith

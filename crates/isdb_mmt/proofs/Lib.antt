@@ -64,12 +64,15 @@ pub mod Declared
 pub mod Amounts
 pub mod Brief
 pub mod Every
+pub mod Named
 pub mod Fits
 pub mod RecordRows
 pub mod Stores
+pub mod Joins
 pub mod Ready
 pub mod Stays
 pub mod Lasting
+pub mod SoundStays
 pub mod Said
 pub mod Calls
 pub mod Useless

@@ -44,6 +44,7 @@ use Rattle.isdb_mmt.proofs.Names.{true-not-false}
 use Rattle.isdb_mmt.proofs.Views.{keys, FoundAt, found-at, absent}
 use Rattle.isdb_mmt.proofs.Limits.{passed, areas-fit}
 use Rattle.isdb_mmt.proofs.Checks.{media-was, place-was, count-was}
+use Rattle.isdb_mmt.proofs.Storable.{stats-of}
 use Rattle.isdb_mmt.proofs.PlacesFor.{entries, entry-names, place-for-was-old, place-for-was-new, place-for-was-full, length-media, length-indexed, getD-indexed}
 use Rattle.isdb_mmt.proofs.EffectsModelled.{Told}
 use Rattle.isdb_mmt.proofs.Placed.{start-zero}
@@ -86,18 +87,7 @@ place-at f (suc n) size at l (suc i) d h =
     rw z (place-at f n size (at + size) l i d (omega arith))
 
 pub modest-was : (s : AssetStats) → every countFits (statsCounts s) ≡ true → StatsWithin mostCount s
-modest-was s e =
-    record {
-      packets = count-was (statsCounts s) 0 e;
-      lost = count-was (statsCounts s) 1 e;
-      scrambled = count-was (statsCounts s) 2 e;
-      mfus = count-was (statsCounts s) 3 e;
-      scrambledMfus = count-was (statsCounts s) 4 e;
-      dropped = count-was (statsCounts s) 5 e;
-      mpus = count-was (statsCounts s) 6 e;
-      jumps = count-was (statsCounts s) 7 e;
-      malformed = count-was (statsCounts s) 8 e;
-    }
+modest-was s e = stats-of mostCount s (λ i. count-was (statsCounts s) i e)
 
 blank-fresh : (b : Bytes) → assetOfPlace blank b ≡ fresh
 unfolding assetOfPlace fresh

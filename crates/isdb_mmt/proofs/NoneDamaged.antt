@@ -17,14 +17,13 @@ use Rattle.isdb_mmt.specs.Memory.View.{view}
 use Rattle.isdb_mmt.specs.Memory.Octets.{Lent}
 use Rattle.isdb_mmt.specs.Answers.Readings.{tableIdOf, assetRead}
 use Rattle.isdb_mmt.specs.Answers.TableReadingLaws.{saysOf, handsOut, sectionBytes, mptBytes, saysAsset, AnswerIs, Damaged, AsKept}
-use Rattle.isdb_mmt.specs.declared.decoder.limits.Limits.{Limits}
 use Rattle.isdb_mmt.specs.declared.decoder.readings.AssetReading.{AssetReading}
 use Rattle.isdb_mmt.specs.declared.decoder.readings.AssetReading.the-variants.{Refused as assetRefused}
 use Rattle.isdb_mmt.proofs.Names.{true-not-false}
 use Rattle.isdb_mmt.proofs.PlacesFor.{none-some}
 use Rattle.isdb_mmt.proofs.Every.{Every}
-use Rattle.isdb_mmt.proofs.Stores.{Whole, mptGood, pltGood, totGood, KeptFits}
-use Rattle.isdb_mmt.proofs.Ready.{ControlFits, Ready}
+use Rattle.isdb_mmt.proofs.Stores.{Parses, mptGood, pltGood, totGood, KeptParses}
+use Rattle.isdb_mmt.proofs.Ready.{ControlParses, Ready}
 use Rattle.isdb_mmt.proofs.TableReadings.{kept-tables, first-carriers}
 
 -- ---- what is kept parses
@@ -46,12 +45,12 @@ handed-whole : (parses : Bytes → Bool) (o : Option Bytes) → Good parses o �
 handed-whole parses none h = refl
 handed-whole parses (some b) h = rw (h b refl) refl
 
-whole-good : (parses : Bytes → Bool) (area : ℕ) (o : Option Bytes) → Whole parses area o → Good parses o
-whole-good parses area none h b e = absurd (none-some b e)
-whole-good parses area (some x) h b e = let q : x ≡ b = cc in subst (λ (y : Bytes). parses y ≡ true) q (h .1)
+parsed-good : (parses : Bytes → Bool) (o : Option Bytes) → Parses parses o → Good parses o
+parsed-good parses none h b e = absurd (none-some b e)
+parsed-good parses (some x) h b e = let q : x ≡ b = cc in subst (λ (y : Bytes). parses y ≡ true) q h
 
 -- a state of the model whose tables parse, as packets leave it
-module _ (v : State) (l : Limits) (n : ℕ) (r : Ready l n v) where
+module _ (v : State) (n : ℕ) (r : Ready n v) where
   section-good : (k : ℕ) → Good (parsesAs (tableIdOf k)) (sectionBytes (find k (v .store .kept)))
   section-good k = go (find k (v .store .kept)) refl
     where
@@ -60,7 +59,7 @@ module _ (v : State) (l : Limits) (n : ℕ) (r : Ready l n v) where
       go (some x) f b e =
           let q : x .bytes ≡ b = cc in
           subst (λ (y : Bytes). parsesAs (tableIdOf k) y ≡ true) q
-          (every-find (KeptFits (l .«table_area»)) (v .store .kept) (r .store .kept) k x f .parses)
+          (every-find KeptParses (v .store .kept) (r .store .kept) k x f)
 
   mpt-good : (id : ℕ) → Good mptGood (mptBytes (find id (v .controls)))
   mpt-good id = go (find id (v .controls)) refl
@@ -68,7 +67,7 @@ module _ (v : State) (l : Limits) (n : ℕ) (r : Ready l n v) where
       go : (o : Option Control) → find id (v .controls) ≡ o → Good mptGood (mptBytes o)
       go none f = λ b e. absurd (none-some b e)
       go (some c) f =
-          whole-good mptGood (l .«table_area») (c .mpt) (every-find (λ i c. ControlFits l c) (v .controls) (r .controls) id c f .mpt)
+          parsed-good mptGood (c .mpt) (every-find ControlParses (v .controls) (r .controls) id c f)
 
   undamaged : (p : ℕ) → Damaged p (v .controls) → ⊥
   undamaged p d = true-not-false (mptGood (d .bytes)) (mpt-good (d .id) (d .bytes) (d .kept)) (rw (d .broken) refl)
@@ -91,11 +90,11 @@ module _ (v : State) (l : Limits) (n : ℕ) (r : Ready l n v) where
         plt =
             k .plt .says
             ∙ ap (λ (w : State). saysOf pltGood (w .store .plt)) e
-            ∙ handed-whole pltGood (v .store .plt) (whole-good pltGood (l .«table_area») (v .store .plt) (r .store .plt));
+            ∙ handed-whole pltGood (v .store .plt) (parsed-good pltGood (v .store .plt) (r .store .plt));
         tot =
             k .tot .says
             ∙ ap (λ (w : State). saysOf totGood (w .store .tot)) e
-            ∙ handed-whole totGood (v .store .tot) (whole-good totGood (l .«table_area») (v .store .tot) (r .store .tot));
+            ∙ handed-whole totGood (v .store .tot) (parsed-good totGood (v .store .tot) (r .store .tot));
         asset =
             λ p n d.
             let a : AnswerIs p (view s .controls) (saysAsset (s .tables) (assetRead s p)) = first-carriers s ok (h .state) p in

@@ -30,9 +30,10 @@ use Rattle.isdb_mmt.specs.declared.mpu.PayloadHeader.{PayloadHeader}
 use Rattle.isdb_mmt.specs.declared.table.section.LongSection.{LongSection}
 use Rattle.isdb_mmt.proofs.Every.{Every, every-put}
 use Rattle.isdb_mmt.proofs.Brief.{octets-take, AllOctets}
-use Rattle.isdb_mmt.proofs.Fits.{mostAdded, AssetFits, fresh-fits, asset-fits}
+use Rattle.isdb_mmt.specs.Theorems.Room.{mostAdded}
+use Rattle.isdb_mmt.proofs.Fits.{AssetFits, fresh-fits, asset-fits}
 use Rattle.isdb_mmt.proofs.Stores.{CountersFit, counted-one}
-use Rattle.isdb_mmt.proofs.Ready.{JoinFits}
+use Rattle.isdb_mmt.proofs.Joins.{JoinFits}
 use Rattle.isdb_mmt.proofs.Outs.{HeldOk, MediaOk, held-after, flag-small, object-fits}
 
 fit-append : (xs ys : List Field) → Fit xs → Fit ys → Fit (xs ++ ys)

@@ -20,7 +20,7 @@ use Rattle.isdb_mmt.specs.Pushes.Records.{rowsFrom, dataFrom, readRows}
 use Rattle.isdb_mmt.specs.declared.decoder.limits.Limits.{Limits}
 use Rattle.isdb_mmt.proofs.Limits.{Passed, passed}
 use Rattle.isdb_mmt.proofs.Brief.{Plain, plain-of}
-use Rattle.isdb_mmt.proofs.Fits.{mostAdded}
+use Rattle.isdb_mmt.specs.Theorems.Room.{mostAdded}
 use Rattle.isdb_mmt.proofs.RecordRows.{AllFit, rows-back}
 use Rattle.isdb_mmt.proofs.Outs.{PacketOk, packet-ok, gives-fit}
 use Rattle.isdb_mmt.proofs.PlaceFits.{asset-place, counters-place}

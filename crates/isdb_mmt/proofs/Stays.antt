@@ -1,5 +1,5 @@
--- A session whose view is ready, and whose stored lengths are those of the bytes that stand there, passes question 5. Assumes
--- nothing.
+-- A session whose view its places can hold, with counts up to 2^53, no name twice and no more of each than its limits say, and whose
+-- stored lengths are those of the bytes that stand there, passes question 5. Assumes nothing.
 use Prim.Native.Nat.{ℕ, zero, suc, _+_, _-_, _*_, _≤_, _<_}
 use mathlib.Core.Path.{_≡_, refl, ap, _∙_}
 use mathlib.Core.Bool.{Bool, true, false}
@@ -31,8 +31,10 @@ use Rattle.isdb_mmt.proofs.Checks.{media-is, control-is, is-sound, soun
 use Rattle.isdb_mmt.proofs.Guards.{was-both}
 use Rattle.isdb_mmt.proofs.Every.{Every}
 use Rattle.isdb_mmt.proofs.Fits.{AssetFits}
-use Rattle.isdb_mmt.proofs.Stores.{Whole, KeptFits}
-use Rattle.isdb_mmt.proofs.Ready.{JoinFits, ControlFits, Ready}
+use Rattle.isdb_mmt.proofs.Named.{Named}
+use Rattle.isdb_mmt.proofs.Joins.{JoinFits}
+use Rattle.isdb_mmt.proofs.PlaceFits.{TableOk, KeptOk, ControlOk}
+use Rattle.isdb_mmt.proofs.Storable.{MediaFits, ReassemblyFits, Storable}
 
 -- of each place with its index
 module _ {A : Type 0} (E : ℕ → A → Type 0) where
@@ -119,9 +121,9 @@ join-length : (b : Bool) (j : PartialMessage) (area : ℕ) → JoinFits area (gi
 join-length true j area h e = h .0
 join-length false j area h e = true-not-false false e refl
 
-whole-length : (f : Bytes → Bool) (area : ℕ) (b : Bool) (x : Bytes) → Whole f area (given b x) → b ≡ true → length x ≤ area
-whole-length f area true x h e = h .0
-whole-length f area false x h e = true-not-false false e refl
+table-length : (area : ℕ) (b : Bool) (x : Bytes) → TableOk area (given b x) → b ≡ true → length x ≤ area
+table-length area true x h e = h .0
+table-length area false x h e = true-not-false false e refl
 
 module _ (l : Limits) (s : Session) (n : ℕ) (big : n ≤ mostCount) where
   media-sound : (i : ℕ) (m : Media) → AssetFits (l .«mfu_area») n (assetEntry l s i m .1) → mediaThere l s i m → mediaSound l m ≡ true
@@ -143,14 +145,16 @@ module _ (l : Limits) (s : Session) (n : ℕ) (big : n ≤ mostCount) where
         le-leb (m .stats .malformed) mostCount (omega (arith, h .counts .malformed)),
       ))
 
-  control-sound : (i : ℕ) (c : Control) → ControlFits l (controlEntry l s i c .1) → controlThere l s i c → controlSound l c ≡ true
+  control-sound : (i : ℕ) (c : Control) → ControlOk (l .«message_area») (l .«table_area») (controlEntry l s i c .1) → controlThere l s i c
+      → controlSound l c ≡ true
   unfolding controlStateOf
   control-sound i c h e =
       control-is l c
       (λ t. let k = join-length (c .joining) _ (l .«message_area») (h .joins) t in omega (arith, part-length (i * l .«message_area») (c .length) (s .messages) (e .0 t)))
-      (λ t. let k = whole-length _ (l .«table_area») (c .mpt) _ (h .mpt) t in omega (arith, part-length ((l .sections + i) * l .«table_area») (c .«mpt_length») (s .tables) (e .1 t)))
+      (λ t. let k = table-length (l .«table_area») (c .mpt) _ (h .mpt) t in omega (arith, part-length ((l .sections + i) * l .«table_area») (c .«mpt_length») (s .tables) (e .1 t)))
 
-  section-sound : (i : ℕ) (x : KeptSection) → KeptFits (l .«table_area») (x .key) (sectionEntry l s i x .1) → sectionThere l s i x → sectionSound l x ≡ true
+  section-sound : (i : ℕ) (x : KeptSection) → KeptOk (l .«table_area») (x .key) (sectionEntry l s i x .1) → sectionThere l s i x
+      → sectionSound l x ≡ true
   section-sound i x h e =
       le-leb (x .length) (l .«table_area») (omega (arith, h .fits, part-length (i * l .«table_area») (x .length) (s .tables) e))
 
@@ -185,14 +189,35 @@ section-name p = refl
 
 -- ---- the session
 
-pub is-ready : (s : Session) (n : ℕ) → asked (limitsOf (s .state)) (lengthsOf s) ≡ 0 → Exact (limitsOf (s .state)) s
-    → Ready (limitsOf (s .state)) n (view s) → sound s ≡ true
+module _ (s : Session) where
+  abbrev limits : Limits
+  limits = limitsOf (s .state)
+
+  pub media-keys : keys (view s .assets) ≡ namesFrom (usedOf (s .state) .«media_ids») mediaSize mediaPlaces (s .state)
+  unfolding view viewBy mediaIn
+  media-keys =
+      names-view mediaPlaceOf (λ m. m .«packet_id») (assetEntry limits s) mediaSize mediaPlaces (usedOf (s .state) .«media_ids») (s .state)
+      (omega arith) (λ i m. refl) media-name
+
+  pub control-keys : keys (view s .controls) ≡ namesFrom (usedOf (s .state) .«control_ids») controlSize controlPlaces (s .state)
+  unfolding view viewBy controlsIn
+  control-keys =
+      names-view controlPlaceOf (λ c. c .«packet_id») (controlEntry limits s) controlSize controlPlaces (usedOf (s .state) .«control_ids»)
+      (s .state) (omega arith) (λ i c. refl) control-name
+
+  pub section-keys : keys (view s .store .kept) ≡ namesFrom (usedOf (s .state) .sections) sectionSize sectionPlaces (s .state)
+  unfolding view viewBy sectionsIn
+  section-keys =
+      names-view sectionPlaceOf (λ x. x .key) (sectionEntry limits s) sectionSize sectionPlaces (usedOf (s .state) .sections) (s .state)
+      (omega arith) (λ i x. refl) section-name
+
+pub stays-sound : (s : Session) (n : ℕ) → n ≤ mostCount → asked (limitsOf (s .state)) (lengthsOf s) ≡ 0 → Exact (limitsOf (s .state)) s
+    → Storable (limitsOf (s .state)) n (view s) → Named (limitsOf (s .state)) (view s) → sound s ≡ true
 unfolding sound view viewBy mediaIn controlsIn sectionsIn
-is-ready s n a e h =
+stays-sound s n big a e h w =
     let l = limitsOf (s .state) in
     let u = usedOf (s .state) in
     let p = passed l (lengthsOf s) a in
-    let big : n ≤ mostCount = omega (arith, h .counts, h .packets, p .packets) in
     let c = h .counters in
     let x = countersOf (s .state) in
     let m1 = length-view mediaPlaceOf (λ m. m .«packet_id») (assetEntry l s) mediaSize mediaPlaces (u .«media_ids») (s .state) in
@@ -204,16 +229,16 @@ is-ready s n a e h =
       there =
           record {
             long = p .state;
-            media = omega (arith, m1, h .media, p .ranges);
-            controls = omega (arith, m2, h .lines, p .ranges);
-            sections = omega (arith, m3, h .sections, p .ranges);
+            media = omega (arith, m1, w .media, p .ranges);
+            controls = omega (arith, m2, w .lines, p .ranges);
+            sections = omega (arith, m3, w .sections, p .ranges);
           };
-      media = omega (arith, m1, h .media);
-      controls = omega (arith, m2, h .lines);
-      sections = omega (arith, m3, h .sections);
-      plt = λ t. let k = whole-length _ (l .«table_area») (latestOf (s .state) .plt) _ (h .store .plt) t in
+      media = omega (arith, m1, w .media);
+      controls = omega (arith, m2, w .lines);
+      sections = omega (arith, m3, w .sections);
+      plt = λ t. let k = table-length (l .«table_area») (latestOf (s .state) .plt) _ (h .store .plt) t in
           omega (arith, part-length ((l .sections + l .«control_ids») * l .«table_area») (latestOf (s .state) .«plt_length») (s .tables) (e .plt t));
-      tot = λ t. let k = whole-length _ (l .«table_area») (latestOf (s .state) .tot) _ (h .store .tot) t in
+      tot = λ t. let k = table-length (l .«table_area») (latestOf (s .state) .tot) _ (h .store .tot) t in
           omega (arith, part-length ((l .sections + l .«control_ids» + 1) * l .«table_area») (latestOf (s .state) .«tot_length») (s .tables) (e .tot t));
       packets = four (x .«tlv_packets») (x .«ip_errors») (x .«non_mmtp») (x .ntp) (omega (arith, c .«tlv_packets»)) (omega (arith, c .«ip_errors»)) (omega (arith, c .«non_mmtp»)) (omega (arith, c .ntp));
       tables =
@@ -221,12 +246,18 @@ is-ready s n a e h =
           (omega (arith, c .tables)) (omega (arith, c .«crc_errors»)) (omega (arith, c .malformed)) (omega (arith, c .«version_changes»))
           (omega (arith, c .«orphan_fragments»)) (omega (arith, c .oversize)) (omega (arith, c .«message_malformed»)) (omega (arith, c .«split_errors»));
       counts = counts-fit n big (s .others) (h .store .others);
-      objects = every-is (assetEntry l s) (mediaSound l) _ (mediaThere l s) (λ i m f t. media-sound l s n big i m f t) (mediaIn (s .state)) 0 (h .assets) (e .media);
-      messages = every-is (controlEntry l s) (controlSound l) _ (controlThere l s) (λ i m f t. control-sound l s n big i m f t) (controlsIn (s .state)) 0 (h .controls) (e .controls);
-      kept = every-is (sectionEntry l s) (sectionSound l) _ (sectionThere l s) (λ i m f t. section-sound l s n big i m f t) (sectionsIn (s .state)) 0 (h .store .kept) (e .sections);
-      mediaNames = rw (names-view mediaPlaceOf (λ m. m .«packet_id») (assetEntry l s) mediaSize mediaPlaces (u .«media_ids») (s .state) (omega arith) (λ i m. refl) (media-name)) at (h .mediaNames);
-      controlNames = rw (names-view controlPlaceOf (λ m. m .«packet_id») (controlEntry l s) controlSize controlPlaces (u .«control_ids») (s .state) (omega arith) (λ i m. refl) (control-name)) at (h .controlNames);
-      keys = rw (names-view sectionPlaceOf (λ m. m .key) (sectionEntry l s) sectionSize sectionPlaces (u .sections) (s .state) (omega arith) (λ i m. refl) (section-name)) at (h .store .names);
+      objects =
+          every-is (assetEntry l s) (mediaSound l) (MediaFits l n) (mediaThere l s) (λ i m f t. media-sound l s n big i m (f .1 .counts) t)
+          (mediaIn (s .state)) 0 (h .assets) (e .media);
+      messages =
+          every-is (controlEntry l s) (controlSound l) (ReassemblyFits l) (controlThere l s) (λ i c f t. control-sound l s n big i c (f .1) t)
+          (controlsIn (s .state)) 0 (h .controls) (e .controls);
+      kept =
+          every-is (sectionEntry l s) (sectionSound l) (KeptOk (l .«table_area»)) (sectionThere l s)
+          (λ i x f t. section-sound l s n big i x f t) (sectionsIn (s .state)) 0 (h .store .kept) (e .sections);
+      mediaNames = rw (media-keys s) at (w .mediaNames);
+      controlNames = rw (control-keys s) at (w .controlNames);
+      keys = rw (section-keys s) at (w .keptNames);
     })
 
 -- ---- a session that passes question 5 has what it says: nothing is to be shown of places that a push leaves

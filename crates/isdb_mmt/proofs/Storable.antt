@@ -7,13 +7,13 @@ use mathlib.Core.Bool.{Bool, true, false}
 use mathlib.Core.Option.{Option, none, some}
 use mathlib.Core.List.{List, map}
 use native.Mathlib.Omega.{arith}
-use lib.ListN.{length, getD, drop, length-take}
+use lib.ListN.{length, getD, drop, replicate, length-take}
 use Rattle.isdb_mmt.specs.Decoder.Packet.{Bytes, MpuPacket, MessagePacket, Packet, ipError, ntp, nonMmtp, media, message, control, other, classify}
 use Rattle.isdb_mmt.specs.Decoder.Objects.{Mfu, Asset, fresh, assetAfter}
 use Rattle.isdb_mmt.specs.Decoder.Reassembly.{PartialMessage, mostMessage, reassemblyAfter, messageCompleted, cutOfAll}
-use Rattle.isdb_mmt.specs.Decoder.Kept.{tableRead, mptAfterAll}
+use Rattle.isdb_mmt.specs.Decoder.Kept.{zeros, tableRead, mptAfterAll}
 use Rattle.isdb_mmt.specs.Decoder.GivenTables.{tablesGiven, controlTables}
-use Rattle.isdb_mmt.specs.Decoder.Model.{State, Control as ControlState, idleControl, assetOf, controlOf, reassemblyOf, packetCounted, timeAfter, pushed}
+use Rattle.isdb_mmt.specs.Decoder.Model.{State, Control as ControlState, idleControl, opened, assetOf, controlOf, reassemblyOf, packetCounted, timeAfter, pushed}
 use Rattle.isdb_mmt.specs.Decoder.Needs.{heldLength, needs}
 use Rattle.isdb_mmt.specs.Memory.Lent.{part, placesFrom, every, indexed}
 use Rattle.isdb_mmt.specs.Memory.Layout.{mostCount, mediaPlaces, mediaSize, objectPlace, controlPlaces, controlSize, sectionPlaces, sectionSize, timePlace}
@@ -22,15 +22,19 @@ use Rattle.isdb_mmt.specs.Memory.Check.{statsCounts, packetCounts, table
 use Rattle.isdb_mmt.specs.Memory.View.{given, headerGiven, itemGiven, mfuOf, assetOfPlace, controlStateOf, assetEntry, controlEntry, sectionEntry, viewBy, view}
 use Rattle.isdb_mmt.specs.Memory.Octets.{Octets, Lent}
 use Rattle.isdb_mmt.specs.Memory.PlacesOf.{firstIn}
+use Rattle.isdb_mmt.specs.Pushes.MediaPlace.{StatsWithin}
 use Rattle.isdb_mmt.specs.declared.mpu.MfuHeader.{MfuHeader}
+use Rattle.isdb_mmt.specs.declared.decoder.counts.AssetStats.{AssetStats}
+use Rattle.isdb_mmt.specs.declared.decoder.counts.Counters.{Counters}
 use Rattle.isdb_mmt.specs.declared.decoder.limits.Limits.{Limits}
 use Rattle.isdb_mmt.proofs.Checks.{media-was, control-was, section-was, count-was}
 use Rattle.isdb_mmt.proofs.Guards.{was-both}
 use Rattle.isdb_mmt.proofs.Every.{Every, every-put, every-found, every-mono}
 use Rattle.isdb_mmt.proofs.Brief.{octets-drop, octets-take, Plain, plain-of}
-use Rattle.isdb_mmt.proofs.Fits.{mostAdded, asset-more}
+use Rattle.isdb_mmt.specs.Theorems.Room.{mostAdded}
+use Rattle.isdb_mmt.proofs.Fits.{asset-more}
 use Rattle.isdb_mmt.proofs.Stores.{breaksIn, breaks-read, breaks-control, CountersFit, counters-more, counted-fit}
-use Rattle.isdb_mmt.proofs.Ready.{JoinFits, reassembly-fits, gives-fits, Given, given-cut, length-map, length-control, packet-fits, reassembly-counts}
+use Rattle.isdb_mmt.proofs.Joins.{JoinFits, reassembly-fits, gives-fits, Given, given-cut, length-map, length-control, packet-fits, reassembly-counts}
 use Rattle.isdb_mmt.proofs.Outs.{be-small, HeaderOk, MfuOk, ItemOk, ObjectOk, HeldOk, MediaOk, TimeOk, PacketOk, packet-ok}
 use Rattle.isdb_mmt.proofs.PlaceFits.{NumberOk, AssetOk, fresh-ok, asset-after, TableOk, KeptOk, StoreOk, store-ok-more, tables-ok, control-ok, stores-ok, mpts-ok, ControlOk, idle-ok}
 
@@ -105,7 +109,7 @@ module _ (l : Limits) (n : ℕ) (s : State) (h : Storable l n s) where
       (i, asset-after (l .«mfu_area») n (assetOf (m .id) s) m (asset-of (m .id) i .1) o q t)
 
   -- a message packet: the tables that it gives, and its reassembly after it
-  tables-given : (c : MessagePacket) → PacketOk (message c) → Plain (message c) → Given (cutOfAll (messageCompleted (reassemblyOf (c .id) s) c))
+  pub tables-given : (c : MessagePacket) → PacketOk (message c) → Plain (message c) → Given (cutOfAll (messageCompleted (reassemblyOf (c .id) s) c))
   tables-given c o q =
       given-cut (messageCompleted (reassemblyOf (c .id) s) c)
       (gives-fits (l .«message_area») (reassemblyOf (c .id) s) c (control-of (c .id) (omega (arith, o .0)) .1 .joins) (q .0) (q .1))
@@ -221,6 +225,41 @@ module _ (l : Limits) (n : ℕ) (s : State) (h : Storable l n s) where
   storable-push (control bs) o q a = control-stored bs q a
   storable-push other o q a = counted-stored 0 0 0 (omega arith) (omega arith) (omega arith) (s .time) (h .time)
 
+-- ---- an opened state
+
+abbrev blank : ℕ → List ℕ
+blank n = replicate n 0
+
+zero-at : (n i : ℕ) → getD (blank n) i 0 ≡ 0
+zero-at zero i = refl
+zero-at (suc n) zero = refl
+zero-at (suc n) (suc i) = zero-at n i
+
+pub storable-opened : (l : Limits) (pass : Bool) → Storable l 0 (opened pass)
+unfolding opened zeros
+storable-opened l pass =
+    record {
+      assets = tt;
+      controls = tt;
+      store = record { plt = tt; tot = tt; kept = tt; others = λ i. omega (arith, zero-at 256 i) };
+      time = tt;
+      counters =
+          record {
+            «tlv_packets» = omega arith;
+            «ip_errors» = omega arith;
+            «non_mmtp» = omega arith;
+            ntp = omega arith;
+            tables = omega arith;
+            «crc_errors» = omega arith;
+            malformed = omega arith;
+            «version_changes» = omega arith;
+            «orphan_fragments» = omega arith;
+            oversize = omega arith;
+            «message_malformed» = omega arith;
+            «split_errors» = omega arith;
+          };
+    }
+
 -- ---- the view of a session that passes question 5
 
 -- what a flag says is there
@@ -294,6 +333,39 @@ object-ok p b o q =
       octets = q;
     }
 
+-- counts, from the lists of them that question 5 goes through
+pub stats-of : (n : ℕ) (s : AssetStats) → ((i : ℕ) → getD (statsCounts s) i 0 ≤ n) → StatsWithin n s
+stats-of n s k =
+    record {
+      packets = k 0;
+      lost = k 1;
+      scrambled = k 2;
+      mfus = k 3;
+      scrambledMfus = k 4;
+      dropped = k 5;
+      mpus = k 6;
+      jumps = k 7;
+      malformed = k 8;
+    }
+
+pub counters-of : (n : ℕ) (c : Counters) → ((i : ℕ) → getD (packetCounts c) i 0 ≤ n) → ((i : ℕ) → getD (tableCounts c) i 0 ≤ n)
+    → CountersFit n n n c
+counters-of n c k t =
+    record {
+      «tlv_packets» = k 0;
+      «ip_errors» = k 1;
+      «non_mmtp» = k 2;
+      ntp = k 3;
+      tables = t 0;
+      «crc_errors» = t 1;
+      malformed = t 2;
+      «version_changes» = t 3;
+      «orphan_fragments» = t 4;
+      oversize = t 5;
+      «message_malformed» = t 6;
+      «split_errors» = t 7;
+    }
+
 module _ (l : Limits) (s : Session) (h : Lent s) where
   media-view : (i : ℕ) (p : Bytes) → Octets p → mediaSound l (mediaPlaceOf p) ≡ true
       → MediaFits l mostCount (assetEntry l s i (mediaPlaceOf p) .0) (assetEntry l s i (mediaPlaceOf p) .1)
@@ -302,25 +374,13 @@ module _ (l : Limits) (s : Session) (h : Lent s) where
       let m = mediaPlaceOf p in
       let w = media-was l m e in
       let b = part (i * l .«mfu_area») (m .object .length) (s .objects) in
-      let q = octets-part (i * l .«mfu_area») (m .object .length) (s .objects) (h .objects) in
-      let k : (j : ℕ) → getD (statsCounts (m .stats)) j 0 ≤ mostCount = λ j. count-was (statsCounts (m .stats)) j (w .1) in (
+      let q = octets-part (i * l .«mfu_area») (m .object .length) (s .objects) (h .objects) in (
         be-small p o 4 0,
         record {
           counts =
               record {
                 held = length-given (m .held) (mfuOf (m .object) b) (m .object .length) (l .«mfu_area») (part-le (i * l .«mfu_area») (m .object .length) (s .objects)) (w .0);
-                counts =
-                    record {
-                      packets = k 0;
-                      lost = k 1;
-                      scrambled = k 2;
-                      mfus = k 3;
-                      scrambledMfus = k 4;
-                      dropped = k 5;
-                      mpus = k 6;
-                      jumps = k 7;
-                      malformed = k 8;
-                    };
+                counts = stats-of mostCount (m .stats) (λ j. count-was (statsCounts (m .stats)) j (w .1));
               };
           number = number-given (m .seen) (m .sequence) (be-small p o 4 5);
           mpu = number-given (m .«mpu_seen») (m .mpu) (be-small p o 4 10);
@@ -365,8 +425,7 @@ storable-view s q h =
     let l = limitsOf (s .state) in
     let u = usedOf (s .state) in
     let x = latestOf (s .state) in
-    let c : (i : ℕ) → getD (packetCounts (countersOf (s .state))) i 0 ≤ mostCount = λ i. count-was (packetCounts (countersOf (s .state))) i (q .packets) in
-    let t : (i : ℕ) → getD (tableCounts (countersOf (s .state))) i 0 ≤ mostCount = λ i. count-was (tableCounts (countersOf (s .state))) i (q .tables) in
+    let c = countersOf (s .state) in
     let plt = (l .sections + l .«control_ids») * l .«table_area» in
     let tot = (l .sections + l .«control_ids» + 1) * l .«table_area» in
     record {
@@ -386,21 +445,7 @@ storable-view s q h =
             others = λ i. count-was (s .others) i (q .counts);
           };
       time = time-given (timeOf (s .state) .seen) (timeOf (s .state) .timestamp) (be-small (s .state) (h .state) 8 (timePlace + 1));
-      counters =
-          record {
-            «tlv_packets» = c 0;
-            «ip_errors» = c 1;
-            «non_mmtp» = c 2;
-            ntp = c 3;
-            tables = t 0;
-            «crc_errors» = t 1;
-            malformed = t 2;
-            «version_changes» = t 3;
-            «orphan_fragments» = t 4;
-            oversize = t 5;
-            «message_malformed» = t 6;
-            «split_errors» = t 7;
-          };
+      counters = counters-of mostCount c (λ i. count-was (packetCounts c) i (q .packets)) (λ i. count-was (tableCounts c) i (q .tables));
     }
 
 -- and of what a packet makes of it

@@ -1,5 +1,5 @@
--- What tables do to what is kept and counted: lengths within the table area, counts by the number of tables and of their descriptor
--- loops, and what is kept parses. Assumes nothing.
+-- What tables do to what is kept and counted: what is kept parses, and counts grow by the number of tables and of their descriptor
+-- loops. Assumes nothing.
 use Prim.Native.Nat.{ℕ, suc, _+_, _-_, _/_, _^_, _≤_}
 use mathlib.Core.Path.{_≡_, refl}
 use mathlib.Core.Bool.{Bool, true, false, not, cond, _&&_}
@@ -18,14 +18,11 @@ use Rattle.isdb_mmt.specs.Decoder.Maps.{find, isSome}
 use Rattle.isdb_mmt.specs.Formats.Mpt.{mptOf}
 use Rattle.isdb_mmt.specs.Formats.Plt.{pltOf}
 use Rattle.isdb_mmt.specs.Formats.Tot.{totOf}
-use Rattle.isdb_mmt.specs.Memory.Lent.{distinct}
 use Rattle.isdb_mmt.specs.Memory.Octets.{Octets}
 use Rattle.isdb_mmt.specs.Decoder.Kept.{Section, keyOf, sectionOf, parsesAs, Kept, otherVersion, keepIf, keep, Increments, increments, tableCounted, sectionIncrements, KeptTables, Table, emptyTable, mptTable, pltTable, totTable, truncatedSection, aSection, otherTable, mptParses, pltParses, totParses, longTable, tableById, tableRead, changes, tableIncrements, latest, mptAfter, mptAfterAll, stored, storedAll, countedAll}
-use Rattle.isdb_mmt.specs.Decoder.Needs.{tableArea, tablesNeed}
 use Rattle.isdb_mmt.specs.Decoder.GivenTables.{controlTables}
-use Rattle.isdb_mmt.proofs.Views.{keys}
 use Rattle.isdb_mmt.proofs.Declared.{same-section, same-body, same-tot, same-mpt, same-plt}
-use Rattle.isdb_mmt.proofs.Every.{Every, every-put, distinct-put}
+use Rattle.isdb_mmt.proofs.Every.{Every, every-put}
 use Rattle.isdb_mmt.proofs.Fits.{one-le}
 use Rattle.isdb_mmt.proofs.Amounts.{breaksOf, section-breaks, table-breaks, total}
 use Rattle.isdb_mmt.proofs.Brief.{AllOctets}
@@ -93,10 +90,10 @@ breaks-control (b ∷ bs) = omega (arith, breaks-control bs, section-breaks b)
 
 -- ---- what is kept
 
--- a kept table, where there is one: it fits and parses
-abbrev pub Whole : (Bytes → Bool) → ℕ → Option Bytes → Type 0
-Whole parses area none = Unit {0}
-Whole parses area (some b) = (length b ≤ area) × (parses b ≡ true)
+-- a kept table, where there is one, parses
+abbrev pub Parses : (Bytes → Bool) → Option Bytes → Type 0
+Parses parses none = Unit {0}
+Parses parses (some b) = parses b ≡ true
 
 abbrev pub mptGood : Bytes → Bool
 mptGood b = mptParses (mptOf b .mpt)
@@ -107,25 +104,18 @@ pltGood b = pltParses (pltOf b)
 abbrev pub totGood : Bytes → Bool
 totGood b = totParses (totOf b .result)
 
-whole-latest : (parses : Bytes → Bool) (area : ℕ) (ok : Bool) (o : Option Bytes) (b : Bytes) → Whole parses area o
-    → (ok ≡ true → parses b ≡ true) → cond ok (length b) 0 ≤ area → Whole parses area (latest ok o b)
-whole-latest parses area true o b h f l = (l, f refl)
-whole-latest parses area false o b h f l = h
+latest-parses : (parses : Bytes → Bool) (ok : Bool) (o : Option Bytes) (b : Bytes) → Parses parses o → (ok ≡ true → parses b ≡ true)
+    → Parses parses (latest ok o b)
+latest-parses parses true o b h f = f refl
+latest-parses parses false o b h f = h
 
-pub record KeptFits (area k : ℕ) (x : Kept) : Type 0 where
-  pub fits : length (x .bytes) ≤ area
-  pub parses : parsesAs (k / 2 ^ 24) (x .bytes) ≡ true
+abbrev pub KeptParses : ℕ → Kept → Type 0
+KeptParses k x = parsesAs (k / 2 ^ 24) (x .bytes) ≡ true
 
-pub record StoreFits (area n : ℕ) (s : KeptTables) : Type 0 where
-  pub plt : Whole pltGood area (s .plt)
-  pub tot : Whole totGood area (s .tot)
-  pub kept : Every (KeptFits area) (s .kept)
-  pub others : (i : ℕ) → getD (s .others) i 0 ≤ n
-  pub names : distinct (keys (s .kept)) ≡ true
-
-pub store-more : (area n m : ℕ) (s : KeptTables) → n ≤ m → StoreFits area n s → StoreFits area m s
-store-more area n m s l h =
-    record { plt = h .plt; tot = h .tot; kept = h .kept; others = λ i. omega (arith, h .others i); names = h .names }
+pub record StoreParses (s : KeptTables) : Type 0 where
+  pub plt : Parses pltGood (s .plt)
+  pub tot : Parses totGood (s .tot)
+  pub kept : Every KeptParses (s .kept)
 
 pub counted-one : (l : List ℕ) (id n : ℕ) → ((i : ℕ) → getD l i 0 ≤ n) → (i : ℕ) → getD (set l id (getD l id 0 + 1)) i 0 ≤ n + 1
 counted-one l id n h i =
@@ -137,74 +127,51 @@ counted-one l id n h i =
     (λ e. rw (set-out l id (getD l id 0 + 1) (ltb-false id (length l) e)) (omega (arith, h i)))
 
 -- a section that is kept
-module _ (area : ℕ) (x : Section) (m : List (ℕ × Kept)) (f : Every (KeptFits area) m) (d : distinct (keys m) ≡ true) (q : Sane (aSection x)) where
-  record Same (r : List (ℕ × Kept)) : Type 0 where
-    all : Every (KeptFits area) r
-    names : distinct (keys r) ≡ true
-
-  kept-if : (h n b : Bool) → x .headerAndCrcGood ≡ h → x .bodyOk ≡ b → cond (h && (n && b)) (length (x .bytes)) 0 ≤ area → Same (cond h (keepIf n b x m) m)
+module _ (x : Section) (m : List (ℕ × Kept)) (f : Every KeptParses m) (q : Sane (aSection x)) where
+  kept-if : (h n b : Bool) → x .headerAndCrcGood ≡ h → x .bodyOk ≡ b → Every KeptParses (cond h (keepIf n b x m) m)
   unfolding keepIf
-  kept-if true true true e k l =
-      record {
-        all = every-put (KeptFits area) (x .key) _ (record { fits = l; parses = q e k }) m f;
-        names = distinct-put (x .key) _ m d;
-      }
-  kept-if true true false e k l = record { all = f; names = d }
-  kept-if true false b e k l = record { all = f; names = d }
-  kept-if false n b e k l = record { all = f; names = d }
+  kept-if true true true e k = every-put KeptParses (x .key) _ (q e k) m f
+  kept-if true true false e k = f
+  kept-if true false b e k = f
+  kept-if false n b e k = f
 
-pub store-fits : (area n : ℕ) (s : KeptTables) (t : Table) → StoreFits area n s → Sane t → tableArea s t ≤ area → StoreFits area (n + 1) (stored s t)
-unfolding stored tableArea keep
-store-fits area n s emptyTable h q l = store-more area n (n + 1) s (omega arith) h
-store-fits area n s (mptTable ok k b) h q l = store-more area n (n + 1) s (omega arith) h
-store-fits area n s (pltTable ok b) h q l =
-    record {
-      plt = whole-latest pltGood area ok (s .plt) b (h .plt) q l;
-      tot = h .tot;
-      kept = h .kept;
-      others = λ i. omega (arith, h .others i);
-      names = h .names;
-    }
-store-fits area n s (totTable ok c k b) h q l =
+store-parses : (s : KeptTables) (t : Table) → StoreParses s → Sane t → StoreParses (stored s t)
+unfolding stored keep
+store-parses s emptyTable h q = h
+store-parses s (mptTable ok k b) h q = h
+store-parses s (pltTable ok b) h q = record { plt = latest-parses pltGood ok (s .plt) b (h .plt) q; tot = h .tot; kept = h .kept }
+store-parses s (totTable ok c k b) h q = record { plt = h .plt; tot = latest-parses totGood ok (s .tot) b (h .tot) q; kept = h .kept }
+store-parses s truncatedSection h q = h
+store-parses s (aSection x) h q =
     record {
       plt = h .plt;
-      tot = whole-latest totGood area ok (s .tot) b (h .tot) q l;
-      kept = h .kept;
-      others = λ i. omega (arith, h .others i);
-      names = h .names;
+      tot = h .tot;
+      kept =
+          kept-if x (s .kept) (h .kept) q (x .headerAndCrcGood) (otherVersion (find (x .key) (s .kept)) (x .version)) (x .bodyOk) refl
+          refl;
     }
-store-fits area n s truncatedSection h q l = store-more area n (n + 1) s (omega arith) h
-store-fits area n s (aSection x) h q l =
-    let r = kept-if area x (s .kept) (h .kept) (h .names) q (x .headerAndCrcGood) (otherVersion (find (x .key) (s .kept)) (x .version)) (x .bodyOk) refl refl l in
-    record { plt = h .plt; tot = h .tot; kept = r .all; others = λ i. omega (arith, h .others i); names = r .names }
-store-fits area n s (otherTable id) h q l =
-    record { plt = h .plt; tot = h .tot; kept = h .kept; others = counted-one (s .others) id n (h .others); names = h .names }
+store-parses s (otherTable id) h q = record { plt = h .plt; tot = h .tot; kept = h .kept }
 
-pub stores-fit : (area : ℕ) (ts : List Table) (n : ℕ) (s : KeptTables) → StoreFits area n s → AllSane ts → tablesNeed s ts ≤ area
-    → StoreFits area (n + length ts) (storedAll s ts)
-unfolding storedAll tablesNeed
-stores-fit area [] n s h q l = store-more area n (n + 0) s (omega arith) h
-stores-fit area (t ∷ ts) n s h q l =
-    store-more area (n + 1 + length ts) (n + suc (length ts)) (storedAll (stored s t) ts) (omega arith)
-    (stores-fit area ts (n + 1) (stored s t) (store-fits area n s t h (q .0) (omega arith)) (q .1) (omega arith))
+pub stores-parse : (ts : List Table) (s : KeptTables) → StoreParses s → AllSane ts → StoreParses (storedAll s ts)
+unfolding storedAll
+stores-parse [] s h q = h
+stores-parse (t ∷ ts) s h q = stores-parse ts (stored s t) (store-parses s t h (q .0)) (q .1)
 
 -- the MPT of a control id
-mpt-fits : (area : ℕ) (m : Option Bytes) (s : KeptTables) (t : Table) → Whole mptGood area m → Sane t → tableArea s t ≤ area → Whole mptGood area (mptAfter m t)
-unfolding mptAfter tableArea
-mpt-fits area m s emptyTable h q l = h
-mpt-fits area m s (mptTable ok k b) h q l = whole-latest mptGood area ok m b h q l
-mpt-fits area m s (pltTable ok b) h q l = h
-mpt-fits area m s (totTable ok c k b) h q l = h
-mpt-fits area m s truncatedSection h q l = h
-mpt-fits area m s (aSection x) h q l = h
-mpt-fits area m s (otherTable id) h q l = h
+mpt-parses : (m : Option Bytes) (t : Table) → Parses mptGood m → Sane t → Parses mptGood (mptAfter m t)
+unfolding mptAfter
+mpt-parses m emptyTable h q = h
+mpt-parses m (mptTable ok k b) h q = latest-parses mptGood ok m b h q
+mpt-parses m (pltTable ok b) h q = h
+mpt-parses m (totTable ok c k b) h q = h
+mpt-parses m truncatedSection h q = h
+mpt-parses m (aSection x) h q = h
+mpt-parses m (otherTable id) h q = h
 
-pub mpts-fit : (area : ℕ) (ts : List Table) (m : Option Bytes) (s : KeptTables) → Whole mptGood area m → AllSane ts → tablesNeed s ts ≤ area
-    → Whole mptGood area (mptAfterAll m ts)
-unfolding mptAfterAll tablesNeed
-mpts-fit area [] m s h q l = h
-mpts-fit area (t ∷ ts) m s h q l =
-    mpts-fit area ts (mptAfter m t) (stored s t) (mpt-fits area m s t h (q .0) (omega arith)) (q .1) (omega arith)
+pub mpts-parse : (ts : List Table) (m : Option Bytes) → Parses mptGood m → AllSane ts → Parses mptGood (mptAfterAll m ts)
+unfolding mptAfterAll
+mpts-parse [] m h q = h
+mpts-parse (t ∷ ts) m h q = mpts-parse ts (mptAfter m t) (mpt-parses m t h (q .0)) (q .1)
 
 -- ---- what is counted
 
