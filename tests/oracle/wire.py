@@ -24,7 +24,8 @@ def some_bytes(n):
 
 
 def cases():
-    """The stored cases, each its word and its bytes."""
-    lines = (TOP / "crates/cases/stdin").read_text().splitlines()
-    found = [line.split(" ", 1) for line in lines if line and line[0] != "#"]
+    """The stored cases, each its word and its bytes; lines that are not answered, since something is wrong with them, are none."""
+    answers = (TOP / "crates/cases/stdout").read_text().splitlines()
+    answered = [line for line in answers if " ->" in line and line[0] not in "# " and " -> error:" not in line]
+    found = [line.split(" ->", 1)[0].split(" ", 1) for line in answered]
     return [(word, bytes.fromhex(hexes)) for word, hexes in found]
