@@ -3,10 +3,10 @@ mod tables;
 
 use isdb_mmt::decoder;
 use isdb_mmt::decoder::limits::Limits;
-use isdb_text::cut;
-use isdb_text::cut::Cut;
 use isdb_text::dump_session;
 use isdb_tlv::bytes;
+use isdb_tlv::cut;
+use isdb_tlv::cut::Cut;
 
 // The most data of a packet.
 const MOST: usize = 65535;

@@ -5,10 +5,10 @@ use native.Mathlib.Omega.{arith}
 use mathlib.Core.List.{List}
 use lib.ListN.{length}
 use borrow.Author.Tests.{le-leb, lt-leb}
-use Rattle.isdb_text.specs.Cut.{cutAt, recordingFrom, recordingOf}
-use Rattle.isdb_text.specs.declared.cut.Cut.{Cut}
-use Rattle.isdb_text.specs.declared.cut.Cut.the-variants.{Packet, End as endHere, Short as shortHere, Bad as badHere}
-use Rattle.isdb_text.proofs.Cutting.{end-behind, end-bad, end-short, end-clean, end-here, over-end}
+use Rattle.isdb_tlv.specs.Cut.{cutAt, recordingFrom, recordingOf}
+use Rattle.isdb_tlv.specs.declared.cut.Cut.{Cut}
+use Rattle.isdb_tlv.specs.declared.cut.Cut.the-variants.{Packet, End as endHere, Short as shortHere, Bad as badHere}
+use Rattle.isdb_tlv.proofs.Cutting.{end-behind, end-bad, end-short, end-clean, end-here, over-end}
 use Rattle.feedlist.specs.declared.Passed.the-variants.{More, Bad}
 use Rattle.feedlist.specs.Pass.{mostBytes, StopsAt}
 

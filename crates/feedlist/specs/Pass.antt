@@ -4,9 +4,9 @@ use mathlib.Core.Path.{_≡_}
 use mathlib.Core.List.{List}
 use lib.ListN.{length}
 use Rattle.isdb_tlv.specs.Guards.{if_then_else_, _≤?_}
-use Rattle.isdb_text.specs.Cut.{cutAt, recordingOf}
-use Rattle.isdb_text.specs.declared.cut.Cut.the-variants.{Bad as badHere}
-use Rattle.isdb_text.specs.declared.cut.Stop.the-variants.{Clean, Bad as badAt}
+use Rattle.isdb_tlv.specs.Cut.{cutAt, recordingOf}
+use Rattle.isdb_tlv.specs.declared.cut.Cut.the-variants.{Bad as badHere}
+use Rattle.isdb_tlv.specs.declared.cut.Stop.the-variants.{Clean, Bad as badAt}
 use Rattle.feedlist.specs.declared.Passed.{Passed}
 use Rattle.feedlist.specs.declared.Passed.the-variants.{More, Bad, Refused}
 

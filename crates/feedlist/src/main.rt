@@ -2,11 +2,11 @@
 ghost use Rattle.feedlist.specs.Pass.{StopsAt};
 use isdb_mmt::decoder;
 use isdb_mmt::decoder::limits::Limits;
-use isdb_text::cut;
-use isdb_text::cut::Cut;
-use isdb_text::cut::Stop;
 use isdb_text::listing;
 use isdb_tlv::bytes;
+use isdb_tlv::cut;
+use isdb_tlv::cut::Cut;
+use isdb_tlv::cut::Stop;
 
 // The most data of a packet.
 const MOST: usize = 16384;

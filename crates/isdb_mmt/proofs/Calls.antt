@@ -29,10 +29,10 @@ use Rattle.isdb_mmt.specs.Pushes.Records.{readRows}
 use Rattle.isdb_mmt.specs.Pushes.Leaves.{packetLeaves}
 use Rattle.isdb_tlv.specs.Guards.{_<?_, _≤?_}
 use Rattle.isdb_mmt.specs.Decoder.Needs.{needs}
-use Rattle.isdb_mmt.specs.Pushes.Push.{Input, packetOf, mostBytes, hasPlaces, hasAreas, hasOutputs, asksOf, asks, handed as handedBy}
+use Rattle.isdb_mmt.specs.Pushes.Push.{Input, packetOf, mostBytes, hasPlaces, hasAreas, hasOutputs, asksOf, asksLater, asks, leavesOf, replyOf, handed as handedBy}
 use Rattle.isdb_mmt.specs.Answers.Readings.{mediaFound, controlFound, countersRead, timeRead, timeAt, countRead, mediaNames, controlNames, keysIn, leastFrom, mostName, nameTold, nextMediaRead, nextControlRead, nextKeyRead, mediaIf, mediaRead, heldAt, heldIf, heldRead, controlIf, controlRead, sectionRead, mptRead, pltRead, totRead, assetRead, timeNumber, nameNumber, mediaNumber, heldNumber, controlNumber, tableNumber, assetNumber, TableTold, refused, nothing, these, toldBy}
 use Rattle.isdb_mmt.specs.Answers.TableReadingLaws.{sectionBytes, mptBytes, handsOut, AsKept}
-use Rattle.isdb_mmt.specs.Theorems.Calls.{keptIn, droppedIn, lostIn, heldIn, Reading, counters, time, count, nextMedia, nextControl, nextKey, mediaOf, held, controlOf, mpt, plt, tot, section, assetOf, readingNumber, Call, push, read, after, pushes, accepted, handed, AllBytes, leavesOf, replyOf, decoder, PushDetermined, Tells, none-kept, kept, After, Demand3, AllAsModel, AnswersAsModel}
+use Rattle.isdb_mmt.specs.Theorems.Calls.{keptIn, droppedIn, lostIn, heldIn, Reading, counters, time, count, nextMedia, nextControl, nextKey, mediaOf, held, controlOf, mpt, plt, tot, section, assetOf, readingNumber, Call, push, read, after, pushes, accepted, handed, AllBytes, decoder, PushDetermined, Tells, none-kept, kept, After, Demand3, AllAsModel, AnswersAsModel}
 use Rattle.isdb_mmt.specs.declared.maybe.MaybeU32.{MaybeU32}
 use Rattle.isdb_mmt.specs.declared.maybe.MaybeU32.the-variants.{None as noU32, Some as someU32}
 use Rattle.isdb_mmt.specs.declared.decoder.place.Found.{Found}
@@ -179,7 +179,7 @@ numbers-other false false false false true q = omega arith
 numbers-other false false false false false q = omega arith
 
 never-5 : (s : Session) → sound s ≡ true → (x : Input) → asks s x ≡ 5 → ⊥
-unfolding asks asksOf
+unfolding asks asksLater asksOf
 never-5 s ok x e =
     let l = limitsOf (s .state) in
     let n = needs (view s) (packetOf x) in

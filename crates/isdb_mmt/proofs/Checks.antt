@@ -43,23 +43,23 @@ or-low a b =
     let r = and-le-r a b in
     (omega arith, omega arith)
 
-every-both : {A : Type 0} (f : A → Bool) (xs ys : List A) → every f (xs ++ ys) ≡ cond (every f xs) (every f ys) false
+pub every-both : {A : Type 0} (f : A → Bool) (xs ys : List A) → every f (xs ++ ys) ≡ cond (every f xs) (every f ys) false
 unfolding every
 every-both f [] ys = refl
 every-both f (x ∷ xs) ys = either (f x) (λ t. rw t (every-both f xs ys)) (λ z. rw z)
 
 -- one turn of a walk over counts that are stored one behind the other
-module _ (n i at : ℕ) (p : List ℕ) (y : Bool) (inv : y ≡ every countFits (countsFrom (n - i) at p)) where
+module _ (f : ℕ → Bool) (n i at : ℕ) (p : List ℕ) (y : Bool) (inv : y ≡ every f (countsFrom (n - i) at p)) where
   next-count : i < n → countsFrom (n - i) at p ≡ be 8 p at ∷ countsFrom (n - (i + 1)) (at + 8) p
   unfolding countsFrom
   next-count h = let e : n - i ≡ suc (n - (i + 1)) = omega arith in rw e
 
-  module _ (h : i < n) (v : ℕ) (r : Bool) (ev : v ≡ be 8 p at) (er : r ≡ countFits v) where
+  module _ (h : i < n) (v : ℕ) (r : Bool) (ev : v ≡ be 8 p at) (er : r ≡ f v) where
     pub stored-fails : not r ≡ true → false ≡ y
     unfolding every
     stored-fails t = sym (inv ∙ rw (next-count h, ← ev, no er t))
 
-    pub stored-fits : not r ≡ false → y ≡ every countFits (countsFrom (n - (i + 1)) (at + 8) p)
+    pub stored-fits : not r ≡ false → y ≡ every f (countsFrom (n - (i + 1)) (at + 8) p)
     unfolding every
     stored-fits t = inv ∙ rw (next-count h, ← ev, yes er t)
 
@@ -81,7 +81,7 @@ module _ (p : List ℕ) (bytes : (k : ℕ) → Fits w8 (getD p k 0)) where
         → y ≡ every countFits (countsFrom (n - (i + 1)) (at + 8) p)
     high-next h v ev e =
         let o = or-low bits v in
-        stored-fits n i at p y (inv (omega arith)) h (be 8 p at) true refl (sym (high-fits at (rw (← ev) (omega arith)))) refl
+        stored-fits countFits n i at p y (inv (omega arith)) h (be 8 p at) true refl (sym (high-fits at (rw (← ev) (omega arith)))) refl
 
 pub high-end :
     (p : List ℕ) (n i at bits : ℕ) (y : Bool)
@@ -89,7 +89,7 @@ pub high-end :
     → n ≤ i
     → bits * 4294967296 < mostCount
     → y ≡ true
-high-end p n i at bits y inv h e = sym (stored-end n i at p y (inv e) h)
+high-end p n i at bits y inv h e = sym (stored-end countFits n i at p y (inv e) h)
 
 -- a media place: its length, and its counts
 module _ (l : Limits) (p : List ℕ) (h r : Bool) (n : ℕ) (eh : h ≡ flag p heldPlace) (en : n ≡ be 4 p (objectPlace + 25))
@@ -173,17 +173,17 @@ pub sections-start : (l : Limits) (n : ℕ) (s : List ℕ)
 sections-start l n s = rw (sub-zero, le-leb 0 (l .«table_area») zero-le)
 
 -- and over the counts of table ids
-module _ (l : List ℕ) (i : ℕ) (y : Bool) (inv : y ≡ every countFits (drop i l)) where
-  pub count-fails : i < length l → (r : Bool) → r ≡ countFits (getD l i 0) → not r ≡ true → false ≡ y
+module _ (f : ℕ → Bool) (l : List ℕ) (i : ℕ) (y : Bool) (inv : y ≡ every f (drop i l)) where
+  pub count-fails : i < length l → (r : Bool) → r ≡ f (getD l i 0) → not r ≡ true → false ≡ y
   unfolding every
   count-fails h r e t = sym (inv ∙ rw (drop-cons l i 0, no e t))
 
   pub count-fits :
       i < length l
       → (r : Bool)
-      → r ≡ countFits (getD l i 0)
+      → r ≡ f (getD l i 0)
       → not r ≡ false
-      → y ≡ every countFits (drop (i + 1) l)
+      → y ≡ every f (drop (i + 1) l)
   unfolding every
   count-fits h r e t = inv ∙ rw (add-one, drop-cons l i 0, yes e t)
 
@@ -283,10 +283,10 @@ module _ (l : List ℕ) (i bits : ℕ) (y : Bool) (inv : bits ≤ mostCount → 
   pub low-bits : i < length l → bitOr bits (getD l i 0) ≤ mostCount → y ≡ every countFits (drop (i + 1) l)
   low-bits h e =
       let o = or-low bits (getD l i 0) in
-      count-fits l i y (inv (omega arith)) h true (sym (le-leb (getD l i 0) mostCount (omega arith))) refl
+      count-fits countFits l i y (inv (omega arith)) h true (sym (le-leb (getD l i 0) mostCount (omega arith))) refl
 
   pub all-low : length l ≤ i → bits ≤ mostCount → y ≡ true
-  all-low h e = sym (counts-end l i y (inv e) h)
+  all-low h e = sym (counts-end countFits l i y (inv e) h)
 
 -- ---- and back: what an answer yes says
 

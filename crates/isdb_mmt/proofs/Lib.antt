@@ -73,8 +73,10 @@ pub mod Ready
 pub mod Stays
 pub mod Lasting
 pub mod SoundStays
+pub mod RoomTest
 pub mod Said
 pub mod Calls
+pub mod PushAll
 pub mod Useless
 pub mod Room
 pub mod Outs

@@ -27,7 +27,7 @@ use Rattle.isdb_mmt.specs.Memory.Opening.{lent}
 use Rattle.isdb_mmt.specs.Pushes.MediaPush.{placeFor, assetNext}
 use Rattle.isdb_mmt.specs.Memory.PlacesOf.{tableLength, controlFor}
 use Rattle.isdb_mmt.specs.Pushes.Leaves.{withTime, withCounters, countedIn, timeLeaves, controlLeaves, messageIn, controlPlaceFor, messageAt, messageLeaves, packetLeaves}
-use Rattle.isdb_mmt.specs.Pushes.Push.{Input, packetOf, hasPlaces, hasAreas, hasOutputs, asksOf, asks, Fits, Taken}
+use Rattle.isdb_mmt.specs.Pushes.Push.{Input, packetOf, hasPlaces, hasAreas, hasOutputs, asksOf, asksLater, asks, Fits, Taken}
 use Rattle.isdb_mmt.specs.declared.decoder.place.Found.the-variants.{At, Nothing}
 use Rattle.isdb_mmt.specs.declared.decoder.place.PlaceFor.{PlaceFor}
 use Rattle.isdb_mmt.specs.declared.decoder.place.PlaceFor.the-variants.{Own, Free, NoneFree}
@@ -70,7 +70,7 @@ fits-of s rows out p e =
     }
 
 pub taken : (s : Session) (x : Input) → asks s x ≡ 0 → Taken s x
-unfolding asks
+unfolding asks asksLater
 taken s x e =
     let q5 = was-asked (sound s) 4 _ e in
     let q6 = was-asked (leb (length (x .bytes)) 65535) 5 _ (q5 .1) in

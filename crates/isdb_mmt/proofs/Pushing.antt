@@ -10,10 +10,10 @@ use Rattle.isdb_mmt.specs.Decoder.Packet.{Bytes, classify}
 use Rattle.isdb_mmt.specs.Decoder.Needs.{needs}
 use Rattle.isdb_mmt.specs.Memory.Layout.{tableIds}
 use Rattle.isdb_mmt.specs.Memory.Session.{Session, limitsOf, countersOf}
-use Rattle.isdb_mmt.specs.Memory.Check.{lengthsOf, soundIn, sound}
+use Rattle.isdb_mmt.specs.Memory.Check.{sound}
 use Rattle.isdb_mmt.specs.Memory.View.{view}
 use Rattle.isdb_mmt.specs.Memory.Octets.{Octets}
-use Rattle.isdb_mmt.specs.Pushes.Push.{Input, packetOf, mostBytes, asksOf, asks, CanTakePacket, PacketPushed, Pushed}
+use Rattle.isdb_mmt.specs.Pushes.Push.{Input, packetOf, mostBytes, asksOf, asksLater, asks, CanTakePacket, PacketPushed, Pushed}
 use Rattle.isdb_mmt.specs.declared.decoder.records.Answer.{Answer}
 use Rattle.isdb_mmt.proofs.Checks.{sound-session}
 use Rattle.isdb_mmt.proofs.Accepted.{push-moved}
@@ -29,22 +29,22 @@ was-yes false e = sym e
 -- ---- the questions in order
 
 asked-five : (s : Session) (x : Input) → sound s ≡ false → asks s x ≡ 5
-unfolding asks
+unfolding asks asksLater
 asked-five s x e = rw e
 
 asked-six : (s : Session) (x : Input) → sound s ≡ true → mostBytes < length (x .bytes) → asks s x ≡ 6
-unfolding asks
+unfolding asks asksLater
 asked-six s x e h = rw (e, lt-leb (length (x .bytes)) mostBytes h)
 
 asked-seven : (s : Session) (x : Input) → sound s ≡ true → length (x .bytes) ≤ mostBytes
     → (countersOf (s .state) .«tlv_packets» <? limitsOf (s .state) .packets) ≡ false → asks s x ≡ 7
-unfolding asks
+unfolding asks asksLater
 asked-seven s x e h k = rw (e, le-leb (length (x .bytes)) mostBytes h, k)
 
 asked-on : (s : Session) (x : Input) → sound s ≡ true → length (x .bytes) ≤ mostBytes
     → (countersOf (s .state) .«tlv_packets» <? limitsOf (s .state) .packets) ≡ true
     → asks s x ≡ asksOf s (length (x .rows)) (length (x .out)) (packetOf x)
-unfolding asks
+unfolding asks asksLater
 asked-on s x e h k = rw (e, le-leb (length (x .bytes)) mostBytes h, k)
 
 -- not one byte changed, nothing handed out
@@ -64,9 +64,8 @@ refused s x n nz e a h =
       state = λ z. absurd (nz z);
     })
 
-module _ (s : Session) (x : Input) (ready : Bool) (e : ready ≡ soundIn (s .state) (s .others) (lengthsOf s)) where
+module _ (s : Session) (x : Input) (ready : Bool) (e : ready ≡ sound s) where
   is-sound : sound s ≡ ready
-  unfolding sound
   is-sound = sym e
 
   pub push-five : not ready ≡ true → (a : Answer) → a ≡ record { number = 5; records = 0; bytes = 0 }
@@ -108,7 +107,6 @@ module _ (s : Session) (x : Input) (ready : Bool) (e : ready ≡ soundIn (s .sta
                 ∙ push-moved s (record { state = o1; objects = o2; messages = o3; tables = o4 }) x o5 (q ∙ sym (h .number) ∙ z);
           }
 
-pub push-can : (s : Session) (b : Bytes) (ready : Bool) → ready ≡ soundIn (s .state) (s .others) (lengthsOf s) → not ready ≡ false
+pub push-can : (s : Session) (b : Bytes) (ready : Bool) → ready ≡ sound s → not ready ≡ false
     → length b ≤ mostBytes → length (s .others) ≡ tableIds → CanTakePacket s b
-unfolding sound
 push-can s b ready e r short k = record { session = sound-session s (sym e ∙ was-yes ready r); othersLong = k; short = short }

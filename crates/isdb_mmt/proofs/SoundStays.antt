@@ -18,9 +18,8 @@ use Rattle.isdb_mmt.specs.Memory.Check.{statsCounts, packetCounts, table
 use Rattle.isdb_mmt.specs.Memory.View.{assetOfPlace, assetEntry, controlEntry, sectionEntry, viewBy, view}
 use Rattle.isdb_mmt.specs.Memory.Octets.{Octets, Lent}
 use Rattle.isdb_mmt.specs.Pushes.Leaves.{packetLeaves}
-use Rattle.isdb_mmt.specs.Pushes.Push.{Input, packetOf, asks, Taken, leavesAll}
-use Rattle.isdb_mmt.specs.Theorems.Calls.{leavesOf}
-use Rattle.isdb_mmt.specs.Theorems.Room.{mostAdded, AllAtMost, MediaWithin, CountsWithin, SoundWithin, SoundStays, RoomNeeded, AllStaySound, asksLater, leavesOver, AskedOnce}
+use Rattle.isdb_mmt.specs.Pushes.Push.{Input, packetOf, asksLater, asks, Taken, leavesOf, leavesAll}
+use Rattle.isdb_mmt.specs.Theorems.Room.{mostAdded, AllAtMost, MediaWithin, CountsWithin, SoundWithin, SoundStays, RoomNeeded, AllStaySound, leavesOver, AskedOnce}
 use Rattle.isdb_mmt.specs.declared.decoder.limits.Limits.{Limits}
 use Rattle.isdb_mmt.specs.declared.decoder.media.Media.{Media}
 use Rattle.isdb_mmt.proofs.Checks.{count-was, sound-session}
@@ -53,7 +52,7 @@ more-media : (n m : ℕ) → n ≤ m → (ms : List Media) → MediaWithin n ms 
 more-media n m l [] h = tt
 more-media n m l (x ∷ ms) h = (more-at-most n m l (statsCounts (x .stats)) (h .0), more-media n m l ms (h .1))
 
-within-more : (n m : ℕ) → n ≤ m → (s : Session) → SoundWithin n s → SoundWithin m s
+pub within-more : (n m : ℕ) → n ≤ m → (s : Session) → SoundWithin n s → SoundWithin m s
 within-more n m l s h =
     let c = h .counts in
     record {
@@ -74,8 +73,7 @@ module _ (l : Limits) (s : Session) (n : ℕ) where
   unfolding indexed assetOfPlace
   media-within most [] i h w = tt
   media-within most (m ∷ ms) i h w =
-      let a = h .0 .1 in
-      (
+      let a = h .0 .1 in (
         (
           h .0 .0,
           record {
@@ -93,8 +91,7 @@ module _ (l : Limits) (s : Session) (n : ℕ) where
   unfolding indexed assetOfPlace
   media-counts [] i h = tt
   media-counts (m ∷ ms) i h =
-      let c = h .0 .1 .counts .counts in
-      (
+      let c = h .0 .1 .counts .counts in (
         (c .packets, (c .lost, (c .scrambled, (c .mfus, (c .scrambledMfus, (c .dropped, (c .mpus, (c .jumps, (c .malformed, tt))))))))),
         media-counts ms (i + 1) (h .1),
       )
@@ -232,10 +229,10 @@ module _ (s : Session) (x : Input) where
   leaves-same f = rw f
 
   asks-later : sound s ≡ true → asks s x ≡ asksLater s x
-  unfolding asks asksLater
+  unfolding asks
   asks-later e = rw e
 
-  push-stays : (n : ℕ) → SoundWithin n s → Octets (x .bytes) → n + mostAdded ≤ mostCount → SoundWithin (n + mostAdded) (leavesOf s x)
+  pub push-stays : (n : ℕ) → SoundWithin n s → Octets (x .bytes) → n + mostAdded ≤ mostCount → SoundWithin (n + mostAdded) (leavesOf s x)
   push-stays n h o room =
       either (eqb (asks s x) 0)
       (λ t. rw (leaves-taken t) (sound-stays s x (h .lent) o n (h .counts) room (eqb-true (asks s x) 0 t)))

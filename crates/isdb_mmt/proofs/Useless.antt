@@ -21,9 +21,9 @@ use Rattle.isdb_mmt.specs.Memory.Limits.{asked}
 use Rattle.isdb_mmt.specs.Memory.Check.{lengthsOf}
 use Rattle.isdb_mmt.specs.Memory.Octets.{Octets, Lent}
 use Rattle.isdb_mmt.specs.Pushes.Records.{readRows}
-use Rattle.isdb_mmt.specs.Pushes.Push.{Input, packetOf, asks}
+use Rattle.isdb_mmt.specs.Pushes.Push.{Input, packetOf, asks, leavesOf}
 use Rattle.isdb_mmt.specs.Answers.Readings.{sectionRead, TableTold, refused, nothing, these, toldBy}
-use Rattle.isdb_mmt.specs.Theorems.Calls.{lostIn, heldIn, push, Decoder, after, pushes, accepted, handed, Tells, none-kept, kept, After, Demand3, decoder, leavesOf}
+use Rattle.isdb_mmt.specs.Theorems.Calls.{lostIn, heldIn, push, Decoder, after, pushes, accepted, handed, Tells, none-kept, kept, After, Demand3, decoder}
 use Rattle.isdb_mmt.specs.Examples.Cases.{ab, cd}
 use Rattle.isdb_mmt.specs.Examples.PushCases.{small, blank, told}
 use Rattle.isdb_mmt.specs.Theorems.Useless.{first, second, begins, nit, mediaId, nitKey, start, Accepts, recordsIn, objectsIn, then, NotUseless, Refutations, TurnsNoneAway, TakesThem}

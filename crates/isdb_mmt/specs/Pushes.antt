@@ -18,3 +18,4 @@ pub mod Fragments
 pub mod MediaCommit
 pub mod FragmentPush
 pub mod WholeMessage
+pub mod PushAll

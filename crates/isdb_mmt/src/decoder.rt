@@ -5,11 +5,14 @@ ghost use Prim.Native.Nat.{_≤_};
 ghost use lib.ListN.{length, replicate};
 ghost use Rattle.isdb_mmt.specs.Memory.Lent.{over};
 ghost use Rattle.isdb_mmt.specs.Memory.Layout.{tableIds, stateSize};
+ghost use Rattle.isdb_mmt.specs.Memory.Check.{sound};
 ghost use Rattle.isdb_mmt.specs.Memory.Opening.{lent, openedState, Opened};
 ghost use Rattle.isdb_mmt.specs.Pushes.Push.{input, Pushed};
+ghost use Rattle.isdb_mmt.specs.Pushes.PushAll.{MayBeKnown, AllPushed};
 use crate::decoder::layout::STATE_SIZE;
 use crate::decoder::limits::Lengths;
 use crate::decoder::limits::Limits;
+use crate::decoder::many::Pushes;
 use crate::decoder::records::Answer;
 
 mod check;
@@ -23,6 +26,7 @@ mod joined;
 pub mod kept;
 mod layout;
 pub mod limits;
+pub mod many;
 mod media;
 mod messages;
 mod place;
@@ -32,6 +36,7 @@ mod push_message;
 pub mod readings;
 mod reassembler;
 pub mod records;
+mod room;
 mod route;
 mod section;
 mod start;
@@ -107,7 +112,31 @@ pub fn open(
     open_in(l, state, others, objects, messages, tables)
 }
 
-fn push_in(
+// Whether the lent bytes hold a session: question 5, unless the answer is known to be yes.
+fn holds_session(
+    state: &[u8],
+    others: &[u64],
+    objects: &[u8],
+    messages: &[u8],
+    tables: &[u8],
+    known: bool,
+) -> bool
+    requires { ⌜ MayBeKnown known (lent (now state) (now others) (now objects) (now messages) (now tables)) ⌝ }
+    ensures { λ r. ⌜ r ≡ sound (lent (now (state .entry)) (now (others .entry)) (now (objects .entry)) (now (messages .entry)) (now (tables .entry))) ⌝ }
+{
+    if known {
+        return true;
+    }
+    let lengths = Lengths {
+        state: state.len() as u64,
+        objects: objects.len() as u64,
+        messages: messages.len() as u64,
+        tables: tables.len() as u64,
+    };
+    check::ready(state, others, lengths)
+}
+
+pub(crate) fn push_in(
     state: &mut [u8],
     others: &mut [u64],
     objects: &mut [u8],
@@ -117,17 +146,12 @@ fn push_in(
     b: &[u8],
     rows: &mut [u8],
     out: &mut [u8],
+    known: bool,
 ) -> Answer
-    requires { ⌜ length (now others) ≡ tableIds ⌝ }
+    requires { ⌜ MayBeKnown known (lent (now state) (now others) (now objects) (now messages) (now tables)) ⌝ }
     ensures { λ r. ⌜ Pushed (lent (now (state .entry)) (now (others .entry)) (now (objects .entry)) (now (messages .entry)) (now (tables .entry))) (input kind (now (b .entry)) (now (rows .entry)) (now (out .entry))) (r .number) (r .records) (r .bytes) (lent (now (state .exit)) (now (others .exit)) (now (objects .exit)) (now (messages .exit)) (now (tables .exit))) (now (rows .exit)) (now (out .exit)) ⌝ }
 {
-    let lengths = Lengths {
-        state: state.len() as u64,
-        objects: objects.len() as u64,
-        messages: messages.len() as u64,
-        tables: tables.len() as u64,
-    };
-    if !check::ready(state, others, lengths) {
+    if !holds_session(state, others, objects, messages, tables, known) {
         return records::refused(5);
     }
     if 65535 < b.len() {
@@ -160,5 +184,48 @@ pub fn push(
 ) -> Answer
     ensures { λ r. ⌜ Pushed (lent (now (state .entry)) (now (others .entry)) (now (objects .entry)) (now (messages .entry)) (now (tables .entry))) (input kind (now (b .entry)) (now (rows .entry)) (now (out .entry))) (r .number) (r .records) (r .bytes) (lent (now (state .exit)) (now (others .exit)) (now (objects .exit)) (now (messages .exit)) (now (tables .exit))) (now (rows .exit)) (now (out .exit)) ⌝ }
 {
-    push_in(state, others, objects, messages, tables, kind, b, rows, out)
+    push_in(
+        state,
+        others,
+        objects,
+        messages,
+        tables,
+        kind,
+        b,
+        rows,
+        out,
+        false,
+    )
+}
+
+// Takes packets that lie one behind the other in the input (0x7F, kind, length, data), with at most so many data each, until the input
+// ends, what is left is no packet or not a whole one, a packet is turned down, or there is no room for its line. Each is pushed as `push`
+// does it, into the rows and the data that the earlier ones left, so a record's data start counts from where its packet's data begin. A
+// line of 16 bytes a packet says how many records and data bytes it handed out.
+pub fn push_all(
+    state: &mut [u8],
+    others: &mut [u64; 256],
+    objects: &mut [u8],
+    messages: &mut [u8],
+    tables: &mut [u8],
+    input: &[u8],
+    most: usize,
+    rows: &mut [u8],
+    out: &mut [u8],
+    lines: &mut [u8],
+) -> Pushes
+    ensures { λ r. ⌜ AllPushed (lent (now (state .entry)) (now (others .entry)) (now (objects .entry)) (now (messages .entry)) (now (tables .entry))) (now (input .entry)) most (now (rows .entry)) (now (out .entry)) (now (lines .entry)) r (lent (now (state .exit)) (now (others .exit)) (now (objects .exit)) (now (messages .exit)) (now (tables .exit))) (now (rows .exit)) (now (out .exit)) (now (lines .exit)) ⌝ }
+{
+    many::push_all_in(
+        state,
+        others,
+        objects,
+        messages,
+        tables,
+        input,
+        most,
+        rows,
+        out,
+        lines,
+    )
 }

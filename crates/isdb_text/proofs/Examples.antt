@@ -4,9 +4,9 @@ use mathlib.Core.List.{[], _∷_, _++_}
 use Rattle.isdb_tlv.specs.Bytes.{be}
 use Rattle.isdb_text.specs.Text.{ascii, decimalOf, hexDigit, hexOf, pairsOf, bytesAsHex}
 use Rattle.isdb_text.specs.Fill.{places, spelled, taken, filled}
-use Rattle.isdb_text.specs.Cut.{cutAt, recordingFrom, recordingOf}
+use Rattle.isdb_tlv.specs.Cut.{cutAt, recordingFrom, recordingOf}
 use Rattle.isdb_text.specs.Listing.{stopText}
-use Rattle.isdb_text.specs.declared.cut.Stop.the-variants.{Bad, Refused}
+use Rattle.isdb_tlv.specs.declared.cut.Stop.the-variants.{Bad, Refused}
 
 numbers : decimalOf 18446744073709551615 ≡ ascii "18446744073709551615"
 unfolding decimalOf

@@ -4,7 +4,6 @@ pub mod Spelling
 pub mod DigitValues
 pub mod Filling
 pub mod Examples
-pub mod Cutting
 pub mod Elements
 pub mod DumpWhole
 pub mod Lists

@@ -19,8 +19,8 @@ use Rattle.isdb_mmt.specs.declared.decoder.readings.MediaState.{MediaState}
 use Rattle.isdb_mmt.specs.declared.decoder.readings.MediaReading.{MediaReading}
 use Rattle.isdb_mmt.specs.declared.decoder.readings.MediaReading.the-variants.{Refused as mediaRefused}
 use Rattle.isdb_mmt.specs.declared.decoder.readings.MediaReading.the-variants.{Nothing as noMedia, Media as theMedia}
-use Rattle.isdb_text.specs.declared.cut.Stop.{Stop}
-use Rattle.isdb_text.specs.declared.cut.Stop.the-variants.{Clean, Bad, Refused}
+use Rattle.isdb_tlv.specs.declared.cut.Stop.{Stop}
+use Rattle.isdb_tlv.specs.declared.cut.Stop.the-variants.{Clean, Bad, Refused}
 use Rattle.isdb_text.specs.Text.{Wrote, ascii}
 use Rattle.isdb_text.specs.Fill.{filled}
 use Rattle.isdb_text.specs.Listing.{heading, heldOf, mediaLine, mediaText, lineAndAbove, mediaLinesFrom, mediaLines}

@@ -1,7 +1,6 @@
 -- The definitions that the contracts cite.
 pub mod Text
 pub mod Fill
-pub mod Cut
 pub mod Digits
 pub mod Elements
 pub mod DumpDescriptors

@@ -1,5 +1,4 @@
 // Text in lent bytes, and what the programs write.
-pub mod cut;
 pub mod digits;
 pub mod dump_descriptors;
 pub mod dump_session;

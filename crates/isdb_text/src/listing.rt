@@ -3,7 +3,6 @@ ghost use mathlib.Core.Path.{_≡_};
 ghost use Rattle.isdb_mmt.specs.Memory.Opening.{lent};
 ghost use Rattle.isdb_text.specs.Text.{Wrote};
 ghost use Rattle.isdb_text.specs.Listing.{heldOf, mediaLine, mediaText, mediaLines, stopText, lastLine, listingOf};
-use crate::cut::Stop;
 use crate::fill;
 use crate::text;
 use isdb_mmt::decoder::ids;
@@ -13,6 +12,7 @@ use isdb_mmt::decoder::readings::MediaReading;
 use isdb_mmt::decoder::readings::MediaState;
 use isdb_mmt::decoder::readings::NameReading;
 use isdb_mmt::maybe::MaybeU32;
+use isdb_tlv::cut::Stop;
 
 // Whether an object is held.
 fn held_flag(m: MaybeU32) -> u64

@@ -10,6 +10,7 @@ pub mod Codes
 pub mod Extension
 pub mod Sections
 pub mod Messages
+pub mod Cutting
 pub mod Fields
 pub mod Rfc791
 pub mod Rfc8200

@@ -4,6 +4,7 @@ pub mod Bytes
 pub mod Walk
 pub mod Crc
 pub mod Tlv
+pub mod Cut
 pub mod Ip
 pub mod Mmtp
 pub mod Messages

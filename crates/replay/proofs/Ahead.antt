@@ -4,10 +4,10 @@ use mathlib.Core.Path.{_≡_}
 use mathlib.Core.List.{List}
 use native.Mathlib.Omega.{arith}
 use lib.ListN.{length}
-use Rattle.isdb_text.specs.Cut.{cutAt}
-use Rattle.isdb_text.specs.declared.cut.Cut.{Cut}
-use Rattle.isdb_text.specs.declared.cut.Cut.the-variants.{Packet}
-use Rattle.isdb_text.proofs.Cutting.{packet-less}
+use Rattle.isdb_tlv.specs.Cut.{cutAt}
+use Rattle.isdb_tlv.specs.declared.cut.Cut.{Cut}
+use Rattle.isdb_tlv.specs.declared.cut.Cut.the-variants.{Packet}
+use Rattle.isdb_tlv.proofs.Cutting.{packet-less}
 
 pub packet-ahead : (w : List ℕ) (most i : ℕ) (c : Cut) → c ≡ cutAt w most i → (kind start n next : ℕ) → c ≡ Packet kind start n next
     → i < length w → i < next

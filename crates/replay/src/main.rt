@@ -8,12 +8,12 @@ mod kept;
 use isdb_mmt::decoder;
 use isdb_mmt::decoder::limits::Limits;
 use isdb_mmt::decoder::records::Answer;
-use isdb_text::cut;
-use isdb_text::cut::Cut;
 use isdb_text::dump_session;
 use isdb_text::fill;
 use isdb_tlv::bytes;
 use isdb_tlv::crc;
+use isdb_tlv::cut;
+use isdb_tlv::cut::Cut;
 
 fn limits(passing: u8) -> Limits {
     Limits {

@@ -1,6 +1,6 @@
 use Prim.Native.Nat.{_-_}
 use lib.ListN.{length}
-use Rattle.isdb_text.proofs.Cutting.{packet-less}
+use Rattle.isdb_tlv.proofs.Cutting.{packet-less}
 use borrow.Author.Needs.{needs}
 use Rattle.feeddump.proofs.pass.Statement.{statement}
 use Rattle.feeddump.proofs.pass.Tie as tie

@@ -2,8 +2,8 @@ use borrow.Author.Needs.{needs}
 use lib.ListN.{length}
 use mathlib.Core.Path.{_≡_}
 use Prim.Native.Nat.{_-_}
-use Rattle.isdb_text.specs.Cut.{recordingFrom, recordingOf}
-use Rattle.isdb_text.proofs.Cutting.{packet-less}
+use Rattle.isdb_tlv.specs.Cut.{recordingFrom, recordingOf}
+use Rattle.isdb_tlv.proofs.Cutting.{packet-less}
 use Rattle.feedlist.specs.Pass.{mostBytes}
 use Rattle.feedlist.proofs.Passing.{pass-start, pass-turn, stops-bad, stops-short, stops-end, stops-over}
 use Rattle.feedlist.proofs.pass.Statement.{statement}

@@ -21,7 +21,7 @@ use Rattle.isdb_mmt.specs.Memory.Opening.{lent, openedState, openedSessi
 use Rattle.isdb_mmt.specs.Memory.PlacesOf.{placeFor, controlFor, latestFor}
 use Rattle.isdb_mmt.specs.Pushes.MediaPush.{mediaPlaceFor, assetNext, mediaLeaves}
 use Rattle.isdb_mmt.specs.Pushes.Leaves.{sectionRows, keptOver, controlLeaves, messageIn, controlPlaceFor, messageLeaves, packetLeaves}
-use Rattle.isdb_mmt.specs.Pushes.Push.{Input, packetOf, hasPlaces, hasAreas, hasOutputs, asksOf, asks, leavesAll}
+use Rattle.isdb_mmt.specs.Pushes.Push.{Input, packetOf, hasPlaces, hasAreas, hasOutputs, asksOf, asksLater, asks, leavesAll}
 use Rattle.isdb_mmt.specs.Pushes.Records.{rowsFrom, dataFrom, readRow, readRows}
 use Rattle.isdb_mmt.specs.Examples.Cases.{told as toldOfFeeds, compressed, mmtp, payload, completeOf, headOf, lastOf, ab, cd, oneTo14, header}
 use Rattle.isdb_mmt.specs.Examples.ControlCases.{fragment, firstPart, nit1, nitNext, emptyPa, mpt, tableMessage, mptMessage}
@@ -84,7 +84,7 @@ abbrev leftBy : ℕ × Bytes → Session
 leftBy p = packetLeaves (fresh 9) (packetOf (only p))
 
 unfoldable pub told : Ask → Told
-unfolding toldOfFeeds ipv4Of packageAt deliverySize deliveryAt deliveriesWhole pltDeliveries pltTable pltOf totFields totOf over placesFrom namesFrom among distinct foundFrom placeForName every indexed inRange placesInRange areasInRange packetsInRange lengthsFor longEnough asked limitsOf usedOf latestOf timeOf countersOf heldObjectOf statsOf mediaPlaceOf controlPlaceOf sectionPlaceOf mediaSound controlSound usedSound latestSound countersSound mediaIn controlsIn sectionsIn headSound placesSound namesSound soundIn sound mfuOf assetOfPlace controlStateOf viewBy view openedState openedSession placeFor controlFor latestFor mediaPlaceFor assetNext mediaLeaves sectionRows keptOver controlLeaves messageIn controlPlaceFor messageLeaves packetLeaves hasPlaces hasAreas hasOutputs asksOf asks leavesAll rowsFrom dataFrom readRow readRows
+unfolding toldOfFeeds ipv4Of packageAt deliverySize deliveryAt deliveriesWhole pltDeliveries pltTable pltOf totFields totOf over placesFrom namesFrom among distinct foundFrom placeForName every indexed inRange placesInRange areasInRange packetsInRange lengthsFor longEnough asked limitsOf usedOf latestOf timeOf countersOf heldObjectOf statsOf mediaPlaceOf controlPlaceOf sectionPlaceOf mediaSound controlSound usedSound latestSound countersSound mediaIn controlsIn sectionsIn headSound placesSound namesSound soundIn sound mfuOf assetOfPlace controlStateOf viewBy view openedState openedSession placeFor controlFor latestFor mediaPlaceFor assetNext mediaLeaves sectionRows keptOver controlLeaves messageIn controlPlaceFor messageLeaves packetLeaves hasPlaces hasAreas hasOutputs asksOf asksLater asks leavesAll rowsFrom dataFrom readRow readRows
 told (rowsOf rs) = bytes (rowsFrom 0 rs)
 told (recordsOf n rows given) = records (readRows n rows given)
 told (pushedTo s x) = number (asks s x)

@@ -3,7 +3,7 @@
 use Prim.Native.Nat.{ℕ, zero, suc, _+_, _≤_}
 use mathlib.Core.Path.{_≡_}
 use mathlib.Core.Bool.{Bool, true, false, not}
-use mathlib.Core.List.{List, [], _∷_, map}
+use mathlib.Core.List.{List, [], _∷_, _++_, map}
 use lib.ListN.{length}
 use Rattle.isdb_tlv.specs.Bytes.{be}
 use Rattle.isdb_tlv.specs.Guards.{if_then_else_, _≤?_, _=?_}
@@ -22,8 +22,11 @@ use Rattle.isdb_mmt.specs.declared.decoder.control.Control.{Control}
 use Rattle.isdb_mmt.specs.declared.decoder.section.KeptSection.{KeptSection}
 
 -- a count: at most 2^53
+abbrev pub atMost : ℕ → ℕ → Bool
+atMost most x = x ≤? most
+
 abbrev pub countFits : ℕ → Bool
-countFits x = x ≤? mostCount
+countFits x = atMost mostCount x
 
 -- `n` counts one behind the other from `at` on
 unfoldable pub countsFrom : ℕ → ℕ → List ℕ → List ℕ
@@ -127,6 +130,22 @@ namesSound l =
     if not (distinct (namesFrom (usedOf l .«media_ids») mediaSize mediaPlaces l)) then false
     else if not (distinct (namesFrom (usedOf l .«control_ids») controlSize controlPlaces l)) then false
     else distinct (namesFrom (usedOf l .sections) sectionSize sectionPlaces l)
+
+-- whether none of the counts is above `most`
+unfoldable pub statsAtMost : ℕ → Media → Bool
+unfolding every
+statsAtMost most m = every (atMost most) (statsCounts (m .stats))
+
+unfoldable pub countsAtMost : ℕ → List ℕ → List ℕ → Bool
+unfolding every mediaIn statsAtMost
+countsAtMost most l others =
+    if not (every (atMost most) (packetCounts (countersOf l) ++ tableCounts (countersOf l))) then false
+    else if not (every (statsAtMost most) (mediaIn l)) then false
+    else every (atMost most) others
+
+-- 2^52: counts that are not above it are far from 2^53
+abbrev pub roomyCount : ℕ
+roomyCount = 4503599627370496
 
 -- places that lie within the state
 pub record PlacesThere (l : List ℕ) : Type 0 where

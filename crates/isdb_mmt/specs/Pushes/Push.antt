@@ -5,7 +5,7 @@ use mathlib.Core.Path.{_≡_}
 use mathlib.Core.Bool.{Bool, true, false, not}
 use mathlib.Core.List.{List, [], _∷_, _++_, map}
 use lib.ListN.{length}
-use Rattle.isdb_tlv.specs.Guards.{if_then_else_, _<?_, _≤?_}
+use Rattle.isdb_tlv.specs.Guards.{if_then_else_, _<?_, _≤?_, _=?_}
 use Rattle.isdb_mmt.specs.Decoder.Packet.{Bytes, Packet, classify}
 use Rattle.isdb_mmt.specs.Decoder.Objects.{Rec}
 use Rattle.isdb_mmt.specs.Decoder.Model.{opened, pushed, gives}
@@ -66,14 +66,18 @@ asksOf s rows out p =
     else if not (hasOutputs rows out (needs (view s) p)) then 10
     else 0
 
--- the first question that is answered no, or 0
-unfoldable pub asks : Session → Input → ℕ
+-- questions 6 to 10: the first that is answered no, or 0
+unfoldable pub asksLater : Session → Input → ℕ
 unfolding asksOf
-asks s x =
-    if not (sound s) then 5
-    else if not (length (x .bytes) ≤? mostBytes) then 6
+asksLater s x =
+    if not (length (x .bytes) ≤? mostBytes) then 6
     else if not (countersOf (s .state) .«tlv_packets» <? limitsOf (s .state) .packets) then 7
     else asksOf s (length (x .rows)) (length (x .out)) (packetOf x)
+
+-- the first question that is answered no, or 0
+unfoldable pub asks : Session → Input → ℕ
+unfolding asksLater
+asks s x = if not (sound s) then 5 else asksLater s x
 
 -- the questions answered yes, fact by fact
 pub record Fits (s : Session) (rows out : ℕ) (p : Packet) : Type 0 where
@@ -128,6 +132,28 @@ pub record Pushed (s : Session) (x : Input) (r records bytes : ℕ) (s′ : Sess
   pub dataAre : r ≡ 0 → out′ ≡ over 0 (dataFrom (gives (view s) (packetOf x))) (x .out)
   pub counts : r ≡ 0 → (records ≡ length (gives (view s) (packetOf x))) × (bytes ≡ needs (view s) (packetOf x) .dataBytes)
   pub state : r ≡ 0 → view s′ ≡ pushed (view s) (packetOf x)
+
+-- ---- a push, taken or turned down, as its contract fixes it (law `push-determined`)
+
+unfoldable pub leavesOf : Session → Input → Session
+leavesOf s x = if asks s x =? 0 then packetLeaves s (packetOf x) else s
+
+-- what it hands back: its number, how many records and data bytes, the output buffers
+pub record Reply : Type 0 where
+  pub number : ℕ
+  pub records : ℕ
+  pub bytes : ℕ
+  pub rows : Bytes
+  pub out : Bytes
+
+abbrev pub replied : ℕ → ℕ → Input → List Rec → Reply
+replied n bytes x rs =
+    if n =? 0
+    then record { number = 0; records = length rs; bytes = bytes; rows = over 0 (rowsFrom 0 rs) (x .rows); out = over 0 (dataFrom rs) (x .out) }
+    else record { number = n; records = 0; bytes = 0; rows = x .rows; out = x .out }
+
+unfoldable pub replyOf : Session → Input → Reply
+replyOf s x = replied (asks s x) (needs (view s) (packetOf x) .dataBytes) x (gives (view s) (packetOf x))
 
 -- ---- lists of accepted pushes
 

@@ -10,20 +10,18 @@ use Rattle.isdb_tlv.specs.Guards.{if_then_else_, _=?_}
 use Rattle.isdb_mmt.specs.Decoder.Packet.{Bytes, Packet}
 use Rattle.isdb_mmt.specs.Decoder.Objects.{Rec}
 use Rattle.isdb_mmt.specs.Decoder.Kept.{Kept, Section}
-use Rattle.isdb_mmt.specs.Decoder.Model.{opened, gives}
-use Rattle.isdb_mmt.specs.Decoder.Needs.{needs}
+use Rattle.isdb_mmt.specs.Decoder.Model.{opened}
 use Rattle.isdb_mmt.specs.Books.Book.{wellFormed, FirstOfLastRun}
 use Rattle.isdb_mmt.specs.Books.Demand.{pushAll, giveAll, Holds}
 use Rattle.isdb_mmt.specs.Memory.Limits.{asked}
-use Rattle.isdb_mmt.specs.Memory.Lent.{part, over}
+use Rattle.isdb_mmt.specs.Memory.Lent.{part}
 use Rattle.isdb_mmt.specs.Memory.Session.{Session, limitsOf, mediaAt, sectionAt}
 use Rattle.isdb_mmt.specs.Memory.Check.{lengthsOf, sound}
 use Rattle.isdb_mmt.specs.Memory.View.{given, keptTableAt, view}
 use Rattle.isdb_mmt.specs.Memory.Opening.{openedSession}
 use Rattle.isdb_mmt.specs.Memory.Octets.{Octets, Lent}
-use Rattle.isdb_mmt.specs.Pushes.Records.{rowsFrom, dataFrom, readRows}
-use Rattle.isdb_mmt.specs.Pushes.Leaves.{packetLeaves}
-use Rattle.isdb_mmt.specs.Pushes.Push.{Input, packetOf, asks, Pushed}
+use Rattle.isdb_mmt.specs.Pushes.Records.{readRows}
+use Rattle.isdb_mmt.specs.Pushes.Push.{Input, packetOf, asks, Pushed, Reply, leavesOf, replyOf}
 use Rattle.isdb_mmt.specs.Answers.TableReadingLaws.{AsKept}
 use Rattle.isdb_mmt.specs.Answers.Readings.{mediaFound, sectionFound, countersRead, timeRead, countRead, nextMediaRead, nextControlRead, nextKeyRead, mediaRead, heldRead, controlRead, sectionRead, mptRead, pltRead, totRead, assetRead, countersNumber, timeNumber, countNumber, nameNumber, mediaNumber, heldNumber, controlNumber, tableNumber, assetNumber, TableTold, nothing, these, toldBy}
 use Rattle.isdb_mmt.specs.declared.decoder.place.Found.{Found}
@@ -113,14 +111,6 @@ pub data Call : Type 0 where
   push : Input → Call
   read : Reading → Call
 
--- what a push hands back: its number, how many records and data bytes, the output buffers
-pub record Reply : Type 0 where
-  pub number : ℕ
-  pub records : ℕ
-  pub bytes : ℕ
-  pub rows : Bytes
-  pub out : Bytes
-
 -- what a decoder makes of a push. A reading changes nothing: it is lent no byte to write
 pub record Decoder : Type 0 where
   pub leaves : Session → Input → Session
@@ -155,19 +145,7 @@ AllBytes [] = Unit {0}
 AllBytes (push x ∷ cs) = Octets (x .bytes) × AllBytes cs
 AllBytes (read r ∷ cs) = AllBytes cs
 
--- ---- this decoder, as the contract of `push` fixes it (specs/Pushes/Push `Pushed`; law `push-determined`)
-
-unfoldable pub leavesOf : Session → Input → Session
-leavesOf s x = if asks s x =? 0 then packetLeaves s (packetOf x) else s
-
-abbrev pub replied : ℕ → ℕ → Input → List Rec → Reply
-replied n bytes x rs =
-    if n =? 0
-    then record { number = 0; records = length rs; bytes = bytes; rows = over 0 (rowsFrom 0 rs) (x .rows); out = over 0 (dataFrom rs) (x .out) }
-    else record { number = n; records = 0; bytes = 0; rows = x .rows; out = x .out }
-
-unfoldable pub replyOf : Session → Input → Reply
-replyOf s x = replied (asks s x) (needs (view s) (packetOf x) .dataBytes) x (gives (view s) (packetOf x))
+-- ---- this decoder (specs/Pushes/Push)
 
 abbrev pub decoder : Decoder
 decoder = record { leaves = leavesOf; replies = replyOf }

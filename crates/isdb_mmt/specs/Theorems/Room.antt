@@ -2,18 +2,16 @@
 -- too. So question 5 asked once answers it for as many pushes as there is room for, whatever the session came from.
 use Prim.Native.Nat.{ℕ, _+_, _*_, _≤_}
 use mathlib.Core.Path.{_≡_}
-use mathlib.Core.Bool.{true, false, not}
+use mathlib.Core.Bool.{true, false}
 use mathlib.Core.List.{List, [], _∷_}
 use lib.ListN.{length}
-use Rattle.isdb_tlv.specs.Guards.{if_then_else_, _<?_, _≤?_}
 use Rattle.isdb_mmt.specs.Decoder.Packet.{ipError}
 use Rattle.isdb_mmt.specs.Memory.Layout.{mostCount}
-use Rattle.isdb_mmt.specs.Memory.Session.{Session, limitsOf, countersOf}
+use Rattle.isdb_mmt.specs.Memory.Session.{Session, countersOf}
 use Rattle.isdb_mmt.specs.Memory.Check.{statsCounts, packetCounts, tableCounts, mediaIn, sound}
 use Rattle.isdb_mmt.specs.Memory.Octets.{Octets, Lent}
 use Rattle.isdb_mmt.specs.Pushes.Leaves.{packetLeaves}
-use Rattle.isdb_mmt.specs.Pushes.Push.{Input, packetOf, mostBytes, asksOf, asks, leavesAll, AllTaken, AllBytes}
-use Rattle.isdb_mmt.specs.Theorems.Calls.{leavesOf}
+use Rattle.isdb_mmt.specs.Pushes.Push.{Input, packetOf, asksLater, asks, leavesOf, leavesAll, AllTaken, AllBytes}
 use Rattle.isdb_mmt.specs.declared.decoder.media.Media.{Media}
 
 -- what one packet adds to a count at most: 2^21
@@ -61,14 +59,6 @@ RoomNeeded = (s : Session) (x : Input) → Lent s → Octets (x .bytes) → coun
 abbrev pub AllStaySound : Type 0
 AllStaySound = (s : Session) (n : ℕ) → SoundWithin n s → (xs : List Input) → AllBytes xs → n + length xs * mostAdded ≤ mostCount
     → AllTaken s xs → SoundWithin (n + length xs * mostAdded) (leavesAll s xs)
-
--- questions 6 to 10: the first that is answered no, or 0
-unfoldable pub asksLater : Session → Input → ℕ
-unfolding asksOf
-asksLater s x =
-    if not (length (x .bytes) ≤? mostBytes) then 6
-    else if not (countersOf (s .state) .«tlv_packets» <? limitsOf (s .state) .packets) then 7
-    else asksOf s (length (x .rows)) (length (x .out)) (packetOf x)
 
 -- pushes, some of them turned down: what they leave, and that each gets the number that questions 6 to 10 give it
 unfoldable pub leavesOver : Session → List Input → Session

@@ -8,7 +8,7 @@ ghost use Rattle.isdb_tlv.specs.Guards.{if_then_else_, _<?_};
 ghost use Rattle.isdb_mmt.specs.Memory.Layout.{mostMediaIds, mostControlIds, mostSections, mostCount, mediaPlaces, mediaSize, controlPlaces, controlSize, sectionPlaces, sectionSize, stateSize};
 ghost use Rattle.isdb_mmt.specs.Memory.Lent.{placesFrom, every};
 ghost use Rattle.isdb_mmt.specs.Memory.Session.{limitsOf, usedOf, mediaPlaceOf, controlPlaceOf, sectionPlaceOf};
-ghost use Rattle.isdb_mmt.specs.Memory.Check.{countFits, countsFrom, lengthFits, mediaSound, controlSound, sectionSound, usedSound, latestSound, headSound, placesSound, namesSound, soundIn, PlacesThere};
+ghost use Rattle.isdb_mmt.specs.Memory.Check.{atMost, countFits, countsFrom, lengthFits, mediaSound, controlSound, sectionSound, usedSound, latestSound, headSound, placesSound, namesSound, soundIn, PlacesThere};
 use crate::decoder::control;
 use crate::decoder::control::Control;
 use crate::decoder::head;
@@ -21,10 +21,10 @@ use crate::decoder::limits::Limits;
 use crate::decoder::place;
 use isdb_tlv::bytes;
 
-fn count_fits(x: u64) -> bool
-    ensures { λ r. ⌜ r ≡ countFits x ⌝ }
+fn at_most(most: u64, x: u64) -> bool
+    ensures { λ r. ⌜ r ≡ atMost most x ⌝ }
 {
-    x <= layout::MOST_COUNT
+    x <= most
 }
 
 fn length_fits(there: bool, n: u32, area: u64) -> bool
@@ -52,14 +52,14 @@ fn high_halves(p: &[u8], at: usize, n: usize) -> u32
     bits
 }
 
-fn each_count_fits(p: &[u8], at: usize, n: usize) -> bool
+pub(crate) fn each_count_fits(p: &[u8], at: usize, n: usize, most: u64) -> bool
     requires { ⌜ at + n * 8 ≤ length (now p) ⌝ }
-    ensures { λ r. ⌜ r ≡ every countFits (countsFrom n at (now (p .entry))) ⌝ }
+    ensures { λ r. ⌜ r ≡ every (atMost most) (countsFrom n at (now (p .entry))) ⌝ }
 {
     let mut i = 0;
     let mut q = at;
     while i < n {
-        if !count_fits(bytes::get_u64(p, q)) {
+        if !at_most(most, bytes::get_u64(p, q)) {
             return false;
         }
         q += 8;
@@ -76,7 +76,7 @@ fn counts_fit(p: &[u8], at: usize, n: usize) -> bool
     if high_halves(p, at, n) as u64 * 4294967296 < layout::MOST_COUNT {
         return true;
     }
-    each_count_fits(p, at, n)
+    each_count_fits(p, at, n, layout::MOST_COUNT)
 }
 
 // No branch in the loop, so that it runs on several counts at once.
@@ -92,12 +92,12 @@ fn all_bits(others: &[u64]) -> u64
     bits
 }
 
-fn each_fits(others: &[u64]) -> bool
-    ensures { λ r. ⌜ r ≡ every countFits (now (others .entry)) ⌝ }
+pub(crate) fn each_fits(others: &[u64], most: u64) -> bool
+    ensures { λ r. ⌜ r ≡ every (atMost most) (now (others .entry)) ⌝ }
 {
     let mut i = 0;
     while i < others.len() {
-        if !count_fits(others[i]) {
+        if !at_most(most, others[i]) {
             return false;
         }
         i += 1;
@@ -111,7 +111,7 @@ fn others_fit(others: &[u64]) -> bool
     if all_bits(others) <= layout::MOST_COUNT {
         return true;
     }
-    each_fits(others)
+    each_fits(others, layout::MOST_COUNT)
 }
 
 fn used_fit(l: Limits, u: Used) -> bool

@@ -1,7 +1,7 @@
 use borrow.Author.Needs.{needs}
 use Rattle.isdb_mmt.proofs.Checks.{stored-fails, stored-fits, stored-end}
 use Rattle.isdb_mmt.specs.Memory.Lent.{every}
-use Rattle.isdb_mmt.specs.Memory.Check.{countFits, countsFrom}
+use Rattle.isdb_mmt.specs.Memory.Check.{atMost, countsFrom}
 use native.Mathlib.Nat.{sub-zero}
 use mathlib.Core.Path.{_≡_}
 use Prim.Native.Nat.{_+_, _-_, _*_}
@@ -9,10 +9,10 @@ use Rattle.isdb_mmt.proofs.decoder.check.each_count_fits.Statement.{sta
 use Rattle.isdb_mmt.proofs.decoder.check.each_count_fits.Tie as tie
 
 abbrev Inv-loop : tie.InvT-loop
-Inv-loop p at n i₀ q₀ i q = (q ≡ at + i * 8) × (every countFits (countsFrom n at p) ≡ every countFits (countsFrom (n - i) q p))
+Inv-loop p at n most i₀ q₀ i q = (q ≡ at + i * 8) × (every (atMost most) (countsFrom n at p) ≡ every (atMost most) (countsFrom (n - i) q p))
 
 abbrev μ-loop : tie.MeasureT-loop
-μ-loop p at n i₀ q₀ i q = n - i
+μ-loop p at n most i₀ q₀ i q = n - i
 
 loop-holds : tie.Need-loop-holds Inv-loop μ-loop
 loop-holds c = (search needs, simp sub-zero)

@@ -2,17 +2,17 @@ use borrow.Author.Needs.{needs}
 use Prim.Native.Nat.{_-_}
 use mathlib.Core.Path.{_≡_}
 use lib.ListN.{length, drop}
-use Rattle.isdb_mmt.specs.Memory.Check.{countFits}
+use Rattle.isdb_mmt.specs.Memory.Check.{atMost}
 use Rattle.isdb_mmt.specs.Memory.Lent.{every}
 use Rattle.isdb_mmt.proofs.Checks.{count-fails, count-fits, counts-end}
 use Rattle.isdb_mmt.proofs.decoder.check.each_fits.Statement.{statement}
 use Rattle.isdb_mmt.proofs.decoder.check.each_fits.Tie as tie
 
 abbrev Inv-loop : tie.InvT-loop
-Inv-loop others i₀ i = every countFits others ≡ every countFits (drop i others)
+Inv-loop others most i₀ i = every (atMost most) others ≡ every (atMost most) (drop i others)
 
 abbrev μ-loop : tie.MeasureT-loop
-μ-loop others i₀ i = length others - i
+μ-loop others most i₀ i = length others - i
 
 returns : tie.Need-returns Inv-loop μ-loop
 returns c = search (needs, count-fails)

@@ -1,7 +1,7 @@
 // TLV packets in a recording (ARIB STD-B32 Part 3, 3.5): the byte 0x7F, the kind, a length of two bytes, and so many data.
 ghost use mathlib.Core.Path.{_≡_};
-ghost use Rattle.isdb_text.specs.Cut.{cutAt};
-use isdb_tlv::bytes;
+ghost use Rattle.isdb_tlv.specs.Cut.{cutAt};
+use crate::bytes;
 
 // Where reading a recording stops: at its end, at the first byte of what is no packet or not whole, or at a packet that is
 // turned down, with the number.

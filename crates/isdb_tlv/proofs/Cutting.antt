@@ -9,16 +9,16 @@ use lib.Dec.{ltb, leb, eqb}
 use lib.ListN.{length, take, drop, getD, length-append, length-drop, List·getD-append}
 use lib.Seq.{getD-drop, drop-drop, drop-append-le, take-append-le}
 use borrow.Author.Tests.{ltb-false, leb-true, leb-false, le-leb, lt-leb, le-ltb}
 use Rattle.isdb_tlv.specs.Bytes.{be}
 use Rattle.isdb_tlv.specs.Walk.{turn}
 use Rattle.isdb_tlv.proofs.Walk.{Ahead, walk-at}
 use Rattle.isdb_tlv.proofs.Guards.{either, cond-elim}
 use Rattle.isdb_tlv.proofs.Numbers.{be-drop}
 use Rattle.isdb_tlv.proofs.Fields.{be-before}
-use Rattle.isdb_text.specs.declared.cut.Cut.{Cut}
-use Rattle.isdb_text.specs.declared.cut.Cut.the-variants.{Packet, End, Short, Bad}
-use Rattle.isdb_text.specs.declared.cut.Stop.the-variants.{Clean, Bad as badAt}
-use Rattle.isdb_text.specs.Cut.{cutAt, ends, also, item, recordingFrom}
+use Rattle.isdb_tlv.specs.declared.cut.Cut.{Cut}
+use Rattle.isdb_tlv.specs.declared.cut.Cut.the-variants.{Packet, End, Short, Bad}
+use Rattle.isdb_tlv.specs.declared.cut.Stop.the-variants.{Clean, Bad as badAt}
+use Rattle.isdb_tlv.specs.Cut.{cutAt, ends, withFirst, item, recordingFrom}
 
 -- two different answers are not one
 differ : {A : Type 0} → _≡_ {A = ℕ} 0 1 → A
@@ -176,7 +176,7 @@ module _ (s w r : List ℕ) (base : ℕ) (window : drop base s ≡ w ++ r) (most
 
   pub window-packet : {kind start n next : ℕ} → cutAt w most i ≡ Packet kind start n next
       → recordingFrom s most (base + i)
-      ≡ also (record { kind = kind; bytes = take n (drop start w) }) (recordingFrom s most (base + next))
+      ≡ withFirst (record { kind = kind; bytes = take n (drop start w) }) (recordingFrom s most (base + next))
   window-packet {kind} {start} {n} {next} e =
       let l : Lies w i start n next = packet-lies w most i e in
       let c : cutAt s most (base + i) ≡ Packet kind (base + start) n (base + next) =

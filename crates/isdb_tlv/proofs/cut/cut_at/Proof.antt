@@ -1,8 +1,8 @@
-use Rattle.isdb_text.specs.Cut.{cutAt}
+use Rattle.isdb_tlv.specs.Cut.{cutAt}
 use borrow.Author.Tests.{lt-ltb, le-ltb, le-leb, lt-leb, eq-eqb, ne-eqb}
 use borrow.Author.Needs.{needs}
-use Rattle.isdb_text.proofs.cut.cut_at.Statement.{statement}
-use Rattle.isdb_text.proofs.cut.cut_at.Tie as tie
+use Rattle.isdb_tlv.proofs.cut.cut_at.Statement.{statement}
+use Rattle.isdb_tlv.proofs.cut.cut_at.Tie as tie
 
 returns : tie.Need-returns
 unfolding cutAt
