@@ -1,5 +1,5 @@
 -- One step on the copies: one law for each return of `note`. Assumes nothing.
-use Prim.Native.Nat.{ℕ, zero, suc, _+_, _-_, _*_, _≤_, _<_, max}
+use Prim.Native.Nat.{ℕ, zero, suc, _+_, _*_, _≤_, _<_, max}
 use mathlib.Core.Path.{_≡_, refl, sym, ap, _∙_}
 use mathlib.Core.Logic.{inr}
 use mathlib.Core.Bool.{true, false}
@@ -30,7 +30,7 @@ use Rattle.isdb_mmt.specs.declared.decoder.table_outcome.TableAction.the
 use Rattle.isdb_mmt.specs.declared.decoder.table_outcome.TableOutcome.{TableOutcome}
 use Rattle.isdb_mmt.specs.declared.decoder.walk.WalkState.{WalkState}
 use Rattle.isdb_mmt.specs.Pushes.TableOutcome.{indexSize, indexOf}
-use Rattle.isdb_mmt.specs.Pushes.PendingTables.{mostAdded, mostBefore, Logged, logged, withLog, placesOf, PendingTables, pendingOf, recent, putAt, indexAfter, othersAfter, mptAfter, pltAfter, totAfter, keptLength, pendingAfter, Room, PutWithin, CanApply, CanCount, countedBy, keptWith, filled, usedWith, WalkedTo, Applied}
+use Rattle.isdb_mmt.specs.Pushes.PendingTables.{mostByTable, mostBefore, Logged, logged, withLog, placesOf, PendingTables, pendingOf, recent, putAt, indexAfter, othersAfter, mptAfter, pltAfter, totAfter, keptLength, pendingAfter, Room, PutWithin, CanApply, countedBy, keptWith, filled, usedWith, WalkedTo, Applied}
 use Rattle.isdb_mmt.proofs.TableOutcomes.{length-index}
 
 -- ---- an index with its log
@@ -141,23 +141,13 @@ module _ (ix log others : List ℕ) (g : WalkState) (t : TableOutcome) (f : ℕ)
   abbrev d : PendingTables
   d = pendingOf ix log others g
 
-  pub can-count : CanCount g t
-  can-count =
-      record {
-        tables = can .room .tables;
-        «crc_errors» = omega (arith, can .room .«crc_errors», can .told .«crc_errors»);
-        malformed = omega (arith, can .room .malformed, can .told .malformed);
-        changes = omega (arith, can .room .changes, can .told .changes);
-        breaks = omega (arith, can .room .breaks, can .told .breaks);
-      }
-
   pub can-other : (id : ℕ) → (length others ≡ tableIds) × (getD others id 0 ≤ mostBefore)
   can-other id = (can .copies .othersLong, can .room .each id)
 
   room-of : (r : WalkState) (os : List ℕ) → r .tables ≡ g .tables + 1 → r .«crc_errors» ≡ g .«crc_errors» + t .«crc_errors»
       → r .malformed ≡ g .malformed + t .malformed → r .«version_changes» ≡ g .«version_changes» + t .«version_changes»
       → r .«split_errors» ≡ g .«split_errors» + t .breaks → r .«message_malformed» ≡ g .«message_malformed» → ((most k : ℕ) → Room g others most → getD os k 0 ≤ most + 1)
-      → (most : ℕ) → Room g others most → Room r os (most + 1 * mostAdded)
+      → (most : ℕ) → Room g others most → Room r os (most + 1 * mostByTable)
   room-of r os e0 e1 e2 e3 e4 e5 each most m =
       record {
         tables = omega (arith, m .tables);

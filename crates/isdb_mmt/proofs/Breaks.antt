@@ -33,7 +33,7 @@ use Rattle.isdb_mmt.proofs.Assets.{breaks-le as assets-le}
 use Rattle.isdb_mmt.specs.declared.decoder.table_outcome.Recent.{Recent}
 use Rattle.isdb_mmt.specs.declared.decoder.table_outcome.TableOutcome.{TableOutcome}
 use Rattle.isdb_mmt.specs.Pushes.TableOutcome.{keysOf, noSection, bodyOutcome, versionOutcome, sectionOutcome, tableOutcome, changesTo}
-use Rattle.isdb_mmt.specs.Pushes.PendingTables.{mostAdded, Small, sectionRead}
+use Rattle.isdb_mmt.specs.Pushes.PendingTables.{mostByTable, Small, sectionRead}
 use Rattle.isdb_mmt.specs.Memory.Layout.{mostMessageArea}
 use Rattle.isdb_mmt.proofs.TableOutcomes.{found-within}
 
@@ -126,9 +126,9 @@ module _ (ks : List KeptSection) (used : ℕ) (eu : length ks ≡ used) where
   length-keys [] = refl
   length-keys (k ∷ l) = ap suc (length-keys l)
 
-  module _ (x : Section) (f : x .breaks ≤ mostAdded) where
+  module _ (x : Section) (f : x .breaks ≤ mostByTable) where
     abbrev Fine : TableOutcome → Type 0
-    Fine t = Small t used mostAdded
+    Fine t = Small t used mostByTable
 
     small-body : (c i : ℕ) → c ≤ 1 → i ≤ used → Fine (bodyOutcome x c i)
     small-body c i h w =
@@ -151,7 +151,7 @@ module _ (ks : List KeptSection) (used : ℕ) (eu : length ks ≡ used) where
         (λ z. record { «crc_errors» = omega arith; malformed = omega arith; changes = omega arith; breaks = omega arith; within = tt })
         (λ z. record { «crc_errors» = omega arith; malformed = omega arith; changes = omega arith; breaks = omega arith; within = tt }))
 
-  small-table : (m p : Recent) (t : Table) → BreaksIn mostAdded t → Small (tableOutcome ks m p t) used mostAdded
+  small-table : (m p : Recent) (t : Table) → BreaksIn mostByTable t → Small (tableOutcome ks m p t) used mostByTable
   unfolding tableOutcome
   small-table m p emptyTable f = record { «crc_errors» = omega arith; malformed = omega arith; changes = omega arith; breaks = omega arith; within = tt }
   small-table m p (mptTable true n b) f = record { «crc_errors» = omega arith; malformed = omega arith; changes = omega (arith, one-le (changesTo m (getD b 1 0))); breaks = f; within = tt }
@@ -173,11 +173,11 @@ module _ (ks : List KeptSection) (used : ℕ) (eu : length ks ≡ used) where
   more n k h (aSection x) f = omega arith
   more n k h (otherTable id) f = tt
 
-  pub small-told : (m p : Recent) (b : Bytes) → ((i : ℕ) → Fits w8 (getD b i 0)) → length b ≤ mostMessageArea → Small (tableOutcome ks m p (tableRead b)) used mostAdded
+  pub small-told : (m p : Recent) (b : Bytes) → ((i : ℕ) → Fits w8 (getD b i 0)) → length b ≤ mostMessageArea → Small (tableOutcome ks m p (tableRead b)) used mostByTable
   small-told m p b h l =
-      small-table m p (tableRead b) (more (length b + 256) mostAdded (omega arith) (tableRead b) (read-in b (λ i. omega (arith, h i))))
+      small-table m p (tableRead b) (more (length b + 256) mostByTable (omega arith) (tableRead b) (read-in b (λ i. omega (arith, h i))))
 
   -- a section of a control signal
-  pub small-section-told : (m p : Recent) (b : Bytes) → length b ≤ mostMessageArea → Small (tableOutcome ks m p (sectionRead b)) used mostAdded
+  pub small-section-told : (m p : Recent) (b : Bytes) → length b ≤ mostMessageArea → Small (tableOutcome ks m p (sectionRead b)) used mostByTable
   unfolding sectionOf
   small-section-told m p b l = small-table m p (sectionRead b) (omega (arith, section-breaks b (getD b 0 0)))

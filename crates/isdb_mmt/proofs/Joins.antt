@@ -1,6 +1,6 @@
 -- Messages that are being joined, and the tables that a whole one gives: how long they are, that their bytes are bytes, and what a message
 -- packet counts. Assumes nothing.
-use Prim.Native.Nat.{ℕ, _+_, _-_, _≤_, _<_}
+use Prim.Native.Nat.{ℕ, _+_, _≤_, _<_}
 use mathlib.Core.Path.{_≡_, refl}
 use mathlib.Core.Bool.{Bool, true, false, cond}
 use mathlib.Core.Option.{Option, none, some}
@@ -12,7 +12,7 @@ use borrow.Author.Tests.{leb-true}
 use Rattle.isdb_tlv.proofs.Guards.{cond-elim}
 use Rattle.isdb_mmt.specs.declared.decoder.counts.Counters.{Counters}
 use Rattle.isdb_mmt.specs.Formats.Part.{partOf}
-use Rattle.isdb_mmt.specs.Decoder.Packet.{Bytes, MessagePacket, ntp, message}
+use Rattle.isdb_mmt.specs.Decoder.Packet.{Bytes, MessagePacket, ntp}
 use Rattle.isdb_mmt.specs.Formats.Message.{tablesFrom, aggregatedFrom, contentOf}
 use Rattle.isdb_mmt.specs.Decoder.Objects.{gap}
 use Rattle.isdb_mmt.specs.Decoder.Reassembly.{PartialMessage, Reassembly, mostMessage, short, flagsOf, partBefore, joinedOn, partAfter, wholeOf, reassemblyAfter, messageCompleted, orphan, oversize, TablesFound, partsOf, tablesIn, tablesOf, tablesOfAll, messagesOf, cutOf, cutOfAll}

@@ -1,6 +1,6 @@
 -- What an accepted packet leaves of limits, buffers and stored lengths: everything that is there still stands within its buffer.
 -- Assumes nothing.
-use Prim.Native.Nat.{ℕ, _+_, _-_, _*_, _≤_, _<_}
+use Prim.Native.Nat.{ℕ, _+_, _*_, _≤_, _<_}
 use mathlib.Core.Path.{_≡_, refl, sym, _∙_}
 use mathlib.Core.Logic.{inl}
 use mathlib.Core.Bool.{true}
@@ -13,7 +13,7 @@ use Rattle.isdb_tlv.specs.Fields.{written, Fit}
 use Rattle.isdb_tlv.proofs.Fields.{length-written}
 use Rattle.isdb_mmt.specs.declared.decoder.counts.Counters.{Counters}
 use Rattle.isdb_mmt.specs.Decoder.Packet.{Bytes, MessagePacket, Packet, ipError, ntp, nonMmtp, media, message, control, other}
-use Rattle.isdb_mmt.specs.Decoder.Maps.{put, isSome}
+use Rattle.isdb_mmt.specs.Decoder.Maps.{put}
 use Rattle.isdb_mmt.specs.Decoder.Objects.{Mfu, Asset}
 use Rattle.isdb_mmt.specs.Decoder.Kept.{Kept}
 use Rattle.isdb_mmt.specs.Decoder.Model.{State, Control as ControlState, controlOf, pushed}
@@ -251,9 +251,6 @@ module _ (s : Session) (ok : Sound (s .state) (s .others) (lengthsOf s)) where
 
     abbrev there : Type 0
     there = Placed (controlThere l s) 0 (controlsIn (messageIn s n id i .state))
-
-    latest-fits : (o : Option Bytes) → tableLength o ≤ l .«table_area» → isSome o ≡ true → tableLength o ≤ l .«table_area»
-    latest-fits o h t = h
 
     message-lasts : Says s (messageIn s n id i) n → there → Lasts s (messageIn s n id i)
     unfolding messageIn latestFor

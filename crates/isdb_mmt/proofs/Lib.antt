@@ -76,7 +76,6 @@ pub mod SoundStays
 pub mod Said
 pub mod Calls
 pub mod Useless
-pub mod Room
 pub mod Outs
 pub mod PlaceFits
 pub mod MediaEffects

@@ -34,7 +34,7 @@ use Rattle.isdb_mmt.specs.declared.decoder.table_outcome.TableOutcome.{T
 use Rattle.isdb_mmt.specs.declared.decoder.walk.WalkState.{WalkState}
 use Rattle.isdb_mmt.specs.Pushes.Placed.{joinOf, placed, placedIn, placedOf, placedOfAll, placedFrom, malformedFrom, placedCut, behind}
 use Rattle.isdb_mmt.specs.Pushes.TableOutcome.{indexOf, tableOutcome, CanDecide}
-use Rattle.isdb_mmt.specs.Pushes.PendingTables.{mostAdded, mostBefore, Room, CanApply, cutShort, Applied, Walked, CanTake, CanWalk, inBody}
+use Rattle.isdb_mmt.specs.Pushes.PendingTables.{mostByTable, mostBefore, Room, CanApply, cutShort, Applied, Walked, CanTake, CanWalk, inBody}
 use Rattle.isdb_mmt.proofs.Places.{Lies}
 use Rattle.isdb_mmt.proofs.AggregatedMessages.{width-ge, aggregated-lies, aggregated-at, table-lies, tables-at}
 use Rattle.isdb_mmt.proofs.TableOutcomes.{length-index}
@@ -124,7 +124,7 @@ module _ (ix₀ log₀ others₀ assembled₀ : List ℕ) (g₀ : WalkState) (m 
 
   tables-room : Room g others mostBefore
   tables-room =
-      room-more g others (2 * mostCount + min p (length m) * mostAdded) mostBefore (omega (arith, go .can .short)) (go .goes .room (2 * mostCount) (go .can .room))
+      room-more g others (2 * mostCount + min p (length m) * mostByTable) mostBefore (omega (arith, go .can .short)) (go .goes .room (2 * mostCount) (go .can .room))
 
   pub tables-cut-can : g .«message_malformed» ≤ mostBefore
   tables-cut-can = tables-room .bad
@@ -321,7 +321,7 @@ module _ (ix₀ log₀ others₀ assembled₀ : List ℕ) (g₀ : WalkState) (a 
 
   messages-room : Room g others (2 * mostCount)
   messages-room =
-      room-more g others (mostCount + min p (length all) * mostAdded) (2 * mostCount) (omega (arith, go .can .short)) (go .goes .room mostCount (go .can .room))
+      room-more g others (mostCount + min p (length all) * mostByTable) (2 * mostCount) (omega (arith, go .can .short)) (go .goes .room mostCount (go .can .room))
 
   pub messages-cut-can : g .«message_malformed» ≤ mostBefore
   messages-cut-can = omega (arith, messages-room .bad)

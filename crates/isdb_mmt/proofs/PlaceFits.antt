@@ -295,19 +295,6 @@ stores-ok area (t ∷ ts) n s h q l =
     store-ok-more area (n + 1 + length ts) (n + suc (length ts)) (storedAll (stored s t) ts) (omega arith)
     (stores-ok area ts (n + 1) (stored s t) (store-ok area n s t h (q .0) (omega arith)) (q .1) (omega arith))
 
--- the counts of table ids alone
-pub others-counted : (ts : List Table) (n : ℕ) (s : KeptTables) → ((i : ℕ) → getD (s .others) i 0 ≤ n) → (i : ℕ) → getD (storedAll s ts .others) i 0 ≤ n + length ts
-unfolding storedAll stored
-others-counted [] n s h i = omega (arith, h i)
-others-counted (emptyTable ∷ ts) n s h i = omega (arith, others-counted ts n (stored s emptyTable) h i)
-others-counted (mptTable ok k b ∷ ts) n s h i = omega (arith, others-counted ts n (stored s (mptTable ok k b)) h i)
-others-counted (pltTable ok b ∷ ts) n s h i = omega (arith, others-counted ts n (stored s (pltTable ok b)) h i)
-others-counted (totTable ok c k b ∷ ts) n s h i = omega (arith, others-counted ts n (stored s (totTable ok c k b)) h i)
-others-counted (truncatedSection ∷ ts) n s h i = omega (arith, others-counted ts n (stored s truncatedSection) h i)
-others-counted (aSection x ∷ ts) n s h i = omega (arith, others-counted ts n (stored s (aSection x)) h i)
-others-counted (otherTable id ∷ ts) n s h i =
-    omega (arith, others-counted ts (n + 1) (stored s (otherTable id)) (counted-one (s .others) id n h) i)
-
 -- the MPT of a control id
 mpt-ok : (area : ℕ) (m : Option Bytes) (s : KeptTables) (t : Table) → TableOk area m → ReadOk t → tableArea s t ≤ area → TableOk area (mptAfter m t)
 unfolding mptAfter tableArea

@@ -1,6 +1,6 @@
 -- A session whose view its places can hold, with counts up to 2^53, no name twice and no more of each than its limits say, and whose
 -- stored lengths are those of the bytes that stand there, passes question 5. Assumes nothing.
-use Prim.Native.Nat.{ℕ, zero, suc, _+_, _-_, _*_, _≤_, _<_}
+use Prim.Native.Nat.{ℕ, zero, suc, _+_, _*_, _≤_, _<_}
 use mathlib.Core.Path.{_≡_, refl, ap, _∙_}
 use mathlib.Core.Bool.{Bool, true, false}
 use mathlib.Core.List.{List, [], _∷_, _++_, map}

@@ -1,6 +1,6 @@
 -- What tables do to what is kept and counted: what is kept parses, and counts grow by the number of tables and of their descriptor
 -- loops. Assumes nothing.
-use Prim.Native.Nat.{ℕ, suc, _+_, _-_, _/_, _^_, _≤_}
+use Prim.Native.Nat.{ℕ, suc, _+_, _/_, _^_, _≤_}
 use mathlib.Core.Path.{_≡_, refl}
 use mathlib.Core.Bool.{Bool, true, false, not, cond, _&&_}
 use mathlib.Core.Option.{Option, none, some}

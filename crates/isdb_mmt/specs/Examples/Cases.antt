@@ -1,6 +1,6 @@
 -- Worked cases, proved as one table by computation: the lengths of descriptors, and feeds from their bytes through `classify` and
 -- `pushed`, with the readings that are easily got wrong. Those of messages and sections are in ControlCases.
-use Prim.Native.Nat.{ℕ, _+_}
+use Prim.Native.Nat.{ℕ}
 use mathlib.Core.Path.{refl}
 use mathlib.Core.Bool.{Bool, true, false}
 use mathlib.Core.List.{List, [], _∷_, _++_, map}

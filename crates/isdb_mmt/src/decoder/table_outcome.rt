@@ -1,6 +1,5 @@
 // What is decided of a table, against an index of the kept sections. Nothing is written, and a section's CRC is read once.
 ghost use mathlib.Core.Path.{_≡_};
-ghost use mathlib.Core.Bool.{not};
 ghost use mathlib.Core.List.{_++_};
 ghost use Prim.Native.Nat.{_*_, _≤_, _<_};
 ghost use lib.ListN.{length};
