@@ -25,7 +25,7 @@ use Rattle.isdb_mmt.specs.Formats.Tot.{totOf, totFields}
 use Rattle.isdb_mmt.specs.Formats.Mpt.{mptOf, mptIn, mptTable as mptWhole, mptAssets, declaredLength, locationsEnd, behindLocation, assetFields, assetBehind, assetAt, assetItem, assetsFrom}
 use Rattle.isdb_mmt.specs.Formats.Location.{locationOf}
 use Rattle.isdb_mmt.specs.Decoder.Reassembly.{PartialMessage, TablesFound, partsOf, tablesIn, tablesOf, tablesOfAll, messagesOf, cutOf}
-use Rattle.isdb_mmt.specs.Decoder.Kept.{sectionOf, bodyRead, Body, Table, emptyTable, mptTable, pltTable, totTable, truncatedSection, aSection, otherTable, longTable, tableById, tableRead}
+use Rattle.isdb_mmt.specs.Decoder.Kept.{sectionOf, bodyRead, Body, Table, emptyTable, mptTable, pltTable, totTable, truncatedSection, aSection, otherTable, tableRead}
 use Rattle.isdb_mmt.specs.declared.part.Part.{Part}
 use Rattle.isdb_mmt.specs.declared.location.Located.{Located}
 use Rattle.isdb_mmt.specs.declared.location.Located.the-variants.{None as notLocated, Some as located}
@@ -52,6 +52,7 @@ use Rattle.isdb_mmt.specs.declared.table.mpt.AssetStep.the-variants.{Mal
 use Rattle.isdb_mmt.proofs.Units.{Inside, unit-inside}
 use Rattle.isdb_mmt.proofs.AggregatedMessages.{width-ge}
 use Rattle.isdb_mmt.proofs.Entries.{broken-le, breaks-le}
+use Rattle.isdb_mmt.proofs.TableKinds.{by-kinds}
 
 -- ---- a walk whose answer grows by no more than it moves ahead
 
@@ -404,18 +405,15 @@ unfolding sectionOf
 section-breaks b = body-breaks (getD b 0 0) b
 
 pub table-breaks : (b : Bytes) → breaksOf (tableRead b) ≤ length b
-unfolding tableRead tableById mptOf
+unfolding mptOf
 table-breaks b =
-    let P : Table → Type 0 = λ t. breaksOf t ≤ length b in
-    let id = getD b 0 0 in
-    let long : P (longTable b) = cond-elim P (ltb (length b) 7) (λ e. omega arith) (λ e. section-breaks b) in
-    cond-elim P (eqb (length b) 0) (λ e. omega arith) (λ e.
-    cond-elim P (ltb id 0x11) (λ e. omega arith) (λ e.
-    cond-elim P (leb id 0x20) (λ e. mpt-in b (declaredLength b)) (λ e.
-    cond-elim P (eqb id 0x80) (λ e. omega arith) (λ e.
-    cond-elim P (eqb id 0xA1) (λ e. tot-breaks b) (λ e.
-    cond-elim P (ltb id 0x8B) (λ e. omega arith) (λ e.
-    cond-elim P (leb id 0x9B) (λ e. long) (λ e.
-    cond-elim P (eqb id 0x9D) (λ e. long) (λ e.
-    cond-elim P (eqb id 0x9F) (λ e. long) (λ e.
-    cond-elim P (eqb id 0xA0) (λ e. long) (λ e. omega arith))))))))))
+    by-kinds (λ (t : Table). breaksOf t ≤ length b) b
+    (record {
+      empty = omega arith;
+      mpt = λ l h. mpt-in b (declaredLength b);
+      plt = omega arith;
+      tot = tot-breaks b;
+      truncated = omega arith;
+      section = section-breaks b;
+      others = omega arith;
+    })

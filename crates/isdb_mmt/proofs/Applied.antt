@@ -121,6 +121,18 @@ getD-most l i k most h =
     (λ e. rw (getD-set-other l i k (getD l i 0 + 1) 0 (eqb-false k i e)) (omega (arith, h k))))
     (λ t. rw (set-out l i (getD l i 0 + 1) (ltb-false i (length l) t)) (omega (arith, h k)))
 
+pub room-more : (g : WalkState) (others : List ℕ) (n k : ℕ) → n ≤ k → Room g others n → Room g others k
+room-more g others n k h r =
+    record {
+      tables = omega (arith, r .tables);
+      «crc_errors» = omega (arith, r .«crc_errors»);
+      malformed = omega (arith, r .malformed);
+      changes = omega (arith, r .changes);
+      breaks = omega (arith, r .breaks);
+      bad = omega (arith, r .bad);
+      each = λ j. omega (arith, r .each j);
+    }
+
 abbrev appliedBy : PendingTables → TableOutcome → TableAction → ℕ → PendingTables
 appliedBy d t z f =
     record {
@@ -166,17 +178,7 @@ module _ (ix log others : List ℕ) (g : WalkState) (t : TableOutcome) (f : ℕ)
   apply-stays e =
       record {
         to = record { stays = λ z. z; over = λ z y. true-not-false (g .full) e z; now = λ z. true-not-false (g .full) e z; used = can .copies .used };
-        room =
-            λ most m.
-            record {
-              tables = omega (arith, m .tables);
-              «crc_errors» = omega (arith, m .«crc_errors»);
-              malformed = omega (arith, m .malformed);
-              changes = omega (arith, m .changes);
-              breaks = omega (arith, m .breaks);
-              bad = omega (arith, m .bad);
-              each = λ k. omega (arith, m .each k);
-            };
+        room = λ most m. room-more g others most (most + 1 * mostByTable) (omega arith) m;
         bad = refl;
       }
 

@@ -6,7 +6,7 @@ use mathlib.Core.Bool.{Bool, true, false, not}
 use mathlib.Core.Option.{Option, none, some}
 use mathlib.Core.List.{List, [], _∷_, _++_, map}
 use native.Mathlib.Omega.{arith}
-use lib.ListN.{length, getD, take, drop, replicate, length-take, length-drop, List·getD-eq-default}
+use lib.ListN.{length, getD, take, drop, replicate, length-take, List·getD-eq-default, length-map}
 use lib.Seq.{getD-take, getD-drop}
 use lib.Dec.{ltb, eqb}
 use borrow.Author.Tests.{ltb-true, ltb-false}
@@ -46,6 +46,7 @@ use Rattle.isdb_mmt.specs.declared.decoder.limits.Limits.{Limits}
 use Rattle.isdb_mmt.specs.Memory.Layout.{usedPlace, stateSize}
 use Rattle.isdb_mmt.specs.Memory.Octets.{Octets, Lent}
 use Rattle.isdb_mmt.proofs.Amounts.{Grows, grows-within, units-le, unitCount, total}
+use Rattle.isdb_mmt.proofs.Smallness.{take-small, drop-small}
 
 -- ---- bytes
 
@@ -118,22 +119,12 @@ Plain (message c) = (length (c .payload) < 65536) × Octets (c .payload)
 Plain (control bs) = (length bs < 65536) × (total bs < 65536) × AllOctets bs
 Plain other = Unit {0}
 
-take-short : (n : ℕ) (b : Bytes) → length b < 65536 → length (take n b) < 65536
-take-short n b l = omega (arith, length-take n b)
-
-drop-short : (n : ℕ) (b : Bytes) → length b < 65536 → length (drop n b) < 65536
-drop-short n b l = omega (arith, length-drop n b)
-
 -- a media payload
-
-length-payload-units : (h : PayloadHeader) (q : Bytes) (us : List DataUnit) → length (map (payloadUnit h q) us) ≡ length us
-length-payload-units h q [] = refl
-length-payload-units h q (u ∷ us) = omega (arith, length-payload-units h q us)
 
 clear-payload-units : (h : PayloadHeader) (q : Bytes) (o : Option (List DataUnit)) → unitCount o < 65536 → length (clear false (payloadUnits h q o)) < 65536
 unfolding clear
 clear-payload-units h q none l = omega arith
-clear-payload-units h q (some us) l = omega (arith, length-payload-units h q us)
+clear-payload-units h q (some us) l = omega (arith, length-map us (payloadUnit h q))
 
 clear-units : (h : PayloadHeader) (t : FragmentType) (q : Bytes) → length q < 65536 → length (clear false (unitsFor h t q)) < 65536
 unfolding clear
@@ -148,7 +139,7 @@ unfolding clear
 clear-read true payload o l = omega arith
 clear-read false payload none l = omega arith
 clear-read false payload (some h) l =
-    clear-units h (h .«fragment_type») (declaredOf payload) (take-short (be 2 payload 0 + 2) payload l)
+    clear-units h (h .«fragment_type») (declaredOf payload) (take-small (be 2 payload 0 + 2) payload l)
 
 media-plain : (h : Header) (payload : Bytes) → length payload < 65536 → length (readable (mediaOf h payload)) < 65536
 unfolding readable mediaOf
@@ -236,7 +227,7 @@ type-plain h payload (Reserved c) l o = tt
 mmtp-plain : (b : Bytes) (p : Parsed) → length b < 65536 → Octets b → Plain (mmtpIn b p)
 mmtp-plain b notMmtp l o = tt
 mmtp-plain b (someMmtp p) l o =
-    type-plain (p .header) (drop (p .start) b) (p .header .«payload_type») (drop-short (p .start) b l) (octets-drop (p .start) b o)
+    type-plain (p .header) (drop (p .start) b) (p .header .«payload_type») (drop-small (p .start) b l) (octets-drop (p .start) b o)
 
 port-plain : (b : Bytes) (port : ℕ) → length b < 65536 → Octets b → Plain (toPort b port)
 port-plain b port l o = cond-elim Plain (port =? 123) (λ e. tt) (λ e. mmtp-plain b (mmtpOf b) l o)
@@ -247,7 +238,7 @@ flow-plain b (someFlow f) l o = port-plain b (f .dport) l o
 
 datagram-plain : (b : Bytes) (r : IpResult) → length b < 65536 → Octets b → Plain (datagramIn b r)
 datagram-plain b (Err e) l o = tt
-datagram-plain b (Ok d) l o = flow-plain (drop (d .start) b) (d .flow) (drop-short (d .start) b l) (octets-drop (d .start) b o)
+datagram-plain b (Ok d) l o = flow-plain (drop (d .start) b) (d .flow) (drop-small (d .start) b l) (octets-drop (d .start) b o)
 
 kind-plain : (b : Bytes) (k : PacketType) → length b < 65536 → Octets b → Plain (byKind b k)
 kind-plain b Ipv4 l o = datagram-plain b (ipv4Of b) l o

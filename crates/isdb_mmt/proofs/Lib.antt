@@ -61,6 +61,7 @@ pub mod StateWrites
 pub mod MessageLeaves
 pub mod PacketLeaves
 pub mod Declared
+pub mod TableKinds
 pub mod Amounts
 pub mod Brief
 pub mod Every

@@ -40,7 +40,8 @@ use Rattle.isdb_mmt.proofs.AggregatedMessages.{width-ge, aggregated-lie
 use Rattle.isdb_mmt.proofs.TableOutcomes.{length-index}
 use Rattle.isdb_mmt.proofs.Breaks.{small-told}
 use Rattle.isdb_mmt.proofs.Joined.{pieces, both-fit}
-use Rattle.isdb_mmt.proofs.Walking.{room-more, none-walked, cut-walked, one-walked, walked-more, Goes, goes-start, in-sequence, goes-end, goes-cut}
+use Rattle.isdb_mmt.proofs.Walking.{none-walked, cut-walked, one-walked, walked-more, Goes, goes-start, in-sequence, goes-end, goes-cut}
+use Rattle.isdb_mmt.proofs.Applied.{room-more}
 
 part-short : (m : Bytes) (p : Part) → length (partOf m p) ≤ p .length
 part-short m p = omega (arith, length-take (p .length) (drop (p .start) m))
@@ -81,7 +82,7 @@ module _ (ix log others assembled : List ℕ) (g : WalkState) (a b : Bytes) (p :
           record {
             copies = can .copies;
             room = can .room;
-            told = rw et (small-told (indexOf (g .used) ix) (g .used) (length-index (g .used) ix) (g .mpt) (g .plt) (x ++ y) h l);
+            told = rw et (small-told (indexOf (g .used) ix) (g .used) (length-index (g .used) ix) (g .mpt) (g .plt) (x ++ y) l);
           }
 
       pub table-walked : (r : WalkState) (ix′ log′ others′ : List ℕ) → Applied ix log others g t (from + p .start + 1) r ix′ log′ others′

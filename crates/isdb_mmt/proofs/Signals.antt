@@ -22,7 +22,8 @@ use Rattle.isdb_mmt.specs.Pushes.TableOutcome.{indexOf, sectionOutcome, 
 use Rattle.isdb_mmt.specs.Pushes.PendingTables.{mostByTable, mostBefore, sectionRead, CanApply, Applied, Walked, at, CanTakeSection, CanWalkSections}
 use Rattle.isdb_mmt.proofs.TableOutcomes.{length-index}
 use Rattle.isdb_mmt.proofs.Breaks.{small-section-told}
-use Rattle.isdb_mmt.proofs.Walking.{room-more, one-walked, Goes, goes-start, in-sequence, goes-end}
+use Rattle.isdb_mmt.proofs.Walking.{one-walked, Goes, goes-start, in-sequence, goes-end}
+use Rattle.isdb_mmt.proofs.Applied.{room-more}
 
 -- ---- one section
 

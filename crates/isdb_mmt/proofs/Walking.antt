@@ -19,19 +19,7 @@ use Rattle.isdb_mmt.specs.Pushes.Placed.{Placed}
 use Rattle.isdb_mmt.specs.Pushes.TableOutcome.{indexOf, tableOutcome}
 use Rattle.isdb_mmt.specs.Pushes.PendingTables.{mostByTable, Logged, logged, withLog, placesOf, PendingTables, pendingOf, indexAfter, pendingAfter, pendingWith, pendingWithAll, Room, Copies, cutShort, WalkedTo, Applied, Walked}
 use Rattle.isdb_mmt.proofs.Names.{true-not-false}
-use Rattle.isdb_mmt.proofs.Applied.{log-places}
-
-pub room-more : (g : WalkState) (others : List ℕ) (n k : ℕ) → n ≤ k → Room g others n → Room g others k
-room-more g others n k h r =
-    record {
-      tables = omega (arith, r .tables);
-      «crc_errors» = omega (arith, r .«crc_errors»);
-      malformed = omega (arith, r .malformed);
-      changes = omega (arith, r .changes);
-      breaks = omega (arith, r .breaks);
-      bad = omega (arith, r .bad);
-      each = λ j. omega (arith, r .each j);
-    }
+use Rattle.isdb_mmt.proofs.Applied.{log-places, room-more}
 
 -- ---- the index grows
 
