@@ -151,9 +151,6 @@ abbrev lengths : List Found → ℕ
 lengths [] = 0
 lengths (x ∷ l) = x .size + lengths l
 
-abbrev amount : List Found → ℕ
-amount l = length l
-
 module _ (s : Bytes) where
   abbrev Here : ℕ → MaybeSection → Type 0
   Here at noSection = Unit {0}
@@ -172,33 +169,27 @@ module _ (s : Bytes) where
       let b = ltb-false (length s - at) n e3 in
       (omega arith, omega arith))))))
 
-  covers : (at : ℕ) → 3 ≤ length s - at → (m : MaybeSection) → Here at m → Grows lengths (length s) at (found at m)
-  covers at h noSection w = (omega arith, omega arith, λ r. omega arith)
-  covers at h (oneSection x) w = (omega arith, omega (arith, w .1), λ r. omega arith)
+  -- what a section adds is no more than its bytes
+  module _ (size : List Found → ℕ) (end-size : size [] ≡ 0) (also-size : (x : Found) (l : List Found) → 1 ≤ x .size → size (x ∷ l) ≤ size l + x .size) where
+    section-grows : (at : ℕ) → 3 ≤ length s - at → (m : MaybeSection) → Here at m → Grows size (length s) at (found at m)
+    section-grows at h noSection w = (omega arith, omega arith, λ r. omega arith)
+    section-grows at h (oneSection x) w = (omega arith, omega (arith, w .1), λ r. omega (arith, also-size x r (w .0)))
 
-  counts : (at : ℕ) → 3 ≤ length s - at → (m : MaybeSection) → Here at m → Grows amount (length s) at (found at m)
-  counts at h noSection w = (omega arith, omega arith, λ r. omega arith)
-  counts at h (oneSection x) w = (omega arith, omega (arith, w .1), λ r. omega (arith, w .0))
+    sections-grow : size (sectionsOf s) ≤ length s
+    unfolding sectionsOf sectionsFrom
+    sections-grow =
+        omega (
+          arith,
+          grows-within size (length s) (scanAt s) (λ p. []) (λ p. end-size)
+              (λ at. cond-elim (Grows size (length s) at) (ltb (length s - at) 3) (λ e. omega (arith, end-size)) (λ e. section-grows at (ltb-false (length s - at) 3 e) (sectionAt s at) (here at)))
+              (suc (length s)) 0,
+        )
 
   sections-cover : lengths (sectionsOf s) ≤ length s
-  unfolding sectionsOf sectionsFrom
-  sections-cover =
-      omega (
-        arith,
-        grows-within lengths (length s) (scanAt s) (λ p. []) (λ p. refl)
-            (λ at. cond-elim (Grows lengths (length s) at) (ltb (length s - at) 3) (λ e. omega arith) (λ e. covers at (ltb-false (length s - at) 3 e) (sectionAt s at) (here at)))
-            (suc (length s)) 0,
-      )
+  sections-cover = sections-grow lengths refl (λ x l h. omega arith)
 
   sections-count : length (sectionsOf s) ≤ length s
-  unfolding sectionsOf sectionsFrom
-  sections-count =
-      omega (
-        arith,
-        grows-within amount (length s) (scanAt s) (λ p. []) (λ p. refl)
-            (λ at. cond-elim (Grows amount (length s) at) (ltb (length s - at) 3) (λ e. omega arith) (λ e. counts at (ltb-false (length s - at) 3 e) (sectionAt s at) (here at)))
-            (suc (length s)) 0,
-      )
+  sections-count = sections-grow (λ (l : List Found). length l) refl (λ x l h. omega arith)
 
   abbrev cutOut : List Found → List Bytes
   cutOut l = map (λ x. take (x .size) (drop (x .offset) s)) l
@@ -206,10 +197,6 @@ module _ (s : Bytes) where
   total-cut : (l : List Found) → total (cutOut l) ≤ lengths l
   total-cut [] = omega arith
   total-cut (x ∷ l) = omega (arith, total-cut l, length-take (x .size) (drop (x .offset) s))
-
-  length-cut : (l : List Found) → length (cutOut l) ≡ length l
-  length-cut [] = refl
-  length-cut (x ∷ l) = omega (arith, length-cut l)
 
   octets-cut : Octets s → (l : List Found) → AllOctets (cutOut l)
   octets-cut o [] = tt
@@ -245,7 +232,7 @@ kind-plain b Ipv4 l o = datagram-plain b (ipv4Of b) l o
 kind-plain b Ipv6 l o = datagram-plain b (ipv6Of b) l o
 kind-plain b Compressed l o = datagram-plain b (compressedOf b) l o
 kind-plain b Control l o = (
-  omega (arith, length-cut b (sectionsOf b), sections-count b),
+  omega (arith, length-map (sectionsOf b) (λ (x : Found). take (x .size) (drop (x .offset) b)), sections-count b),
   omega (arith, total-cut b (sectionsOf b), sections-cover b),
   octets-cut b o (sectionsOf b),
 )

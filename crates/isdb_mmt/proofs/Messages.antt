@@ -6,16 +6,14 @@ use mathlib.Core.Bool.{Bool, true, false}
 use mathlib.Core.List.{List, [], _∷_, _++_, map}
 use native.Mathlib.Omega.{arith}
 use native.Mathlib.Nat.{zero-add}
-use lib.Dec.{ltb}
-use lib.ListN.{length, getD, drop, length-append, length-take, List·getD-eq-default}
-use lib.Seq.{getD-take, getD-drop}
+use lib.ListN.{length, getD, drop, length-append, length-take}
 use mir.Syntax.{w8, w64}
 use mir.Val.{Fits}
-use borrow.Author.Tests.{ltb-true, ltb-false}
+use borrow.Author.Tests.{ltb-false}
 use Rattle.isdb_tlv.specs.Guards.{_<?_, _≤?_, _=?_}
 use Rattle.isdb_tlv.specs.Bytes.{be}
 use Rattle.isdb_tlv.specs.Walk.{turn}
-use Rattle.isdb_tlv.proofs.Guards.{either, cond-elim}
+use Rattle.isdb_tlv.proofs.Guards.{cond-elim}
 use Rattle.isdb_tlv.proofs.Numbers.{be-lt}
 use Rattle.isdb_mmt.specs.Memory.Layout.{mostMessageArea, mostTableArea, mostCount}
 use Rattle.isdb_mmt.specs.Decoder.Packet.{Bytes}
@@ -46,14 +44,6 @@ use Rattle.isdb_mmt.proofs.Applied.{room-more}
 part-short : (m : Bytes) (p : Part) → length (partOf m p) ≤ p .length
 part-short m p = omega (arith, length-take (p .length) (drop (p .start) m))
 
-part-bytes : (m : Bytes) → ((i : ℕ) → Fits w8 (getD m i 0)) → (p : Part) (i : ℕ) → Fits w8 (getD (partOf m p) i 0)
-part-bytes m h p i =
-    either (ltb i (p .length))
-    (λ t. rw (getD-take (p .length) (drop (p .start) m) i 0 (ltb-true i (p .length) t), getD-drop (p .start) m i 0) (h (p .start + i)))
-    (λ t.
-    let k = ltb-false i (p .length) t in
-    rw (List·getD-eq-default (partOf m p) 0 {n = i} (omega (arith, part-short m p))) (omega arith))
-
 part-fits : (m : Bytes) → ((i : ℕ) → Fits w8 (getD m i 0)) → (n : ℕ) → be 2 m n ≤ 65535
 part-fits m h n = omega (arith, be-lt m h 2 n)
 
@@ -75,10 +65,9 @@ module _ (ix log others assembled : List ℕ) (g : WalkState) (a b : Bytes) (p :
         }
 
     module _ (t : TableOutcome) (et : t ≡ tableOutcome (indexOf (g .used) ix) (g .mpt) (g .plt) (tableRead (x ++ y))) where
-      pub table-apply : ((i : ℕ) → Fits w8 (getD a i 0)) → ((i : ℕ) → Fits w8 (getD b i 0)) → CanApply ix log others g t
-      table-apply ha hb =
+      pub table-apply : CanApply ix log others g t
+      table-apply =
           let l : length (x ++ y) ≤ mostMessageArea = rw whole (omega (arith, part-short (a ++ b) p, can .few)) in
-          let h : (i : ℕ) → Fits w8 (getD (x ++ y) i 0) = rw whole (part-bytes (a ++ b) (both-fit a b ha hb) p) in
           record {
             copies = can .copies;
             room = can .room;

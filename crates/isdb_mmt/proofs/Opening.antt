@@ -12,7 +12,7 @@ use borrow.Author.Tests.{le-leb}
 use Rattle.isdb_tlv.specs.Bytes.{be}
 use Rattle.isdb_tlv.specs.Fields.{written, Fit}
 use Rattle.isdb_tlv.proofs.Fields.{length-written, be-behind, be-before}
-use Rattle.isdb_mmt.specs.Memory.Lent.{over, flag, flagByte, placesFrom, namesFrom, distinct, every, indexed}
+use Rattle.isdb_mmt.specs.Memory.Lent.{over, flag, placesFrom, namesFrom, distinct, every, indexed}
 use Rattle.isdb_mmt.specs.Memory.Layout.{tableIds, usedPlace, latestPlace, timePlace, countersPlace, stateSize}
 use Rattle.isdb_mmt.specs.Memory.Limits.{asked}
 use Rattle.isdb_mmt.specs.Memory.Session.{Session, limitsFields, limitsOf, usedOf, latestOf, timeOf, countersOf}
@@ -28,7 +28,7 @@ use Rattle.isdb_mmt.specs.declared.decoder.head.Latest.{Latest}
 use Rattle.isdb_mmt.specs.declared.decoder.head.Time.{Time}
 use Rattle.isdb_mmt.proofs.Lent.{over-start, length-over}
 use Rattle.isdb_mmt.proofs.Limits.{passed}
-use Rattle.isdb_mmt.proofs.Stored.{holds-front, yes-no, limits-held}
+use Rattle.isdb_mmt.proofs.Stored.{holds-front, yes-no, limits-held, flag-small}
 
 -- `s` has come of `s₀` by zeros in the first `i` elements
 pub record Cleared (s₀ s : List ℕ) (i : ℕ) : Type 0 where
@@ -123,10 +123,6 @@ unfolding be
 be-zeros zero n at = refl
 be-zeros (suc w) n at = omega (arith, be-zeros w n at, getD-zeros n (at + w))
 
-flag-fits : (b : Bool) → flagByte b < 256
-flag-fits true = omega arith
-flag-fits false = omega arith
-
 length-opened : (l : Limits) → length (openedState l) ≡ stateSize
 unfolding openedState
 length-opened l =
@@ -155,7 +151,7 @@ limits-fit : (l : Limits) (n : Lengths) → asked l n ≡ 0 → Fit (limitsField
 limits-fit l n e =
     let p = passed l n e in (
       omega arith,
-      (omega arith, (omega arith, (omega arith, (omega arith, (omega arith, (omega arith, (flag-fits (l .«pass_scrambled»), tt))))))),
+      (omega arith, (omega arith, (omega arith, (omega arith, (omega arith, (omega arith, (flag-small (l .«pass_scrambled»), tt))))))),
     )
 
 -- after an accepted opening the limits are those that it was given

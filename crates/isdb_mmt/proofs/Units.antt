@@ -1,16 +1,16 @@
 -- The units of an MPU payload: each leads on to a place ahead and its data lie within the declared bytes, so that steps from one
 -- to the next go over all of them. Assumes nothing.
 use Prim.Native.Nat.{ℕ, _+_, _-_, _≤_}
-use mathlib.Core.Path.{_≡_, _∙_}
-use mathlib.Core.Bool.{Bool, not}
+use mathlib.Core.Path.{_≡_, _∙_, refl}
+use mathlib.Core.Bool.{Bool, not, true}
 use mathlib.Core.List.{List}
-use mathlib.Core.Option.{none}
+use mathlib.Core.Option.{none, Option, some}
 use native.Mathlib.Omega.{arith}
 use lib.Dec.{ltb, leb}
 use lib.ListN.{length}
 use borrow.Author.Tests.{ltb-false, leb-true}
 use Rattle.isdb_tlv.specs.Bytes.{be}
-use Rattle.isdb_tlv.specs.Walk.{turn}
+use Rattle.isdb_tlv.specs.Walk.{turn, also}
 use Rattle.isdb_tlv.proofs.Walk.{Ahead, walk-at, plus, one-more as one-more-item}
 use Rattle.isdb_tlv.proofs.Guards.{cond-elim}
 use Rattle.isdb_mmt.proofs.Places.{Lies}
@@ -20,6 +20,7 @@ use Rattle.isdb_mmt.specs.declared.mpu.UnitStep.{UnitStep}
 use Rattle.isdb_mmt.specs.declared.mpu.UnitStep.the-variants.{End, Malformed, Unit as found}
 use Rattle.isdb_mmt.specs.declared.mpu.UnitCount.{UnitCount}
 use Rattle.isdb_mmt.specs.declared.mpu.UnitCount.the-variants.{Malformed as notWhole, Count}
+use Rattle.isdb_mmt.specs.Decoder.Maps.{isSome}
 
 abbrev pub Inside : List ℕ → ℕ → UnitStep → Type 0
 Inside s at End = Unit {0}
@@ -71,6 +72,16 @@ module _ (s : List ℕ) (timed aggregated : Bool) where
   unfolding unitsFrom
   units-at at =
       walk-at (λ p. item (unitStep s timed aggregated p)) none (length s) (λ p. ahead-of p (unitStep s timed aggregated p) (unit-inside p)) at
+
+-- where a unit was found, they are it and those behind it
+pub units-also : (s : List ℕ) (timed aggregated : Bool) (at next : ℕ) (u : DataUnit) (x : UnitStep) → x ≡ unitStep s timed aggregated at → x ≡ found u next
+    → unitsFrom s timed aggregated at ≡ also u (unitsFrom s timed aggregated next)
+units-also s timed aggregated at next u x ex e = rw (units-at s timed aggregated at, ← ex, e)
+
+pub whole-behind : (u : DataUnit) (o : Option (List DataUnit)) → isSome (also u o) ≡ true → isSome o ≡ true
+unfolding isSome
+whole-behind u none h = h
+whole-behind u (some us) h = refl
 
 -- the turn of the loop that counts them
 pub one-more : (s : List ℕ) (timed aggregated : Bool) (at k : ℕ) {u : DataUnit} {next : ℕ} {r : UnitCount}

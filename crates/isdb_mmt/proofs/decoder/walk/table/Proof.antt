@@ -7,7 +7,7 @@ joined-outcome-requires : tie.Need-joined-outcome-requires
 joined-outcome-requires c κs = let x = c .before .before .before .before .before .before .before .before .before .before .before .before .before .before .args in table-tell _ _ _ _ _ (x .a .now) (x .b .now) _ _ (c .before .before .before .before .before .before .before .before .before .before .before .before .before .before .pre) _ (c .before .before .before .before .behind .ensures) _ _ (c .before .of .ensures) (c .of2 .ensures)
 
 apply-requires : tie.Need-apply-requires
-apply-requires c κs = let x = c .before .before .before .before .before .before .before .before .before .before .before .before .before .before .before .before .before .before .before .before .args in table-apply _ _ _ _ _ (x .a .now) (x .b .now) _ _ (c .before .before .before .before .before .before .before .before .before .before .before .before .before .before .before .before .before .before .before .before .pre) _ (c .before .before .before .before .before .before .before .before .before .before .behind .ensures) _ _ (c .before .before .before .before .before .before .before .of .ensures) (c .before .before .before .before .before .before .of2 .ensures) _ (c .before .before .before .before .before .joined-outcome .ensures) (c .before .before .before .before .before .before .before .before .before .before .before .before .before .before .before .shared-slice-known .given) (c .before .before .before .before .before .before .before .before .before .before .before .before .before .before .shared-slice-known2 .given)
+apply-requires c κs = let x = c .before .before .before .before .before .before .before .before .before .before .before .before .before .before .before .before .before .before .before .before .args in table-apply _ _ _ _ _ (x .a .now) (x .b .now) _ _ (c .before .before .before .before .before .before .before .before .before .before .before .before .before .before .before .before .before .before .before .before .pre) _ (c .before .before .before .before .before .before .before .before .before .before .behind .ensures) _ _ (c .before .before .before .before .before .before .before .of .ensures) (c .before .before .before .before .before .before .of2 .ensures) _ (c .before .before .before .before .before .joined-outcome .ensures)
 
 returns : tie.Need-returns
 returns c = let x = c .before .before .before .before .before .before .before .before .before .before .before .before .before .before .before .before .before .before .before .before .before .before .before .before .before .before .before .args in table-walked _ _ _ _ _ (x .a .now) (x .b .now) _ _ (c .before .before .before .before .before .before .before .before .before .before .before .before .before .before .before .before .before .before .before .before .before .before .before .before .before .before .before .pre) _ (c .before .before .before .before .before .before .before .before .before .before .before .before .before .before .before .before .before .behind .ensures) _ _ (c .before .before .before .before .before .before .before .before .before .before .before .before .before .before .of .ensures) (c .before .before .before .before .before .before .before .before .before .before .before .before .before .of2 .ensures) _ (c .before .before .before .before .before .before .before .before .before .before .before .before .joined-outcome .ensures) _ _ _ _ (c .before .before .before .before .before .before .apply .ensures)
