@@ -2,13 +2,6 @@ use Rattle.isdb_mmt.proofs.Pushing.{push-five, push-six, push-seven, pu
 use borrow.Author.Needs.{needs}
 use Rattle.isdb_mmt.proofs.decoder.push_in.Statement.{statement}
 use Rattle.isdb_mmt.proofs.decoder.push_in.Tie as tie
-use Rattle.isdb_mmt.proofs.decoder.push_in.Reads as reads
-use Rattle.isdb_mmt.proofs.decoder.push_in.Lts as lts
-use Rattle.isdb_mmt.proofs.decoder.check.ready.Reads as ready-reads
-use Rattle.isdb_mmt.proofs.decoder.records.refused.Reads as refused-reads
-use Rattle.isdb_mmt.proofs.decoder.take.may_take.Reads as may-take-reads
-use Rattle.isdb_mmt.proofs.decoder.place.octets.Reads as octets-reads
-use Rattle.isdb_mmt.proofs.decoder.take.take.Reads as take-reads
 
 -- src/decoder.rt:127:9
 ready-requires : tie.Need-ready-requires
