@@ -74,7 +74,8 @@ module _ (l : Limits) (s : Session) (n : ℕ) where
   unfolding indexed assetOfPlace
   media-within most [] i h w = tt
   media-within most (m ∷ ms) i h w =
-      let a = h .0 .1 in (
+      let a = h .0 .1 in
+      (
         (
           h .0 .0,
           record {
@@ -92,7 +93,8 @@ module _ (l : Limits) (s : Session) (n : ℕ) where
   unfolding indexed assetOfPlace
   media-counts [] i h = tt
   media-counts (m ∷ ms) i h =
-      let c = h .0 .1 .counts .counts in (
+      let c = h .0 .1 .counts .counts in
+      (
         (c .packets, (c .lost, (c .scrambled, (c .mfus, (c .scrambledMfus, (c .dropped, (c .mpus, (c .jumps, (c .malformed, tt))))))))),
         media-counts ms (i + 1) (h .1),
       )
