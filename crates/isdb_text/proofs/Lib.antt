@@ -5,6 +5,8 @@ pub mod DigitValues
 pub mod Filling
 pub mod Examples
 pub mod Cutting
+pub mod Windows
+pub mod KeptTables
 pub mod Elements
 pub mod DumpWhole
 pub mod Lists

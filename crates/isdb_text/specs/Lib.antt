@@ -2,6 +2,7 @@
 pub mod Text
 pub mod Fill
 pub mod Cut
+pub mod Window
 pub mod Digits
 pub mod Elements
 pub mod DumpDescriptors
@@ -9,3 +10,6 @@ pub mod DumpTables
 pub mod DumpWhole
 pub mod Listing
 pub mod DumpSession
+pub mod KeptTables
+pub mod DumpKept
+pub mod ReplayKept
