@@ -48,6 +48,7 @@ pub mod Demand
 pub mod Smallness
 pub mod Guards
 pub mod Lent
+pub mod LentRests
 pub mod Names
 pub mod Stored
 pub mod Sessions
