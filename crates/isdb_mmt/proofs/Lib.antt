@@ -14,6 +14,7 @@ pub mod StdB60
 pub mod StdB60Sections
 pub mod Places
 pub mod Units
+pub mod UnitStarts
 pub mod AggregatedMessages
 pub mod StdB60Tables
 pub mod StdB60Short
@@ -47,6 +48,7 @@ pub mod Demand
 pub mod Smallness
 pub mod Guards
 pub mod Lent
+pub mod LentRests
 pub mod Names
 pub mod Stored
 pub mod Sessions

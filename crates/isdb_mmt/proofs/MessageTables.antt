@@ -67,9 +67,9 @@ module _ (s : Session) (ok : Sound (s .state) (s .others) (lengthsOf s)) (i : �
   abbrev c₁ : Counters
   c₁ = malformedMore c₀ (cutOf j .malformed)
 
-  pub message-can : CountsFit c₀ → length (s .others) ≡ tableIds → (assembled : List ℕ) → length assembled ≡ mostTableArea → length m ≤ mostMessageArea
-      → CanWalk ix₀ log₀ (s .others) assembled g₀ m 0 mostCount
-  message-can f lo assembled ls lm =
+  pub message-can : CountsFit c₀ → length (s .others) ≡ tableIds → length m ≤ mostMessageArea
+      → CanWalk ix₀ log₀ (s .others) g₀ m 0 mostCount
+  message-can f lo lm =
       record {
         copies =
             record {
@@ -78,7 +78,6 @@ module _ (s : Session) (ok : Sound (s .state) (s .others) (lengthsOf s)) (i : �
               othersLong = lo;
               used = ok .there .sections;
             };
-        assembledLong = ls;
         room =
             record {
               tables = f .tables;

@@ -187,7 +187,7 @@ none-asked l area r e =
 
 -- ---- a packet
 
-module _ (s : Session) (x : MessagePacket) (y : ReceivedFragment) (i k : ℕ) (ix log mine assembled : List ℕ) (can : CanPushAt s x y i k ix log mine assembled) where
+module _ (s : Session) (x : MessagePacket) (y : ReceivedFragment) (i k : ℕ) (ix log mine : List ℕ) (can : CanPushAt s x y i k ix log mine) where
   abbrev ok : Sound (s .state) (s .others) (lengthsOf s)
   ok = can .packet .session
 
@@ -281,7 +281,7 @@ module _ (s : Session) (x : MessagePacket) (y : ReceivedFragment) (i k : ℕ) (i
   whole-before z e = rw e message-room
 
   pub whole-walk : (a : Counters) → a ≡ a₀ → (cs : Counters) → cs ≡ fragmentCounted f a → (last : Bool) → last ≡ isLast f
-      → CanWalkWhole (s .state) (s .others) (s .messages) (s .tables) ix log mine assembled i c last cs b
+      → CanWalkWhole (s .state) (s .others) (s .messages) (s .tables) ix log mine i c last cs b
   whole-walk a ea cs ec last el =
       let e : cs ≡ fragmentCounted f a₀ = ec ∙ ap (fragmentCounted f) ea in
       rw (el, e)
@@ -294,7 +294,7 @@ module _ (s : Session) (x : MessagePacket) (y : ReceivedFragment) (i k : ℕ) (i
         room = message-room;
         area = omega (arith, met .ranges .message);
         walk =
-            message-can s ok i (at .free) (c .mpt) (c .«mpt_length») small j c₀ counts-fit (can .packet .othersLong) assembled (can .assembledLong)
+            message-can s ok i (at .free) (c .mpt) (c .«mpt_length») small j c₀ counts-fit (can .packet .othersLong)
             (bytes-short f c m b (omega (arith, length-take (c .length) (drop (i * l .«message_area») (s .messages)))) (can .packet .short)
             (subst (NotLong c b) (sym (fragment .outcome)) (not-long c (x .number) b)));
       })

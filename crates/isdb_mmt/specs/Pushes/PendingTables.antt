@@ -366,19 +366,17 @@ pub record CanWalkSections (ix log others : List ℕ) (g : WalkState) (b : Bytes
   pub room : Room g others mostCount
   pub short : length b ≤ mostMessageArea
 
--- a table that is a part of a message, which starts at `from`; `assembled` has room for a table in two pieces
-pub record CanTake (ix log others assembled : List ℕ) (g : WalkState) (m : Bytes) (p : Part) (from : ℕ) : Type 0 where
+-- a table that is a part of a message, which starts at `from`
+pub record CanTake (ix log others : List ℕ) (g : WalkState) (m : Bytes) (p : Part) (from : ℕ) : Type 0 where
   pub copies : Copies ix log others g
-  pub assembledLong : length assembled ≡ mostTableArea
   pub room : Room g others mostBefore
   pub lies : p .start + p .length ≤ length m
   pub few : p .length ≤ mostTableArea
   pub short : from + length m ≤ mostMessageArea
 
 -- tables of a message, or of its body, which starts at `from`
-pub record CanWalk (ix log others assembled : List ℕ) (g : WalkState) (m : Bytes) (from most : ℕ) : Type 0 where
+pub record CanWalk (ix log others : List ℕ) (g : WalkState) (m : Bytes) (from most : ℕ) : Type 0 where
   pub copies : Copies ix log others g
-  pub assembledLong : length assembled ≡ mostTableArea
   pub room : Room g others most
   pub short : from + length m ≤ mostMessageArea
 
