@@ -1,5 +1,5 @@
 -- Feeds: what pushing them leaves and gives, by the model.
-use Prim.Native.Nat.{ℕ, _+_}
+use Prim.Native.Nat.{ℕ}
 use mathlib.Core.Path.{_≡_, refl}
 use mathlib.Core.Bool.{false}
 use mathlib.Core.Option.{none, some}

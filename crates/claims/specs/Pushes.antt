@@ -1,5 +1,5 @@
 -- Pushes: the question that a packet fails, and what an accepted one hands out and leaves.
-use Prim.Native.Nat.{ℕ, _+_}
+use Prim.Native.Nat.{ℕ}
 use mathlib.Core.Path.{_≡_, refl}
 use mathlib.Core.List.{[], _∷_, _++_}
 use lib.ListN.{replicate}

@@ -1,7 +1,7 @@
 // Claims about the values that the libraries' contracts and definitions decide: theorems in specs/, and functions here where a
 // contract speaks for itself. Nothing is run.
 ghost use mathlib.Core.Path.{_≡_};
-ghost use lib.ListN.{take, drop, replicate};
+ghost use lib.ListN.{take, drop};
 ghost use Rattle.claims.specs.Session.{Refused};
 use isdb_mmt::decoder;
 use isdb_mmt::decoder::limits::Limits;

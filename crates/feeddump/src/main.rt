@@ -4,6 +4,7 @@ mod tables;
 use isdb_mmt::decoder;
 use isdb_mmt::decoder::limits::Limits;
 use isdb_text::dump_session;
+use isdb_text::window;
 use isdb_tlv::bytes;
 use isdb_tlv::cut;
 use isdb_tlv::cut::Cut;
@@ -37,7 +38,7 @@ fn limits() -> Limits {
 
 // Writes out the text in front of a place; the next stands at 0 again.
 fn write_text(text: &[u8; 65536], at: usize) -> usize {
-    io::write_all(1, bytes::part(text, 0, at));
+    stdio::write_text(text, at);
     0
 }
 
@@ -161,30 +162,6 @@ fn stopped(at: usize, packets: u64, text: usize, bad: bool) -> Passed {
     }
 }
 
-// Moves what lies from at to end to the front, and answers how much that is.
-fn to_front(window: &mut [u8; 131072], at: usize, end: usize) -> usize {
-    if end <= at {
-        return 0;
-    }
-    let left = end - at;
-    let mut i: usize = 0;
-    while i < left {
-        let x = bytes::get_u8(window, at + i);
-        bytes::put_u8(window, i, x);
-        i += 1;
-    }
-    left
-}
-
-// Reads more into a window that holds n bytes, and answers how many it holds then.
-fn read_behind(window: &mut [u8], n: usize) -> usize {
-    if window.len() <= n {
-        return n;
-    }
-    let got = libc::read(0, &mut window[n..]);
-    n + io::count(got, &window[n..])
-}
-
 // The line that says how reading ended: with n bytes left from base on.
 fn end_line(text: &mut [u8; 65536], at: usize, n: usize, base: u64, packets: u64) -> usize {
     let p = make_room(text, at);
@@ -212,7 +189,7 @@ fn read_all(
     let mut p: usize = 0;
     let mut turns = u64::MAX;
     while turns > 0 {
-        let m = read_behind(window, n);
+        let m = stdio::read_behind(window, n);
         if m <= n {
             return end_line(text, p, n, base, packets);
         }
@@ -236,7 +213,7 @@ fn read_all(
         if x.bad {
             return end_line(text, p, 1, base, packets);
         }
-        n = to_front(window, x.at, m);
+        n = window::to_front(window, x.at, m);
         turns -= 1;
     }
     p

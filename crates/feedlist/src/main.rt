@@ -3,6 +3,7 @@ ghost use Rattle.feedlist.specs.Pass.{StopsAt};
 use isdb_mmt::decoder;
 use isdb_mmt::decoder::limits::Limits;
 use isdb_text::listing;
+use isdb_text::window;
 use isdb_tlv::bytes;
 use isdb_tlv::cut;
 use isdb_tlv::cut::Cut;
@@ -78,30 +79,6 @@ fn pass(
     Passed::More(at)
 }
 
-// Moves what lies from at to end to the front, and answers how much that is.
-fn to_front(window: &mut [u8; 65536], at: usize, end: usize) -> usize {
-    if end <= at {
-        return 0;
-    }
-    let left = end - at;
-    let mut i: usize = 0;
-    while i < left {
-        let x = bytes::get_u8(window, at + i);
-        bytes::put_u8(window, i, x);
-        i += 1;
-    }
-    left
-}
-
-// Reads more into a window that holds n bytes, and answers how many it holds then.
-fn read_behind(window: &mut [u8], n: usize) -> usize {
-    if window.len() <= n {
-        return n;
-    }
-    let got = libc::read(0, &mut window[n..]);
-    n + io::count(got, &window[n..])
-}
-
 fn read_all(
     state: &mut [u8; 13144],
     others: &mut [u64; 256],
@@ -116,7 +93,7 @@ fn read_all(
     let mut n: usize = 0;
     let mut turns = u64::MAX;
     while turns > 0 {
-        let m = read_behind(window, n);
+        let m = stdio::read_behind(window, n);
         if m <= n {
             if n == 0 {
                 return Stop::Clean;
@@ -134,7 +111,7 @@ fn read_all(
             data,
         ) {
             Passed::More(at) => {
-                n = to_front(window, at, m);
+                n = window::to_front(window, at, m);
                 base = std::num::wrapping_add_u64(base, at as u64);
             }
             Passed::Bad(at) => return Stop::Bad(std::num::wrapping_add_u64(base, at as u64)),
@@ -156,7 +133,7 @@ fn report(
 ) {
     let mut text = [0u8; 4096];
     let n = listing::listing(state, others, objects, messages, tables, stop, &mut text, 0);
-    io::write_all(1, bytes::part(&text, 0, n));
+    stdio::write_text(&text, n);
 }
 
 fn main() {

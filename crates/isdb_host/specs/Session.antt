@@ -1,6 +1,5 @@
 -- The calls on a session, as a host sees them: the limits it gives, and what each call writes to the numbers of its answer.
 use Prim.Native.Nat.{ℕ}
-use mathlib.Core.Path.{_≡_}
 use mathlib.Core.Bool.{not}
 use mathlib.Core.List.{List, [], _∷_}
 use lib.ListN.{getD}

@@ -10,50 +10,36 @@ use Rattle.isdb_mmt.specs.declared.table.mpt.MptParsed.{MptParsed}
 use Rattle.isdb_mmt.specs.declared.table.mpt.Asset.{Asset}
 use Rattle.isdb_mmt.specs.declared.table.mpt.AssetStep.{AssetStep}
 use Rattle.isdb_mmt.specs.declared.table.mpt.AssetStep.the-variants.{Malformed as noAsset, Asset as oneAsset}
-use Rattle.isdb_mmt.specs.declared.table.plt.Plt.{Plt}
 use Rattle.isdb_mmt.specs.declared.table.plt.MaybePlt.{MaybePlt}
 use Rattle.isdb_mmt.specs.declared.table.plt.MaybePlt.the-variants.{None as noPlt, Some as somePlt}
-use Rattle.isdb_mmt.specs.declared.table.plt.Package.{Package}
 use Rattle.isdb_mmt.specs.declared.table.plt.PackageStep.{PackageStep}
 use Rattle.isdb_mmt.specs.declared.table.plt.PackageStep.the-variants.{Malformed as noPackage, Package as onePackage}
-use Rattle.isdb_mmt.specs.declared.table.plt.IpDelivery.{IpDelivery}
 use Rattle.isdb_mmt.specs.declared.table.plt.DeliveryStep.{DeliveryStep}
 use Rattle.isdb_mmt.specs.declared.table.plt.DeliveryStep.the-variants.{Malformed as noDelivery, Delivery as oneDelivery}
 use Rattle.isdb_mmt.specs.declared.table.section.SectionHeader.{SectionHeader}
-use Rattle.isdb_mmt.specs.declared.table.eit.Eit.{Eit}
 use Rattle.isdb_mmt.specs.declared.table.eit.EitResult.{EitResult}
 use Rattle.isdb_mmt.specs.declared.table.eit.EitResult.the-variants.{Ok as okEit, Err as noEit}
 use Rattle.isdb_mmt.specs.declared.table.eit.EitParsed.{EitParsed}
-use Rattle.isdb_mmt.specs.declared.table.eit.Event.{Event}
 use Rattle.isdb_mmt.specs.declared.table.eit.EventStep.{EventStep}
 use Rattle.isdb_mmt.specs.declared.table.eit.EventStep.the-variants.{End as noEvent, Malformed as brokenEvent, Event as oneEvent}
-use Rattle.isdb_mmt.specs.declared.table.sdt.Sdt.{Sdt}
 use Rattle.isdb_mmt.specs.declared.table.sdt.SdtResult.{SdtResult}
 use Rattle.isdb_mmt.specs.declared.table.sdt.SdtResult.the-variants.{Ok as okSdt, Err as noSdt}
 use Rattle.isdb_mmt.specs.declared.table.sdt.SdtParsed.{SdtParsed}
-use Rattle.isdb_mmt.specs.declared.table.sdt.SdtService.{SdtService}
 use Rattle.isdb_mmt.specs.declared.table.sdt.SdtStep.{SdtStep}
 use Rattle.isdb_mmt.specs.declared.table.sdt.SdtStep.the-variants.{End as noService, Malformed as brokenService, Service as oneService}
-use Rattle.isdb_mmt.specs.declared.table.bit.Bit.{Bit}
 use Rattle.isdb_mmt.specs.declared.table.bit.BitResult.{BitResult}
 use Rattle.isdb_mmt.specs.declared.table.bit.BitResult.the-variants.{Ok as okBit, Err as noBit}
 use Rattle.isdb_mmt.specs.declared.table.bit.BitParsed.{BitParsed}
-use Rattle.isdb_mmt.specs.declared.table.bit.Broadcaster.{Broadcaster}
 use Rattle.isdb_mmt.specs.declared.table.bit.BroadcasterStep.{BroadcasterStep}
 use Rattle.isdb_mmt.specs.declared.table.bit.BroadcasterStep.the-variants.{End as noBroadcaster, Malformed as brokenBroadcaster, Broadcaster as oneBroadcaster}
-use Rattle.isdb_mmt.specs.declared.table.nit.Nit.{Nit}
 use Rattle.isdb_mmt.specs.declared.table.nit.NitResult.{NitResult}
 use Rattle.isdb_mmt.specs.declared.table.nit.NitResult.the-variants.{Ok as okNit, Err as noNit}
-use Rattle.isdb_mmt.specs.declared.table.nit.NitStream.{NitStream}
 use Rattle.isdb_mmt.specs.declared.table.nit.StreamStep.{StreamStep}
 use Rattle.isdb_mmt.specs.declared.table.nit.StreamStep.the-variants.{End as noStream, Malformed as brokenStream, Stream as oneStream}
-use Rattle.isdb_mmt.specs.declared.table.amt.Amt.{Amt}
 use Rattle.isdb_mmt.specs.declared.table.amt.AmtResult.{AmtResult}
 use Rattle.isdb_mmt.specs.declared.table.amt.AmtResult.the-variants.{Ok as okAmt, Err as noAmt}
-use Rattle.isdb_mmt.specs.declared.table.amt.AmtService.{AmtService}
 use Rattle.isdb_mmt.specs.declared.table.amt.AmtStep.{AmtStep}
 use Rattle.isdb_mmt.specs.declared.table.amt.AmtStep.the-variants.{Malformed as noFlow, Service as oneFlow}
-use Rattle.isdb_mmt.specs.declared.table.tot.Tot.{Tot}
 use Rattle.isdb_mmt.specs.declared.table.tot.TotResult.{TotResult}
 use Rattle.isdb_mmt.specs.declared.table.tot.TotResult.the-variants.{Ok as okTot, Err as noTot}
 use Rattle.isdb_mmt.specs.declared.table.tot.TotParsed.{TotParsed}

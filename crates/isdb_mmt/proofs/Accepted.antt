@@ -1,6 +1,6 @@
 -- What an accepted push stores fits its fields, so that the session after it is the model's next state and has bytes alone; and so
 -- after every list of accepted pushes from an opened session. Assumes nothing.
-use Prim.Native.Nat.{ℕ, _+_, _-_, _*_, _≤_, _<_}
+use Prim.Native.Nat.{ℕ, _+_, _*_, _≤_, _<_}
 use mathlib.Core.Path.{_≡_, refl, ap, _∙_}
 use mathlib.Core.Bool.{true}
 use mathlib.Core.Option.{Option, none, some}

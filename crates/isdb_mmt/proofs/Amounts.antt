@@ -16,7 +16,7 @@ use Rattle.isdb_tlv.proofs.Guards.{cond-elim}
 use Rattle.isdb_mmt.specs.Formats.Part.{partAt, partOf}
 use Rattle.isdb_mmt.specs.Decoder.Packet.{Bytes}
 use Rattle.isdb_mmt.specs.Formats.Mpu.{unitStep, item, unitsFrom, unitsOf}
-use Rattle.isdb_mmt.specs.Formats.Message.{prefixWidth, aggregatedAt, bodyPart, paTables, sectionTable, contentOf, tableAt, Aggregated, aggregatedItem, aggregatedFrom, tableItem, tablesFrom}
+use Rattle.isdb_mmt.specs.Formats.Message.{prefixWidth, aggregatedAt, bodyPart, paTables, sectionTable, contentOf, tableAt, Aggregated, aggregatedItem, aggregatedFrom, tableItem, tablesFrom, alsoMessage}
 use Rattle.isdb_mmt.specs.Formats.Section.{length12, longSectionOf, inSection, entriesFrom, entriesTold}
 use Rattle.isdb_mmt.specs.Formats.Eit.{eitOf, eitBody}
 use Rattle.isdb_mmt.specs.Formats.Sdt.{sdtOf, sdtBody}
@@ -25,7 +25,7 @@ use Rattle.isdb_mmt.specs.Formats.Tot.{totOf, totFields}
 use Rattle.isdb_mmt.specs.Formats.Mpt.{mptOf, mptIn, mptTable as mptWhole, mptAssets, declaredLength, locationsEnd, behindLocation, assetFields, assetBehind, assetAt, assetItem, assetsFrom}
 use Rattle.isdb_mmt.specs.Formats.Location.{locationOf}
 use Rattle.isdb_mmt.specs.Decoder.Reassembly.{PartialMessage, TablesFound, partsOf, tablesIn, tablesOf, tablesOfAll, messagesOf, cutOf}
-use Rattle.isdb_mmt.specs.Decoder.Kept.{sectionOf, bodyRead, Body, Table, emptyTable, mptTable, pltTable, totTable, truncatedSection, aSection, otherTable, longTable, tableById, tableRead}
+use Rattle.isdb_mmt.specs.Decoder.Kept.{sectionOf, bodyRead, Body, Table, emptyTable, mptTable, pltTable, totTable, truncatedSection, aSection, otherTable, tableRead}
 use Rattle.isdb_mmt.specs.declared.part.Part.{Part}
 use Rattle.isdb_mmt.specs.declared.location.Located.{Located}
 use Rattle.isdb_mmt.specs.declared.location.Located.the-variants.{None as notLocated, Some as located}
@@ -52,6 +52,7 @@ use Rattle.isdb_mmt.specs.declared.table.mpt.AssetStep.the-variants.{Mal
 use Rattle.isdb_mmt.proofs.Units.{Inside, unit-inside}
 use Rattle.isdb_mmt.proofs.AggregatedMessages.{width-ge}
 use Rattle.isdb_mmt.proofs.Entries.{broken-le, breaks-le}
+use Rattle.isdb_mmt.proofs.TableKinds.{by-kinds}
 
 -- ---- a walk whose answer grows by no more than it moves ahead
 
@@ -71,6 +72,24 @@ module _ {R : Type 0} (size : R → ℕ) (n : ℕ) where
 
 -- ---- units
 
+-- what a unit adds is no more than the bytes that it takes
+module _ (s : Bytes) (timed aggregated : Bool) (size : Option (List DataUnit) → ℕ) (none-size : size none ≡ 0) (end-size : size (some []) ≡ 0)
+    (also-size : (at next : ℕ) (u : DataUnit) (o : Option (List DataUnit)) → Inside s at (found u next) → size (also u o) ≤ size o + (next - at)) where
+  unit-grows : (at : ℕ) (d : UnitStep) → Inside s at d → Grows size (length s) at (item d)
+  unit-grows at End w = omega (arith, end-size)
+  unit-grows at Malformed w = omega (arith, none-size)
+  unit-grows at (found u next) w = (
+    omega (arith, w .ahead),
+    w .within,
+    λ r. also-size at next u r w,
+  )
+
+  pub units-grow : size (unitsOf s timed aggregated) ≤ length s
+  unfolding unitsOf unitsFrom
+  units-grow =
+      let h = grows-within size (length s) (λ p. item (unitStep s timed aggregated p)) (λ p. none) (λ p. none-size) (λ p. unit-grows p (unitStep s timed aggregated p) (unit-inside s timed aggregated p)) (suc (length s)) 8 in
+      omega (arith, h)
+
 abbrev pub unitCount : Option (List DataUnit) → ℕ
 unitCount none = 0
 unitCount (some l) = length l
@@ -79,21 +98,8 @@ count-also : (u : DataUnit) (o : Option (List DataUnit)) → unitCount (also u o
 count-also u none = omega arith
 count-also u (some l) = omega arith
 
-module _ (s : Bytes) (timed aggregated : Bool) where
-  unit-grows : (at : ℕ) (d : UnitStep) → Inside s at d → Grows unitCount (length s) at (item d)
-  unit-grows at End w = omega arith
-  unit-grows at Malformed w = omega arith
-  unit-grows at (found u next) w = (
-    omega (arith, w .ahead),
-    w .within,
-    λ r. omega (arith, w .ahead, count-also u r),
-  )
-
-  pub units-le : unitCount (unitsOf s timed aggregated) ≤ length s
-  unfolding unitsOf unitsFrom
-  units-le =
-      let h = grows-within unitCount (length s) (λ p. item (unitStep s timed aggregated p)) (λ p. none) (λ p. refl) (λ p. unit-grows p (unitStep s timed aggregated p) (unit-inside s timed aggregated p)) (suc (length s)) 8 in
-      omega (arith, h)
+pub units-le : (s : Bytes) (timed aggregated : Bool) → unitCount (unitsOf s timed aggregated) ≤ length s
+units-le s timed aggregated = units-grow s timed aggregated unitCount refl refl (λ at next u o w. omega (arith, w .ahead, count-also u o))
 
 -- ---- messages and tables
 
@@ -153,38 +159,24 @@ module _ (s : Bytes) (long : Bool) where
   aggregated-le =
       omega (arith, grows-within spread (length s) (λ p. aggregatedItem (aggregatedAt s long p)) (λ p. record { found = []; malformed = 0 }) (λ p. refl) aggregated-grows (suc (length s)) 0)
 
-module _ (s : Bytes) where
-  table-counts : (at : ℕ) → Grows count (length s) at (tableItem (tableAt s at))
+-- what a table adds is no more than its bytes, of which there are four at least
+module _ (s : Bytes) (size : Aggregated → ℕ) (end-size : size (record { found = []; malformed = 0 }) ≡ 0) (bad-size : size (record { found = []; malformed = 1 }) ≤ 1)
+    (also-size : (p : Part) (l : Aggregated) → 4 ≤ p .length → size (alsoMessage p l) ≤ size l + p .length) where
+  table-grows : (at : ℕ) → Grows size (length s) at (tableItem (tableAt s at))
   unfolding tableAt
-  table-counts at =
+  table-grows at =
       let n = be 2 s (at + 2) + 4 in
-      let G : TableStep → Type 0 = λ d. Grows count (length s) at (tableItem d) in
-      cond-elim G (ltb (length s - at) 4) (λ e. omega arith) (λ e.
+      let G : TableStep → Type 0 = λ d. Grows size (length s) at (tableItem d) in
+      cond-elim G (ltb (length s - at) 4) (λ e. omega (arith, end-size)) (λ e.
       let a = ltb-false (length s - at) 4 e in
-      cond-elim G (ltb (length s - at) n) (λ d. omega arith) (λ d.
+      cond-elim G (ltb (length s - at) n) (λ d. omega (arith, bad-size)) (λ d.
       let b = ltb-false (length s - at) n d in
-      (omega arith, omega arith, λ r. omega arith)))
+      (omega arith, omega arith, λ r. omega (arith, also-size (partAt at n) r (omega arith)))))
 
-  table-covers : (at : ℕ) → Grows covered (length s) at (tableItem (tableAt s at))
-  unfolding tableAt
-  table-covers at =
-      let n = be 2 s (at + 2) + 4 in
-      let G : TableStep → Type 0 = λ d. Grows covered (length s) at (tableItem d) in
-      cond-elim G (ltb (length s - at) 4) (λ e. omega arith) (λ e.
-      let a = ltb-false (length s - at) 4 e in
-      cond-elim G (ltb (length s - at) n) (λ d. omega arith) (λ d.
-      let b = ltb-false (length s - at) n d in
-      (omega arith, omega arith, λ r. omega arith)))
-
-  tables-count : (at : ℕ) → count (tablesFrom s at) ≤ length s
+  tables-grow : (at : ℕ) → size (tablesFrom s at) ≤ length s
   unfolding tablesFrom
-  tables-count at =
-      omega (arith, grows-within count (length s) (λ p. tableItem (tableAt s p)) (λ p. record { found = []; malformed = 0 }) (λ p. refl) table-counts (suc (length s)) at)
-
-  tables-cover : (at : ℕ) → covered (tablesFrom s at) ≤ length s
-  unfolding tablesFrom
-  tables-cover at =
-      omega (arith, grows-within covered (length s) (λ p. tableItem (tableAt s p)) (λ p. record { found = []; malformed = 0 }) (λ p. refl) table-covers (suc (length s)) at)
+  tables-grow at =
+      omega (arith, grows-within size (length s) (λ p. tableItem (tableAt s p)) (λ p. record { found = []; malformed = 0 }) (λ p. end-size) table-grows (suc (length s)) at)
 
 -- of a message: its tables, their bytes, what is malformed
 pub record Fills (n bad : ℕ) (c : TablesFound) : Type 0 where
@@ -218,8 +210,8 @@ fills-in m Nothing l = record { many = omega arith; long = omega arith; malforme
 fills-in m (oneTable p) l = record { many = l; long = omega (arith, part-in m p); malformed = omega arith }
 fills-in m (Tables p at) l =
     let b = partOf m p in
-    let h = tables-count b at in
-    let k = tables-cover b at in
+    let h = tables-grow b count refl (omega arith) (λ p l w. omega arith) at in
+    let k = tables-grow b covered refl (omega arith) (λ p l w. omega arith) at in
     record {
       many = omega (arith, h, part-in m p, length-parts b (tablesFrom b at .found));
       long = omega (arith, k, part-in m p, total-parts b (tablesFrom b at .found));
@@ -404,18 +396,15 @@ unfolding sectionOf
 section-breaks b = body-breaks (getD b 0 0) b
 
 pub table-breaks : (b : Bytes) → breaksOf (tableRead b) ≤ length b
-unfolding tableRead tableById mptOf
+unfolding mptOf
 table-breaks b =
-    let P : Table → Type 0 = λ t. breaksOf t ≤ length b in
-    let id = getD b 0 0 in
-    let long : P (longTable b) = cond-elim P (ltb (length b) 7) (λ e. omega arith) (λ e. section-breaks b) in
-    cond-elim P (eqb (length b) 0) (λ e. omega arith) (λ e.
-    cond-elim P (ltb id 0x11) (λ e. omega arith) (λ e.
-    cond-elim P (leb id 0x20) (λ e. mpt-in b (declaredLength b)) (λ e.
-    cond-elim P (eqb id 0x80) (λ e. omega arith) (λ e.
-    cond-elim P (eqb id 0xA1) (λ e. tot-breaks b) (λ e.
-    cond-elim P (ltb id 0x8B) (λ e. omega arith) (λ e.
-    cond-elim P (leb id 0x9B) (λ e. long) (λ e.
-    cond-elim P (eqb id 0x9D) (λ e. long) (λ e.
-    cond-elim P (eqb id 0x9F) (λ e. long) (λ e.
-    cond-elim P (eqb id 0xA0) (λ e. long) (λ e. omega arith))))))))))
+    by-kinds (λ (t : Table). breaksOf t ≤ length b) b
+    (record {
+      empty = omega arith;
+      mpt = λ l h. mpt-in b (declaredLength b);
+      plt = omega arith;
+      tot = tot-breaks b;
+      truncated = omega arith;
+      section = section-breaks b;
+      others = omega arith;
+    })

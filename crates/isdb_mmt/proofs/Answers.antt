@@ -24,7 +24,7 @@ use Rattle.isdb_mmt.specs.declared.decoder.media.Media.{Media}
 use Rattle.isdb_mmt.specs.declared.decoder.reassembler.MediaEffect.{MediaEffect}
 use Rattle.isdb_mmt.specs.declared.decoder.reassembler.MediaOutcome.{MediaOutcome}
 use Rattle.isdb_mmt.specs.declared.decoder.records.Answer.{Answer}
-use Rattle.isdb_mmt.proofs.MediaEffects.{one-le}
+use Rattle.isdb_mmt.proofs.Maps.{one-le}
 
 -- ---- the place
 

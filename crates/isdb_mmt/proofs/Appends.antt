@@ -20,7 +20,7 @@ use Rattle.isdb_mmt.specs.declared.mpu.UnitStep.{UnitStep}
 use Rattle.isdb_mmt.specs.declared.mpu.UnitStep.the-variants.{End, Malformed as notWhole, Unit as found}
 use Rattle.isdb_mmt.proofs.Lent.{length-over, over-next, over-none}
 use Rattle.isdb_mmt.proofs.Names.{true-not-false}
-use Rattle.isdb_mmt.proofs.Units.{units-at}
+use Rattle.isdb_mmt.proofs.Units.{units-at, units-also, whole-behind}
 use Rattle.isdb_mmt.proofs.MediaEffects.{data-ahead}
 
 module _ (q : Bytes) (timed aggregated : Bool) (from : ℕ) (l₀ : Bytes) where
@@ -71,12 +71,7 @@ module _ (q : Bytes) (timed aggregated : Bool) (from : ℕ) (l₀ : Bytes) where
       unitBytes = partOf q (u .«data»)
 
       also-is : unitsFrom q timed aggregated at ≡ also u (unitsFrom q timed aggregated next)
-      also-is = rw (units-at q timed aggregated at, ← ex, e)
-
-      whole-next : (o : Option (List DataUnit)) → isSome (also u o) ≡ true → isSome o ≡ true
-      unfolding isSome
-      whole-next none h = h
-      whole-next (some us) h = refl
+      also-is = units-also q timed aggregated at next u x ex e
 
       data-cons : (o : Option (List DataUnit)) → isSome (also u o) ≡ true → unitsData q (also u o) ≡ unitBytes ++ unitsData q o
       unfolding isSome unitsData dataIn
@@ -120,7 +115,7 @@ module _ (q : Bytes) (timed aggregated : Bool) (from : ℕ) (l₀ : Bytes) where
               within = omega (arith, a .1 .1, g .long);
               behind = omega (arith, g .behind, a .0, n);
               low = g .low;
-              whole = whole-next (unitsFrom q timed aggregated next) (rw also-is at (g .whole));
+              whole = whole-behind u (unitsFrom q timed aggregated next) (rw also-is at (g .whole));
               same = ln ∙ g .same;
               fits = omega (arith, g .fits, data-length, ln, n);
               rest = rw n w;

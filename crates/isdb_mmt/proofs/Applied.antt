@@ -1,5 +1,5 @@
 -- One step on the copies: one law for each return of `note`. Assumes nothing.
-use Prim.Native.Nat.{ℕ, zero, suc, _+_, _-_, _*_, _≤_, _<_, max}
+use Prim.Native.Nat.{ℕ, zero, suc, _+_, _*_, _≤_, _<_, max}
 use mathlib.Core.Path.{_≡_, refl, sym, ap, _∙_}
 use mathlib.Core.Logic.{inr}
 use mathlib.Core.Bool.{true, false}
@@ -30,7 +30,7 @@ use Rattle.isdb_mmt.specs.declared.decoder.table_outcome.TableAction.the
 use Rattle.isdb_mmt.specs.declared.decoder.table_outcome.TableOutcome.{TableOutcome}
 use Rattle.isdb_mmt.specs.declared.decoder.walk.WalkState.{WalkState}
 use Rattle.isdb_mmt.specs.Pushes.TableOutcome.{indexSize, indexOf}
-use Rattle.isdb_mmt.specs.Pushes.PendingTables.{mostAdded, mostBefore, Logged, logged, withLog, placesOf, PendingTables, pendingOf, recent, putAt, indexAfter, othersAfter, mptAfter, pltAfter, totAfter, keptLength, pendingAfter, Room, PutWithin, CanApply, CanCount, countedBy, keptWith, filled, usedWith, WalkedTo, Applied}
+use Rattle.isdb_mmt.specs.Pushes.PendingTables.{mostByTable, mostBefore, Logged, logged, withLog, placesOf, PendingTables, pendingOf, recent, putAt, indexAfter, othersAfter, mptAfter, pltAfter, totAfter, keptLength, pendingAfter, Room, PutWithin, CanApply, countedBy, keptWith, filled, usedWith, WalkedTo, Applied}
 use Rattle.isdb_mmt.proofs.TableOutcomes.{length-index}
 
 -- ---- an index with its log
@@ -121,6 +121,18 @@ getD-most l i k most h =
     (λ e. rw (getD-set-other l i k (getD l i 0 + 1) 0 (eqb-false k i e)) (omega (arith, h k))))
     (λ t. rw (set-out l i (getD l i 0 + 1) (ltb-false i (length l) t)) (omega (arith, h k)))
 
+pub room-more : (g : WalkState) (others : List ℕ) (n k : ℕ) → n ≤ k → Room g others n → Room g others k
+room-more g others n k h r =
+    record {
+      tables = omega (arith, r .tables);
+      «crc_errors» = omega (arith, r .«crc_errors»);
+      malformed = omega (arith, r .malformed);
+      changes = omega (arith, r .changes);
+      breaks = omega (arith, r .breaks);
+      bad = omega (arith, r .bad);
+      each = λ j. omega (arith, r .each j);
+    }
+
 abbrev appliedBy : PendingTables → TableOutcome → TableAction → ℕ → PendingTables
 appliedBy d t z f =
     record {
@@ -141,23 +153,13 @@ module _ (ix log others : List ℕ) (g : WalkState) (t : TableOutcome) (f : ℕ)
   abbrev d : PendingTables
   d = pendingOf ix log others g
 
-  pub can-count : CanCount g t
-  can-count =
-      record {
-        tables = can .room .tables;
-        «crc_errors» = omega (arith, can .room .«crc_errors», can .told .«crc_errors»);
-        malformed = omega (arith, can .room .malformed, can .told .malformed);
-        changes = omega (arith, can .room .changes, can .told .changes);
-        breaks = omega (arith, can .room .breaks, can .told .breaks);
-      }
-
   pub can-other : (id : ℕ) → (length others ≡ tableIds) × (getD others id 0 ≤ mostBefore)
   can-other id = (can .copies .othersLong, can .room .each id)
 
   room-of : (r : WalkState) (os : List ℕ) → r .tables ≡ g .tables + 1 → r .«crc_errors» ≡ g .«crc_errors» + t .«crc_errors»
       → r .malformed ≡ g .malformed + t .malformed → r .«version_changes» ≡ g .«version_changes» + t .«version_changes»
       → r .«split_errors» ≡ g .«split_errors» + t .breaks → r .«message_malformed» ≡ g .«message_malformed» → ((most k : ℕ) → Room g others most → getD os k 0 ≤ most + 1)
-      → (most : ℕ) → Room g others most → Room r os (most + 1 * mostAdded)
+      → (most : ℕ) → Room g others most → Room r os (most + 1 * mostByTable)
   room-of r os e0 e1 e2 e3 e4 e5 each most m =
       record {
         tables = omega (arith, m .tables);
@@ -176,17 +178,7 @@ module _ (ix log others : List ℕ) (g : WalkState) (t : TableOutcome) (f : ℕ)
   apply-stays e =
       record {
         to = record { stays = λ z. z; over = λ z y. true-not-false (g .full) e z; now = λ z. true-not-false (g .full) e z; used = can .copies .used };
-        room =
-            λ most m.
-            record {
-              tables = omega (arith, m .tables);
-              «crc_errors» = omega (arith, m .«crc_errors»);
-              malformed = omega (arith, m .malformed);
-              changes = omega (arith, m .changes);
-              breaks = omega (arith, m .breaks);
-              bad = omega (arith, m .bad);
-              each = λ k. omega (arith, m .each k);
-            };
+        room = λ most m. room-more g others most (most + 1 * mostByTable) (omega arith) m;
         bad = refl;
       }
 

@@ -6,7 +6,7 @@ use mathlib.Core.Bool.{Bool, true, false, not}
 use mathlib.Core.Option.{Option, none, some}
 use mathlib.Core.List.{List, [], _∷_, _++_, map}
 use native.Mathlib.Omega.{arith}
-use lib.ListN.{length, getD, take, drop, replicate, length-take, length-drop, List·getD-eq-default}
+use lib.ListN.{length, getD, take, drop, replicate, length-take, List·getD-eq-default, length-map}
 use lib.Seq.{getD-take, getD-drop}
 use lib.Dec.{ltb, eqb}
 use borrow.Author.Tests.{ltb-true, ltb-false}
@@ -46,6 +46,7 @@ use Rattle.isdb_mmt.specs.declared.decoder.limits.Limits.{Limits}
 use Rattle.isdb_mmt.specs.Memory.Layout.{usedPlace, stateSize}
 use Rattle.isdb_mmt.specs.Memory.Octets.{Octets, Lent}
 use Rattle.isdb_mmt.proofs.Amounts.{Grows, grows-within, units-le, unitCount, total}
+use Rattle.isdb_mmt.proofs.Smallness.{take-small, drop-small}
 
 -- ---- bytes
 
@@ -118,22 +119,12 @@ Plain (message c) = (length (c .payload) < 65536) × Octets (c .payload)
 Plain (control bs) = (length bs < 65536) × (total bs < 65536) × AllOctets bs
 Plain other = Unit {0}
 
-take-short : (n : ℕ) (b : Bytes) → length b < 65536 → length (take n b) < 65536
-take-short n b l = omega (arith, length-take n b)
-
-drop-short : (n : ℕ) (b : Bytes) → length b < 65536 → length (drop n b) < 65536
-drop-short n b l = omega (arith, length-drop n b)
-
 -- a media payload
-
-length-payload-units : (h : PayloadHeader) (q : Bytes) (us : List DataUnit) → length (map (payloadUnit h q) us) ≡ length us
-length-payload-units h q [] = refl
-length-payload-units h q (u ∷ us) = omega (arith, length-payload-units h q us)
 
 clear-payload-units : (h : PayloadHeader) (q : Bytes) (o : Option (List DataUnit)) → unitCount o < 65536 → length (clear false (payloadUnits h q o)) < 65536
 unfolding clear
 clear-payload-units h q none l = omega arith
-clear-payload-units h q (some us) l = omega (arith, length-payload-units h q us)
+clear-payload-units h q (some us) l = omega (arith, length-map us (payloadUnit h q))
 
 clear-units : (h : PayloadHeader) (t : FragmentType) (q : Bytes) → length q < 65536 → length (clear false (unitsFor h t q)) < 65536
 unfolding clear
@@ -148,7 +139,7 @@ unfolding clear
 clear-read true payload o l = omega arith
 clear-read false payload none l = omega arith
 clear-read false payload (some h) l =
-    clear-units h (h .«fragment_type») (declaredOf payload) (take-short (be 2 payload 0 + 2) payload l)
+    clear-units h (h .«fragment_type») (declaredOf payload) (take-small (be 2 payload 0 + 2) payload l)
 
 media-plain : (h : Header) (payload : Bytes) → length payload < 65536 → length (readable (mediaOf h payload)) < 65536
 unfolding readable mediaOf
@@ -159,9 +150,6 @@ media-plain h payload l = clear-read (h .«scramble_info») payload (headerIn (p
 abbrev lengths : List Found → ℕ
 lengths [] = 0
 lengths (x ∷ l) = x .size + lengths l
-
-abbrev amount : List Found → ℕ
-amount l = length l
 
 module _ (s : Bytes) where
   abbrev Here : ℕ → MaybeSection → Type 0
@@ -181,33 +169,27 @@ module _ (s : Bytes) where
       let b = ltb-false (length s - at) n e3 in
       (omega arith, omega arith))))))
 
-  covers : (at : ℕ) → 3 ≤ length s - at → (m : MaybeSection) → Here at m → Grows lengths (length s) at (found at m)
-  covers at h noSection w = (omega arith, omega arith, λ r. omega arith)
-  covers at h (oneSection x) w = (omega arith, omega (arith, w .1), λ r. omega arith)
+  -- what a section adds is no more than its bytes
+  module _ (size : List Found → ℕ) (end-size : size [] ≡ 0) (also-size : (x : Found) (l : List Found) → 1 ≤ x .size → size (x ∷ l) ≤ size l + x .size) where
+    section-grows : (at : ℕ) → 3 ≤ length s - at → (m : MaybeSection) → Here at m → Grows size (length s) at (found at m)
+    section-grows at h noSection w = (omega arith, omega arith, λ r. omega arith)
+    section-grows at h (oneSection x) w = (omega arith, omega (arith, w .1), λ r. omega (arith, also-size x r (w .0)))
 
-  counts : (at : ℕ) → 3 ≤ length s - at → (m : MaybeSection) → Here at m → Grows amount (length s) at (found at m)
-  counts at h noSection w = (omega arith, omega arith, λ r. omega arith)
-  counts at h (oneSection x) w = (omega arith, omega (arith, w .1), λ r. omega (arith, w .0))
+    sections-grow : size (sectionsOf s) ≤ length s
+    unfolding sectionsOf sectionsFrom
+    sections-grow =
+        omega (
+          arith,
+          grows-within size (length s) (scanAt s) (λ p. []) (λ p. end-size)
+              (λ at. cond-elim (Grows size (length s) at) (ltb (length s - at) 3) (λ e. omega (arith, end-size)) (λ e. section-grows at (ltb-false (length s - at) 3 e) (sectionAt s at) (here at)))
+              (suc (length s)) 0,
+        )
 
   sections-cover : lengths (sectionsOf s) ≤ length s
-  unfolding sectionsOf sectionsFrom
-  sections-cover =
-      omega (
-        arith,
-        grows-within lengths (length s) (scanAt s) (λ p. []) (λ p. refl)
-            (λ at. cond-elim (Grows lengths (length s) at) (ltb (length s - at) 3) (λ e. omega arith) (λ e. covers at (ltb-false (length s - at) 3 e) (sectionAt s at) (here at)))
-            (suc (length s)) 0,
-      )
+  sections-cover = sections-grow lengths refl (λ x l h. omega arith)
 
   sections-count : length (sectionsOf s) ≤ length s
-  unfolding sectionsOf sectionsFrom
-  sections-count =
-      omega (
-        arith,
-        grows-within amount (length s) (scanAt s) (λ p. []) (λ p. refl)
-            (λ at. cond-elim (Grows amount (length s) at) (ltb (length s - at) 3) (λ e. omega arith) (λ e. counts at (ltb-false (length s - at) 3 e) (sectionAt s at) (here at)))
-            (suc (length s)) 0,
-      )
+  sections-count = sections-grow (λ (l : List Found). length l) refl (λ x l h. omega arith)
 
   abbrev cutOut : List Found → List Bytes
   cutOut l = map (λ x. take (x .size) (drop (x .offset) s)) l
@@ -215,10 +197,6 @@ module _ (s : Bytes) where
   total-cut : (l : List Found) → total (cutOut l) ≤ lengths l
   total-cut [] = omega arith
   total-cut (x ∷ l) = omega (arith, total-cut l, length-take (x .size) (drop (x .offset) s))
-
-  length-cut : (l : List Found) → length (cutOut l) ≡ length l
-  length-cut [] = refl
-  length-cut (x ∷ l) = omega (arith, length-cut l)
 
   octets-cut : Octets s → (l : List Found) → AllOctets (cutOut l)
   octets-cut o [] = tt
@@ -236,7 +214,7 @@ type-plain h payload (Reserved c) l o = tt
 mmtp-plain : (b : Bytes) (p : Parsed) → length b < 65536 → Octets b → Plain (mmtpIn b p)
 mmtp-plain b notMmtp l o = tt
 mmtp-plain b (someMmtp p) l o =
-    type-plain (p .header) (drop (p .start) b) (p .header .«payload_type») (drop-short (p .start) b l) (octets-drop (p .start) b o)
+    type-plain (p .header) (drop (p .start) b) (p .header .«payload_type») (drop-small (p .start) b l) (octets-drop (p .start) b o)
 
 port-plain : (b : Bytes) (port : ℕ) → length b < 65536 → Octets b → Plain (toPort b port)
 port-plain b port l o = cond-elim Plain (port =? 123) (λ e. tt) (λ e. mmtp-plain b (mmtpOf b) l o)
@@ -247,14 +225,14 @@ flow-plain b (someFlow f) l o = port-plain b (f .dport) l o
 
 datagram-plain : (b : Bytes) (r : IpResult) → length b < 65536 → Octets b → Plain (datagramIn b r)
 datagram-plain b (Err e) l o = tt
-datagram-plain b (Ok d) l o = flow-plain (drop (d .start) b) (d .flow) (drop-short (d .start) b l) (octets-drop (d .start) b o)
+datagram-plain b (Ok d) l o = flow-plain (drop (d .start) b) (d .flow) (drop-small (d .start) b l) (octets-drop (d .start) b o)
 
 kind-plain : (b : Bytes) (k : PacketType) → length b < 65536 → Octets b → Plain (byKind b k)
 kind-plain b Ipv4 l o = datagram-plain b (ipv4Of b) l o
 kind-plain b Ipv6 l o = datagram-plain b (ipv6Of b) l o
 kind-plain b Compressed l o = datagram-plain b (compressedOf b) l o
 kind-plain b Control l o = (
-  omega (arith, length-cut b (sectionsOf b), sections-count b),
+  omega (arith, length-map (sectionsOf b) (λ (x : Found). take (x .size) (drop (x .offset) b)), sections-count b),
   omega (arith, total-cut b (sectionsOf b), sections-cover b),
   octets-cut b o (sectionsOf b),
 )

@@ -4,7 +4,7 @@ use mathlib.Core.Path.{_≡_, refl, sym, ap, _∙_}
 use mathlib.Core.Bool.{true, false, not}
 use mathlib.Core.List.{List, [], _∷_, _++_, map}
 use native.Mathlib.Omega.{arith}
-use native.Mathlib.Nat.{add-zero, mul-le-mul-right}
+use native.Mathlib.Nat.{add-zero, mul-le-mul-right, zero-add}
 use lib.Dec.{eqb}
 use lib.Seq.{drop-cons, length-take-le}
 use native.Mathlib.Numerals.{add-one}
@@ -13,7 +13,7 @@ use borrow.Author.Tests.{eqb-false, eq-eqb, ne-eqb, not-true, not-false}
 use Rattle.isdb_tlv.proofs.Guards.{either}
 use Rattle.isdb_mmt.specs.Decoder.Packet.{Bytes}
 use Rattle.isdb_mmt.specs.Memory.Lent.{part, over, indexed, placesFrom}
-use Rattle.isdb_mmt.specs.Memory.Layout.{usedPlace, sectionPlaces, sectionSize}
+use Rattle.isdb_mmt.specs.Memory.Layout.{usedPlace, sectionPlaces, sectionSize, mostSections}
 use Rattle.isdb_mmt.specs.Memory.Session.{usedFields, sectionPlaceOf}
 use Rattle.isdb_mmt.specs.Pushes.MediaPush.{withUsed}
 use Rattle.isdb_tlv.specs.Fields.{written}
@@ -274,7 +274,7 @@ unfolding indexOf
 logged-all used ix log h = logged-are used 0 ix log (omega arith)
 
 -- each of the places that are logged
-pub all-each : (area : ℕ) (m : Bytes) (ix log : List ℕ) (n k : ℕ) → AllFit area m (loggedFrom n k ix log) → (i : ℕ) → i < n
+all-each : (area : ℕ) (m : Bytes) (ix log : List ℕ) (n k : ℕ) → AllFit area m (loggedFrom n k ix log) → (i : ℕ) → i < n
     → EntryFits area m (record { place = placeAt ix (k + i); from = getD log (k + i) 0 })
 unfolding loggedFrom
 all-each area m ix log zero k f i h = absurd (omega arith)
@@ -282,6 +282,18 @@ all-each area m ix log (suc n) k f zero h = rw (add-zero k) (f .0)
 all-each area m ix log (suc n) k f (suc i) h =
     let e : k + 1 + i ≡ k + suc i = omega arith in
     rw (← e) (all-each area m ix log n (k + 1) (f .1) i (omega arith))
+
+-- sections that fit their areas, logged behind each other
+pub store-can : (tables ix log : List ℕ) (used area : ℕ) (m : Bytes) → used ≤ mostSections → used ≤ length log → used * area ≤ length tables
+    → AllFit area m (withLog (indexOf used ix) log) → CanStore tables ix log used area m
+store-can tables ix log used area m few logs room f =
+    let e : loggedFrom used 0 ix log ≡ withLog (indexOf used ix) log = logged-all used ix log logs in
+    record {
+      few = few;
+      logs = logs;
+      room = room;
+      each = λ i h. rw (zero-add i) at (all-each area m ix log used 0 (rw e f) i h);
+    }
 
 -- ---- all areas
 

@@ -1,5 +1,5 @@
 -- The walk over the index and its log is the model's walk. Assumes nothing.
-use Prim.Native.Nat.{ℕ, zero, suc, _+_, _-_, _*_, _≤_, _<_, max}
+use Prim.Native.Nat.{ℕ, zero, suc, _+_, _-_, _*_, _<_, max}
 use mathlib.Core.Path.{_≡_, refl, sym, ap, _∙_}
 use mathlib.Core.Bool.{Bool, true, false, not, cond, _&&_}
 use mathlib.Core.Option.{Option, none, some}
@@ -7,9 +7,9 @@ use mathlib.Core.List.{List, [], _∷_, _++_, map}
 use native.Mathlib.Omega.{arith}
 use native.Mathlib.Nat.{add-zero, zero-add}
 use lib.Dec.{eqb}
-use lib.ListN.{length, getD, take, set}
+use lib.ListN.{length, getD, take, set, length-map}
 use borrow.Author.Tests.{ne-eqb, lt-ltb, le-ltb}
-use Rattle.isdb_tlv.specs.Guards.{_<?_, _≤?_, _=?_}
+use Rattle.isdb_tlv.specs.Guards.{_=?_}
 use Rattle.isdb_tlv.specs.Bytes.{be}
 use Rattle.isdb_tlv.proofs.Guards.{cond-elim}
 use Rattle.isdb_mmt.specs.declared.decoder.counts.Counters.{Counters}
@@ -17,7 +17,7 @@ use Rattle.isdb_mmt.specs.Decoder.Packet.{Bytes}
 use Rattle.isdb_mmt.specs.Decoder.Maps.{find, put, one, isSome}
 use Rattle.isdb_mmt.specs.Memory.Lent.{foundFrom, indexed}
 use Rattle.isdb_mmt.specs.Formats.Section.{length12}
-use Rattle.isdb_mmt.specs.Decoder.Kept.{Section, sectionOf, Kept, Table, emptyTable, mptTable, pltTable, totTable, truncatedSection, aSection, otherTable, otherVersion, keepIf, keep, tableCounted, sectionIncrements, changes, tableIncrements, mptAfter, stored, tableById, tableRead, longTable}
+use Rattle.isdb_mmt.specs.Decoder.Kept.{Section, sectionOf, Kept, Table, emptyTable, mptTable, pltTable, totTable, truncatedSection, aSection, otherTable, otherVersion, keepIf, keep, tableCounted, sectionIncrements, changes, tableIncrements, mptAfter, stored, tableRead}
 use Rattle.isdb_mmt.specs.Decoder.Needs.{tableArea}
 use Rattle.isdb_mmt.specs.declared.decoder.place.Found.{Found}
 use Rattle.isdb_mmt.specs.declared.decoder.place.Found.the-variants.{At, Nothing as notFound}
@@ -32,6 +32,7 @@ use Rattle.isdb_mmt.specs.Pushes.TableOutcome.{keysOf, noSection, outcom
 use Rattle.isdb_mmt.specs.Pushes.PendingTables.{sectionRead, mptAfter as recentMpt, pltAfter as recentPlt, Logged, logged, placesOf, PendingTables, recent, putAt, pendingAfter, pendingWith, pendingWithAll, bytesAt, committedEntry, committedKept, committedRecent, Areas, committed, VersionOf, Versions}
 use Rattle.isdb_mmt.proofs.Placing.{part-located}
 use Rattle.isdb_mmt.proofs.TableOutcomes.{found-within}
+use Rattle.isdb_mmt.proofs.TableKinds.{by-kinds}
 
 -- ---- where the bytes of a table that is kept stand
 
@@ -44,40 +45,29 @@ TableAt m at truncatedSection = Unit {0}
 TableAt m at (aSection x) = PlacedAt m at (x .bytes)
 TableAt m at (otherTable id) = Unit {0}
 
-module _ (m : Bytes) (at : ℕ) (b : Bytes) (h : PlacedAt m at b) where
-  declared : (n : ℕ) → PlacedAt m at (take n b)
-  declared n = rw add-zero at (part-located m at b (record { start = 0; length = n }) h)
+declared : (m : Bytes) (at : ℕ) (b : Bytes) → PlacedAt m at b → (n : ℕ) → PlacedAt m at (take n b)
+declared m at b h n = rw add-zero at (part-located m at b (record { start = 0; length = n }) h)
 
-  section-located : PlacedAt m at (sectionOf b .bytes)
-  unfolding sectionOf
-  section-located = declared (length12 b 1 + 3)
-
-  long-located : TableAt m at (longTable b)
-  long-located = cond-elim (TableAt m at) (length b <? 7) (λ e. tt) (λ e. section-located)
-
-  id-located : (id : ℕ) → TableAt m at (tableById id b)
-  unfolding tableById
-  id-located id =
-      cond-elim (TableAt m at) (id <? 0x11) (λ e. tt) (λ e0.
-      cond-elim (TableAt m at) (id ≤? 0x20) (λ e. declared (be 2 b 2 + 4)) (λ e1.
-      cond-elim (TableAt m at) (id =? 0x80) (λ e. declared (be 2 b 2 + 4)) (λ e2.
-      cond-elim (TableAt m at) (id =? 0xA1) (λ e. declared (length12 b 1 + 3)) (λ e3.
-      cond-elim (TableAt m at) (id <? 0x8B) (λ e. tt) (λ e4.
-      cond-elim (TableAt m at) (id ≤? 0x9B) (λ e. long-located) (λ e5.
-      cond-elim (TableAt m at) (id =? 0x9D) (λ e. long-located) (λ e6.
-      cond-elim (TableAt m at) (id =? 0x9F) (λ e. long-located) (λ e7.
-      cond-elim (TableAt m at) (id =? 0xA0) (λ e. long-located) (λ e8. tt)))))))))
-
-  read-located : TableAt m at (tableRead b)
-  unfolding tableRead
-  read-located = cond-elim (TableAt m at) (length b =? 0) (λ e. tt) (λ e. id-located (getD b 0 0))
+section-located : (m : Bytes) (at : ℕ) (b : Bytes) → PlacedAt m at b → PlacedAt m at (sectionOf b .bytes)
+unfolding sectionOf
+section-located m at b h = declared m at b h (length12 b 1 + 3)
 
 -- a way to read tables keeps bytes that stand there
 abbrev pub ReadPlaced : (Bytes → Table) → Type 0
 ReadPlaced read = (m : Bytes) (at : ℕ) (b : Bytes) → PlacedAt m at b → TableAt m at (read b)
 
 pub tables-located : ReadPlaced tableRead
-tables-located m at b h = read-located m at b h
+tables-located m at b h =
+    by-kinds (TableAt m at) b
+    (record {
+      empty = tt;
+      mpt = λ l k. declared m at b h (be 2 b 2 + 4);
+      plt = declared m at b h (be 2 b 2 + 4);
+      tot = declared m at b h (length12 b 1 + 3);
+      truncated = tt;
+      section = section-located m at b h;
+      others = tt;
+    })
 
 pub sections-located : ReadPlaced sectionRead
 sections-located m at b h = section-located m at b h
@@ -116,10 +106,6 @@ module _ (m : Bytes) (a : Areas) (c : Counters) (d : PendingTables) (at : ℕ) w
   abbrev kepts : List Logged → List (ℕ × Kept)
   kepts l = committedKept m (a .bytes) (a .area) l
 
-  length-map : (l : List Logged) → length (placesOf l) ≡ length l
-  length-map [] = refl
-  length-map (e ∷ l) = ap suc (length-map l)
-
   keys-map : (l : List Logged) → map (λ (e : Logged). e .place .key) l ≡ keysOf (placesOf l)
   keys-map [] = refl
   keys-map (e ∷ l) = ap (λ (r : List ℕ). e .place .key ∷ r) (keys-map l)
@@ -128,6 +114,10 @@ module _ (m : Bytes) (a : Areas) (c : Counters) (d : PendingTables) (at : ℕ) w
   keys-committed = keys-indexed (committedEntry m (a .bytes) (a .area)) (λ (e : Logged). e .place .key) (λ i x. refl) es 0 ∙ keys-map es
 
   -- ---- a section's place
+
+  within : (key i : ℕ) → foundFrom 0 (keysOf ks) key ≡ At i → i < length es
+  within key i e =
+      omega (arith, found-within 0 (keysOf ks) key i e, length-map ks (λ (k : KeptSection). k .key), length-map es (λ (l : Logged). l .place))
 
   version-at : (l : List Logged) (k i : ℕ) (z : Kept) → i < length l
       → getD (indexed (committedEntry m (a .bytes) (a .area)) k l) i (0, z) .1 .version ≡ getD (placesOf l) i noSection .version
@@ -149,7 +139,7 @@ module _ (m : Bytes) (a : Areas) (c : Counters) (d : PendingTables) (at : ℕ) w
         let f : foundFrom 0 (keys (kepts es)) key ≡ At i = ap (λ (ns : List ℕ). foundFrom 0 ns key) keys-committed ∙ e in
         let s : FoundAt (kepts es) key (i - 0) = found-at (kepts es) key 0 i f .1 in
         let z : i - 0 ≡ i = omega arith in
-        let w : i < length es = within i e in
+        let w : i < length es = within key i e in
         let n : bs ≡ bytesAt m (a .bytes) (i * a .area) (at + 1) (length bs) = bytes-new m (a .bytes) (i * a .area) at bs stood in
         s .stored (keptOf v bs)
         ∙ ap (λ j. set (kepts es) j (key, keptOf v bs)) z
@@ -157,19 +147,12 @@ module _ (m : Bytes) (a : Areas) (c : Counters) (d : PendingTables) (at : ℕ) w
         ∙ ap (λ j. set (kepts es) i (key, keptOf v (bytesAt m (a .bytes) (j * a .area) (at + 1) (length bs)))) (sym (zero-add i))
         ∙ sym (indexed-set (committedEntry m (a .bytes) (a .area)) es 0 i (logged place (at + 1)))
         ∙ rw (lt-ltb i (length es) w)
-      where
-        length-map-key : (l : List KeptSection) → length (keysOf l) ≡ length l
-        length-map-key [] = refl
-        length-map-key (e ∷ l) = ap suc (length-map-key l)
-
-        within : (i : ℕ) → foundFrom 0 (keysOf ks) key ≡ At i → i < length es
-        within i e = omega (arith, found-within 0 (keysOf ks) key i e, length-map-key ks, length-map es)
 
     pub put-new : foundFrom 0 (keysOf ks) key ≡ notFound
         → put key (keptOf v bs) (kepts es) ≡ kepts (putAt es (length ks) (logged place (at + 1)))
     put-new e =
         let f : foundFrom 0 (keys (kepts es)) key ≡ notFound = ap (λ (ns : List ℕ). foundFrom 0 ns key) keys-committed ∙ e in
-        let l : length ks ≡ length es = length-map es in
+        let l : length ks ≡ length es = length-map es (λ (x : Logged). x .place) in
         let n : bs ≡ bytesAt m (a .bytes) ((0 + length es) * a .area) (at + 1) (length bs) = bytes-new m (a .bytes) ((0 + length es) * a .area) at bs stood in
         absent (kepts es) key 0 f .1 (keptOf v bs)
         ∙ ap (λ (b : Bytes). kepts es ++ ((key, keptOf v b) ∷ [])) n
@@ -193,14 +176,7 @@ module _ (m : Bytes) (a : Areas) (c : Counters) (d : PendingTables) (at : ℕ) w
       let z : i - 0 ≡ i = omega arith in
       let z0 : Kept = keptOf 0 [] in
       let w : find key (kepts es) ≡ some (entry (kepts es) i z0) = s .found z0 ∙ ap (λ j. some (entry (kepts es) j z0)) z in
-      rw w (version-at es 0 i z0 (within i e))
-    where
-      length-map-key : (l : List KeptSection) → length (keysOf l) ≡ length l
-      length-map-key [] = refl
-      length-map-key (e ∷ l) = ap suc (length-map-key l)
-
-      within : (i : ℕ) → foundFrom 0 (keysOf ks) key ≡ At i → i < length es
-      within i e = omega (arith, found-within 0 (keysOf ks) key i e, length-map-key ks, length-map es)
+      rw w (version-at es 0 i z0 (within key i e))
 
   -- ---- one table
 

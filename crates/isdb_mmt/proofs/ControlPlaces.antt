@@ -5,7 +5,7 @@ use mathlib.Core.Bool.{true, false}
 use mathlib.Core.List.{List, [], _∷_, map}
 use native.Mathlib.Nat.{add-zero, mul-le-mul-right, mul-zero, mul-suc}
 use native.Mathlib.Omega.{arith}
-use lib.ListN.{length, getD, length-set, length-append}
+use lib.ListN.{length, getD, length-set, length-append, length-map}
 use Rattle.isdb_tlv.specs.Guards.{if_then_else_, _<?_}
 use Rattle.isdb_mmt.specs.Decoder.Packet.{Bytes, MessagePacket, message}
 use Rattle.isdb_mmt.specs.Memory.Lent.{part, namesFrom, placesFrom, foundFrom}
@@ -37,12 +37,12 @@ use Rattle.isdb_mmt.proofs.Names.{true-not-false}
 use Rattle.isdb_mmt.proofs.Limits.{passed}
 use Rattle.isdb_mmt.proofs.Checks.{control-was, place-was}
 use Rattle.isdb_mmt.proofs.Views.{keys, FoundAt, found-at, absent}
-use Rattle.isdb_mmt.proofs.PlacesFor.{place-for-was-old, place-for-was-new, length-indexed, getD-indexed, length-media, length-map, place-for-was-full}
+use Rattle.isdb_mmt.proofs.PlacesFor.{place-for-was-old, place-for-was-new, length-indexed, getD-indexed, length-media, place-for-was-full}
 use Rattle.isdb_mmt.proofs.MessageLeaves.{controlEntries, control-names, length-controls}
 use Rattle.isdb_mmt.proofs.Maps.{find-put}
 use Rattle.isdb_mmt.proofs.Fragments.{Does, outcome-does}
-use Rattle.isdb_mmt.proofs.Unchanged.{part-length}
 use Rattle.isdb_mmt.proofs.Quiet.{asks-none, asks-kept}
+use Rattle.isdb_mmt.proofs.Stays.{part-length}
 
 -- ---- the place before the packet, and what is known of its id
 
@@ -191,7 +191,7 @@ module _ (s : Session) (ok : Sound (s .state) (s .others) (lengthsOf s)) (x : Me
   unfolding view viewBy sectionsIn
   length-kept =
       length-indexed (sectionEntry lim s) 0 (sectionsIn (s .state))
-      ∙ length-map sectionPlaceOf (placesFrom (usedOf (s .state) .sections) sectionSize sectionPlaces (s .state))
+      ∙ length-map (placesFrom (usedOf (s .state) .sections) sectionSize sectionPlaces (s .state)) sectionPlaceOf
       ∙ length-places sectionSize (usedOf (s .state) .sections) sectionPlaces (s .state)
 
   pub controls-more : length (n .controls) ≡ usedOf (s .state) .«control_ids» + k

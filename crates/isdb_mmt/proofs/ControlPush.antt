@@ -1,11 +1,11 @@
 -- A control packet: what is asked and left is the model's. Assumes nothing.
-use Prim.Native.Nat.{ℕ, _+_, _-_, _*_, _≤_, _<_, max}
+use Prim.Native.Nat.{ℕ, _+_, _*_, _≤_, _<_}
 use mathlib.Core.Path.{_≡_, refl, sym, ap, _∙_, subst}
 use mathlib.Core.Bool.{true, false}
 use mathlib.Core.Option.{none}
 use mathlib.Core.List.{List, [], _++_, map}
 use native.Mathlib.Omega.{arith}
-use native.Mathlib.Nat.{add-zero, zero-add, mul-le-mul-right}
+use native.Mathlib.Nat.{add-zero, mul-le-mul-right, zero-max}
 use lib.Dec.{ltb}
 use lib.ListN.{length, getD, take, drop, replicate, length-replicate, length-drop}
 use lib.Seq.{length-take-le}
@@ -51,10 +51,10 @@ use Rattle.isdb_mmt.proofs.MessageLeaves.{length-controls, length-secti
 use Rattle.isdb_mmt.proofs.Placing.{bytes-sections, sections-placed}
 use Rattle.isdb_mmt.proofs.Committed.{sections-located}
 use Rattle.isdb_mmt.proofs.Loaded.{no-log, met, areas, store-view, held-view, versions-view}
-use Rattle.isdb_mmt.proofs.Commits.{logged-all, all-each}
 use Rattle.isdb_mmt.proofs.Leaving.{counters-are}
 use Rattle.isdb_mmt.proofs.Logging.{AllHeld}
 use Rattle.isdb_mmt.proofs.Modelled.{AsModel, walk-is, full-above, used-after, kept-grows, fits-after, committed-kept, committed-rows}
+use Rattle.isdb_mmt.proofs.Commits.{store-can, logged-all}
 
 module _ (state others objects messages tables : List ℕ) (b : Bytes) (can : CanTakePacket (lent state others objects messages tables) b) where
   abbrev s : Session
@@ -278,9 +278,6 @@ module _ (state others objects messages tables : List ℕ) (b : Bytes) (can : Ca
     longest-is : r .full ≡ false → r .longest ≡ asked .table
     unfolding committed
     longest-is y = is y .longest ∙ zero-max (tablesNeed (before .store) ts) ∙ need-next
-      where
-        zero-max : (k : ℕ) → max 0 k ≡ k
-        zero-max k = omega arith
 
     -- the walk's answer is the packet's
     pub asks-is : tablesAsk l r ≡ asksOf s 0 0 p
@@ -354,15 +351,8 @@ module _ (state others objects messages tables : List ℕ) (b : Bytes) (can : Ca
       module _ (li : length ix ≡ indexSize) (ll : length log ≡ mostSections) (lm : length mine ≡ tableIds) where
         pub leave-can : CanLeave state others tables ix log mine r b
         leave-can =
-            let e : loggedFrom (r .used) 0 ix log ≡ withLog (indexOf (r .used) ix) log = logged-all (r .used) ix log (omega (arith, some-sections)) in
             record {
-              areas =
-                  record {
-                    few = some-sections;
-                    logs = omega (arith, some-sections);
-                    room = room;
-                    each = λ i h. rw (zero-add i) at (all-each (l .«table_area») b ix log (r .used) 0 (rw e all-fit) i h);
-                  };
+              areas = store-can tables ix log (r .used) (l .«table_area») b some-sections (omega (arith, some-sections)) room all-fit;
               counts = can .othersLong ∙ sym lm;
               long = ok .there .long;
               indexLong = li;

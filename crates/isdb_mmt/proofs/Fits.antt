@@ -1,5 +1,5 @@
 -- What a media packet does to its id: what is held stays within its area, and no count grows by more than 2^21. Assumes nothing.
-use Prim.Native.Nat.{ℕ, suc, _+_, _-_, _≤_, _<_}
+use Prim.Native.Nat.{ℕ, suc, _+_, _≤_, _<_}
 use mathlib.Core.Bool.{Bool, true, false, cond, _&&_}
 use mathlib.Core.Option.{Option, none, some}
 use mathlib.Core.List.{List, [], _∷_}
@@ -9,17 +9,14 @@ use lib.Dec.{leb}
 use Rattle.isdb_tlv.proofs.Guards.{cond-elim}
 use Rattle.isdb_mmt.specs.Formats.Mpu.{follows, lostFrom}
 use Rattle.isdb_mmt.specs.Decoder.Packet.{PayloadUnit, MpuPacket, readable}
-use Rattle.isdb_mmt.specs.Decoder.Maps.{one, isSome}
+use Rattle.isdb_mmt.specs.Decoder.Maps.{isSome}
 use Rattle.isdb_mmt.specs.Decoder.Objects.{Mfu, Asset, fresh, mostObject, gap, lostBy, UnitEffect, grown, continued, effectOf, afterUnit, objectOf, unitEffect, afterUnits, afterHeaders, newMpu, jumped, malformedPayload, assetAfter, mpuIn, completes}
 use Rattle.isdb_mmt.specs.Pushes.MediaPlace.{StatsWithin}
 use Rattle.isdb_mmt.specs.Theorems.Room.{mostAdded}
 use Rattle.isdb_mmt.specs.Decoder.Needs.{heldLength, unitArea, unitsNeed}
 use Rattle.isdb_mmt.specs.declared.mpu.FragmentationIndicator.{FragmentationIndicator}
 use Rattle.isdb_mmt.specs.declared.mpu.FragmentationIndicator.the-variants.{Complete, Head, Middle, Last}
-
-pub one-le : (b : Bool) → one b ≤ 1
-one-le true = omega arith
-one-le false = omega arith
+use Rattle.isdb_mmt.proofs.Maps.{one-le}
 
 pub record AssetFits (area n : ℕ) (a : Asset) : Type 0 where
   pub held : heldLength (a .held) ≤ area
@@ -63,12 +60,12 @@ fresh-fits area n =
     }
 
 -- a unit drops one object, delivers one, and holds what its area counts
-record Mild (f : FragmentationIndicator) (r : UnitEffect) : Type 0 where
-  held : heldLength (r .held) ≤ unitArea f r
-  drops : r .drops ≤ 1
-  outs : length (r .outs) ≤ 1
+pub record Mild (f : FragmentationIndicator) (r : UnitEffect) : Type 0 where
+  pub held : heldLength (r .held) ≤ unitArea f r
+  pub drops : r .drops ≤ 1
+  pub outs : length (r .outs) ≤ 1
 
-mild : (f : FragmentationIndicator) (h : Option Mfu) (u : Mfu) → Mild f (effectOf f h u)
+pub mild : (f : FragmentationIndicator) (h : Option Mfu) (u : Mfu) → Mild f (effectOf f h u)
 unfolding effectOf continued
 mild Complete h u = record { held = omega arith; drops = one-le (isSome h); outs = omega arith }
 mild Head h u = record { held = omega arith; drops = one-le (isSome h); outs = omega arith }

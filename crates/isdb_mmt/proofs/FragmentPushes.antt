@@ -341,20 +341,27 @@ received-is l id n b t c f et ec ef =
 
 -- ---- the calls: a packet, by its place
 
+-- what was received of a fragment: the place, what stands there and what becomes of it are those of the packet
+pub record Met (s : Session) (x : MessagePacket) (y : ReceivedFragment) : Type 0 where
+  pub placeFor : y .«place_for» ≡ controlPlaceFor (s .state) (x .id)
+  pub place : y .place ≡ placeIn (s .state) (y .«place_for»)
+  pub outcome : y .outcome ≡ fragmentOutcome (y .place) (x .number) (x .payload)
+
+pub received-met : (s : Session) (x : MessagePacket) (y : ReceivedFragment) → y ≡ receivedFragment (s .state) x → Met s x y
+unfolding receivedFragment
+received-met s x y e =
+    let a : y .«place_for» ≡ controlPlaceFor (s .state) (x .id) = ap (λ (z : ReceivedFragment). z .«place_for») e in
+    let p : y .place ≡ placeIn (s .state) (controlPlaceFor (s .state) (x .id)) = ap (λ (z : ReceivedFragment). z .place) e in
+    record {
+      placeFor = a;
+      place = p ∙ ap (placeIn (s .state)) (sym a);
+      outcome =
+          ap (λ (z : ReceivedFragment). z .outcome) e ∙ ap (λ (z : Control). fragmentOutcome z (x .number) (x .payload)) (sym p);
+    }
+
 module _ (s : Session) (x : MessagePacket) (y : ReceivedFragment) (h : CanJoin s x y) where
-  place-for-met : y .«place_for» ≡ controlPlaceFor (s .state) (x .id)
-  unfolding receivedFragment
-  place-for-met = ap (λ (z : ReceivedFragment). z .«place_for») (h .received)
-
-  place-met : y .place ≡ placeIn (s .state) (y .«place_for»)
-  unfolding receivedFragment
-  place-met = ap (λ (z : ReceivedFragment). z .place) (h .received) ∙ ap (placeIn (s .state)) (sym place-for-met)
-
-  outcome-met : y .outcome ≡ fragmentOutcome (y .place) (x .number) (x .payload)
-  unfolding receivedFragment
-  outcome-met =
-      ap (λ (z : ReceivedFragment). z .outcome) (h .received)
-      ∙ ap (λ (z : Control). fragmentOutcome z (x .number) (x .payload)) (sym (ap (λ (z : ReceivedFragment). z .place) (h .received)))
+  fragment : Met s x y
+  fragment = received-met s x y (h .received)
 
   can-join-at : (i k : ℕ) → Sits s (x .id) i k (y .place) → CanJoinAt (s .state) (s .messages) i k (x .payload)
   can-join-at i k a =
@@ -386,11 +393,11 @@ module _ (s : Session) (x : MessagePacket) (y : ReceivedFragment) (h : CanJoin s
   module _ (i : ℕ) where
     is-old : y .«place_for» ≡ Own i → Sits s (x .id) i 0 (y .place)
     unfolding placeIn
-    is-old e = subst (Sits s (x .id) i 0) (sym (place-met ∙ ap (placeIn (s .state)) e)) (sits-old s (h .session) (x .id) i (sym place-for-met ∙ e))
+    is-old e = subst (Sits s (x .id) i 0) (sym (fragment .place ∙ ap (placeIn (s .state)) e)) (sits-old s (h .session) (x .id) i (sym (fragment .placeFor) ∙ e))
 
     is-new : y .«place_for» ≡ Free i → Sits s (x .id) i 1 (y .place)
     unfolding placeIn
-    is-new e = subst (Sits s (x .id) i 1) (sym (place-met ∙ ap (placeIn (s .state)) e)) (sits-new s (h .session) (x .id) i (sym place-for-met ∙ e))
+    is-new e = subst (Sits s (x .id) i 1) (sym (fragment .place ∙ ap (placeIn (s .state)) e)) (sits-new s (h .session) (x .id) i (sym (fragment .placeFor) ∙ e))
 
     pub joins-old : y .«place_for» ≡ Own i → CanJoinAt (s .state) (s .messages) i 0 (x .payload)
     joins-old e = can-join-at i 0 (is-old e)
@@ -401,11 +408,11 @@ module _ (s : Session) (x : MessagePacket) (y : ReceivedFragment) (h : CanJoin s
     module _ (o : Octets (s .state)) (r : ℕ) (l′ m′ : List ℕ) where
       pub pushed-old : y .«place_for» ≡ Own i → JoinedAt (s .state) (s .messages) i 0 (x .id) (x .number) (x .payload) (y .place) (y .outcome) r l′ m′
           → QuietPushed s (message x) r (lent l′ (s .others) (s .objects) m′ (s .tables))
-      pushed-old e j = quiet s (h .session) x i 0 (y .place) (is-old e) (y .outcome) outcome-met (h .divided) o r l′ m′ j (Own i) (sym place-for-met ∙ e) refl
+      pushed-old e j = quiet s (h .session) x i 0 (y .place) (is-old e) (y .outcome) (fragment .outcome) (h .divided) o r l′ m′ j (Own i) (sym (fragment .placeFor) ∙ e) refl
 
       pub pushed-new : y .«place_for» ≡ Free i → JoinedAt (s .state) (s .messages) i 1 (x .id) (x .number) (x .payload) (y .place) (y .outcome) r l′ m′
           → QuietPushed s (message x) r (lent l′ (s .others) (s .objects) m′ (s .tables))
-      pushed-new e j = quiet s (h .session) x i 1 (y .place) (is-new e) (y .outcome) outcome-met (h .divided) o r l′ m′ j (Free i) (sym place-for-met ∙ e) refl
+      pushed-new e j = quiet s (h .session) x i 1 (y .place) (is-new e) (y .outcome) (fragment .outcome) (h .divided) o r l′ m′ j (Free i) (sym (fragment .placeFor) ∙ e) refl
 
   pub pushed-full : y .«place_for» ≡ NoneFree → QuietPushed s (message x) 8 s
-  pushed-full e = no-place s (h .session) x (sym place-for-met ∙ e)
+  pushed-full e = no-place s (h .session) x (sym (fragment .placeFor) ∙ e)

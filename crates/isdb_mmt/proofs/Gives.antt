@@ -30,7 +30,7 @@ use Rattle.isdb_mmt.specs.declared.mpu.UnitStep.the-variants.{End, Malfo
 use Rattle.isdb_mmt.specs.declared.decoder.media.Object.{Object}
 use Rattle.isdb_mmt.proofs.Lent.{length-over, over-next, over-none}
 use Rattle.isdb_mmt.proofs.Names.{true-not-false}
-use Rattle.isdb_mmt.proofs.Units.{units-at}
+use Rattle.isdb_mmt.proofs.Units.{units-at, units-also, whole-behind}
 use Rattle.isdb_mmt.proofs.Stored.{sent}
 use Rattle.isdb_mmt.proofs.RecordRows.{length-row, length-rows, length-data}
 use Rattle.isdb_mmt.proofs.MediaEffects.{data-ahead}
@@ -109,12 +109,7 @@ module _ (q : Bytes) (timed aggregated : Bool) (id mpu : ℕ) (rap : Bool) (rows
 
     module _ (u : DataUnit) (next : ℕ) (e : x ≡ found u next) where
       also-is : unitsFrom q timed aggregated at ≡ also u (unitsFrom q timed aggregated next)
-      also-is = rw (units-at q timed aggregated at, ← ex, e)
-
-      whole-next : (o : Option (List DataUnit)) → isSome (also u o) ≡ true → isSome o ≡ true
-      unfolding isSome
-      whole-next none h = h
-      whole-next (some us) h = refl
+      also-is = units-also q timed aggregated at next u x ex e
 
       recs-cons : (o : Option (List DataUnit)) → isSome (also u o) ≡ true → unitRecs id mpu rap q (also u o) ≡ unitRec id mpu rap q u ∷ unitRecs id mpu rap q o
       unfolding isSome unitRecs
@@ -207,7 +202,7 @@ module _ (q : Bytes) (timed aggregated : Bool) (id mpu : ℕ) (rap : Bool) (rows
             long = g .long;
             behind = omega (arith, g .behind, a .0, n);
             within = omega (arith, a .1 .1, g .long);
-            whole = whole-next (unitsFrom q timed aggregated next) (rw also-is at (g .whole));
+            whole = whole-behind u (unitsFrom q timed aggregated next) (rw also-is at (g .whole));
             small = omega (arith, g .small, a .1 .0);
             rowsLong = lo ∙ g .rowsLong;
             dataLong = lg ∙ g .dataLong;

@@ -12,7 +12,7 @@ use mir.Val.{Fits}
 use borrow.Author.Tests.{ltb-true, ltb-false}
 use Rattle.isdb_tlv.specs.Bytes.{be}
 use Rattle.isdb_tlv.proofs.Guards.{either}
-use Rattle.isdb_mmt.specs.Memory.Layout.{mostMessageArea}
+use Rattle.isdb_mmt.specs.Memory.Layout.{mostMessageArea, mostTableArea}
 use Rattle.isdb_mmt.specs.Decoder.Packet.{Bytes}
 use Rattle.isdb_mmt.specs.Formats.Part.{partOf}
 use Rattle.isdb_mmt.specs.Memory.Lent.{over}
@@ -93,7 +93,7 @@ empty-is : (l : Bytes) → length l ≡ 0 → l ≡ []
 empty-is [] e = refl
 empty-is (x ∷ l) e = absurd (omega arith)
 
-module _ (assembled ix : List ℕ) (used : ℕ) (a b : Bytes) (can : CanDecide assembled ix used a b) where
+module _ (ix : List ℕ) (used : ℕ) (a b : Bytes) (can : CanDecide ix used a b) where
   module _ (ks : List KeptSection) (m p : Recent) (r : TableOutcome) where
     pub outcome-first : length b ≡ 0 → r ≡ tableOutcome ks m p (tableRead a) → r ≡ tableOutcome ks m p (tableRead (a ++ b))
     outcome-first e er = er ∙ ap (λ (l : Bytes). tableOutcome ks m p (tableRead l)) (sym (append-nil a) ∙ ap (λ (l : Bytes). a ++ l) (sym (empty-is b e)))
@@ -101,18 +101,18 @@ module _ (assembled ix : List ℕ) (used : ℕ) (a b : Bytes) (can : CanDecide a
     pub outcome-second : length a ≡ 0 → r ≡ tableOutcome ks m p (tableRead b) → r ≡ tableOutcome ks m p (tableRead (a ++ b))
     outcome-second e er = er ∙ ap (λ (l : Bytes). tableOutcome ks m p (tableRead (l ++ b))) (sym (empty-is a e))
 
-    pub outcome-both : (s s′ t : List ℕ) → s ≡ over 0 a assembled → s′ ≡ over (length a) b s → t ≡ take (length a + length b) s′
+    pub outcome-both : (assembled : List ℕ) → length assembled ≡ mostTableArea → (s s′ t : List ℕ) → s ≡ over 0 a assembled → s′ ≡ over (length a) b s → t ≡ take (length a + length b) s′
         → r ≡ tableOutcome ks m p (tableRead t) → r ≡ tableOutcome ks m p (tableRead (a ++ b))
-    outcome-both s s′ t es es′ et er =
+    outcome-both assembled long s s′ t es es′ et er =
         let l : length (a ++ b) ≡ length a + length b = length-append a b in
         let w : s′ ≡ over 0 (a ++ b) assembled =
         es′
         ∙ ap (λ (z : List ℕ). over (length a) b z) es
         ∙ ap (λ k. over k b (over 0 a assembled)) (sym (zero-add (length a)))
-        ∙ over-next 0 a b assembled (omega (arith, can .short, can .assembledLong)) in
+        ∙ over-next 0 a b assembled (omega (arith, can .short, long)) in
         let q : t ≡ a ++ b =
         et
         ∙ ap (λ k. take k s′) (sym l)
         ∙ ap (λ (z : List ℕ). take (length (a ++ b)) z) w
-        ∙ part-over 0 (a ++ b) assembled (omega (arith, can .short, can .assembledLong)) in
+        ∙ part-over 0 (a ++ b) assembled (omega (arith, can .short, long)) in
         er ∙ ap (λ (z : List ℕ). tableOutcome ks m p (tableRead z)) q

@@ -1,10 +1,9 @@
 -- Messages that are being joined, and the tables that a whole one gives: how long they are, that their bytes are bytes, and what a message
 -- packet counts. Assumes nothing.
-use Prim.Native.Nat.{ℕ, _+_, _-_, _≤_, _<_}
-use mathlib.Core.Path.{_≡_, refl}
+use Prim.Native.Nat.{ℕ, _+_, _≤_, _<_}
 use mathlib.Core.Bool.{Bool, true, false, cond}
 use mathlib.Core.Option.{Option, none, some}
-use mathlib.Core.List.{List, [], _∷_, _++_, map}
+use mathlib.Core.List.{List, [], _∷_, _++_}
 use native.Mathlib.Omega.{arith}
 use lib.ListN.{length, drop, length-drop, length-append}
 use lib.Dec.{leb}
@@ -12,12 +11,10 @@ use borrow.Author.Tests.{leb-true}
 use Rattle.isdb_tlv.proofs.Guards.{cond-elim}
 use Rattle.isdb_mmt.specs.declared.decoder.counts.Counters.{Counters}
 use Rattle.isdb_mmt.specs.Formats.Part.{partOf}
-use Rattle.isdb_mmt.specs.Decoder.Packet.{Bytes, MessagePacket, ntp, message}
+use Rattle.isdb_mmt.specs.Decoder.Packet.{Bytes, MessagePacket, ntp}
 use Rattle.isdb_mmt.specs.Formats.Message.{tablesFrom, aggregatedFrom, contentOf}
 use Rattle.isdb_mmt.specs.Decoder.Objects.{gap}
 use Rattle.isdb_mmt.specs.Decoder.Reassembly.{PartialMessage, Reassembly, mostMessage, short, flagsOf, partBefore, joinedOn, partAfter, wholeOf, reassemblyAfter, messageCompleted, orphan, oversize, TablesFound, partsOf, tablesIn, tablesOf, tablesOfAll, messagesOf, cutOf, cutOfAll}
-use Rattle.isdb_mmt.specs.Decoder.Kept.{tableRead}
-use Rattle.isdb_mmt.specs.Decoder.GivenTables.{controlTables}
 use Rattle.isdb_mmt.specs.Decoder.Model.{packetCounted, messageCounted, reassemblyCounted}
 use Rattle.isdb_mmt.specs.Decoder.Needs.{partialLength, fragmentArea, reassemblyNeeds}
 use Rattle.isdb_mmt.specs.Memory.Octets.{Octets}
@@ -28,8 +25,8 @@ use Rattle.isdb_mmt.specs.declared.message.Division.{Division}
 use Rattle.isdb_mmt.specs.declared.message.Division.the-variants.{Undivided, First, Middle as middlePart, Last as lastPart}
 use Rattle.isdb_mmt.proofs.Amounts.{fills-cut, total}
 use Rattle.isdb_mmt.proofs.Brief.{octets-drop, octets-take, octets-append, AllOctets}
-use Rattle.isdb_mmt.proofs.Fits.{one-le}
 use Rattle.isdb_mmt.proofs.Stores.{CountersFit}
+use Rattle.isdb_mmt.proofs.Maps.{one-le}
 
 -- ---- bytes of tables
 
@@ -134,14 +131,6 @@ given-cut (some j) h =
       malformed = omega (arith, f .malformed, h .0);
       octets = octets-cut j (h .1);
     }
-
-pub length-map : (bs : List Bytes) → length (map tableRead bs) ≡ length bs
-length-map [] = refl
-length-map (b ∷ bs) = omega (arith, length-map bs)
-
-pub length-control : (bs : List Bytes) → length (controlTables bs) ≡ length bs
-length-control [] = refl
-length-control (b ∷ bs) = omega (arith, length-control bs)
 
 -- ---- what is counted
 

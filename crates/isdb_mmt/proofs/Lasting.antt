@@ -1,6 +1,6 @@
 -- What an accepted packet leaves of limits, buffers and stored lengths: everything that is there still stands within its buffer.
 -- Assumes nothing.
-use Prim.Native.Nat.{ℕ, _+_, _-_, _*_, _≤_, _<_}
+use Prim.Native.Nat.{ℕ, _+_, _*_, _≤_, _<_}
 use mathlib.Core.Path.{_≡_, refl, sym, _∙_}
 use mathlib.Core.Logic.{inl}
 use mathlib.Core.Bool.{true}
@@ -13,7 +13,7 @@ use Rattle.isdb_tlv.specs.Fields.{written, Fit}
 use Rattle.isdb_tlv.proofs.Fields.{length-written}
 use Rattle.isdb_mmt.specs.declared.decoder.counts.Counters.{Counters}
 use Rattle.isdb_mmt.specs.Decoder.Packet.{Bytes, MessagePacket, Packet, ipError, ntp, nonMmtp, media, message, control, other}
-use Rattle.isdb_mmt.specs.Decoder.Maps.{put, isSome}
+use Rattle.isdb_mmt.specs.Decoder.Maps.{put}
 use Rattle.isdb_mmt.specs.Decoder.Objects.{Mfu, Asset}
 use Rattle.isdb_mmt.specs.Decoder.Kept.{Kept}
 use Rattle.isdb_mmt.specs.Decoder.Model.{State, Control as ControlState, controlOf, pushed}
@@ -21,7 +21,7 @@ use Rattle.isdb_mmt.specs.Decoder.Needs.{heldLength}
 use Rattle.isdb_mmt.specs.Memory.Layout.{latestPlace, timePlace, countersPlace, mediaPlaces}
 use Rattle.isdb_mmt.specs.Memory.Lent.{over}
 use Rattle.isdb_mmt.specs.Memory.Session.{Session, limitsOf, usedOf, latestOf, timeFields, countersFields, mediaFields}
-use Rattle.isdb_mmt.specs.Memory.Check.{mediaIn, controlsIn, sectionsIn, lengthsOf, sound, Sound}
+use Rattle.isdb_mmt.specs.Memory.Check.{mediaIn, controlsIn, sectionsIn, lengthsOf, Sound}
 use Rattle.isdb_mmt.specs.Memory.View.{view}
 use Rattle.isdb_mmt.specs.Memory.Opening.{lent}
 use Rattle.isdb_mmt.specs.Memory.PlacesOf.{tableLength, placeFor, heldFor, controlFor, latestFor}
@@ -33,7 +33,6 @@ use Rattle.isdb_mmt.specs.declared.decoder.place.PlaceFor.the-variants.{
 use Rattle.isdb_mmt.specs.declared.decoder.limits.Limits.{Limits}
 use Rattle.isdb_mmt.proofs.Lent.{length-over}
 use Rattle.isdb_mmt.proofs.Limits.{passed, Passed}
-use Rattle.isdb_mmt.proofs.Checks.{is-sound}
 use Rattle.isdb_mmt.proofs.Stored.{apart, limits-own, latest-own}
 use Rattle.isdb_mmt.proofs.Sessions.{Sort, media as mediaSort, controls as controlSort, sections as sectionSort, inUse, named, place-apart, used-apart}
 use Rattle.isdb_mmt.proofs.PlacesFor.{length-media}
@@ -43,7 +42,7 @@ use Rattle.isdb_mmt.proofs.Placed.{Tied}
 use Rattle.isdb_mmt.proofs.MediaLeaves.{in-objects, within-old, keeps-old, media-old, new-facts, keeps-new, media-new, place-for-free, held-room, tied-next}
 use Rattle.isdb_mmt.proofs.MessageLeaves.{Says, ranges, kept-within, media-same, controls-same, media-2, sections-t2, long-1, length-1, long-t, len0, len1, len2, in2, in-messages, joined-length, controls-old, message-old, controls-new, all-before, message-new, controlEntries}
 use Rattle.isdb_mmt.proofs.PacketLeaves.{Stores, MessageFits, own, place-for-free as control-free, old-free, new-free, sections-plt, sections-tot}
-use Rattle.isdb_mmt.proofs.Stays.{Placed, mediaThere, controlThere, sectionThere, Exact, exact-was, placed-set, placed-snoc}
+use Rattle.isdb_mmt.proofs.Stays.{Placed, mediaThere, controlThere, sectionThere, Exact, exact-was, placed-set, placed-snoc, placed-mono}
 
 -- a session after another: limits and lengths of buffers as before, and what is there stands within them
 pub record Lasts (s s′ : Session) : Type 0 where
@@ -58,17 +57,12 @@ pub record Lasts (s s′ : Session) : Type 0 where
   pub plt : latestOf (s′ .state) .plt ≡ true → latestOf (s′ .state) .«plt_length» ≤ limitsOf (s .state) .«table_area»
   pub tot : latestOf (s′ .state) .tot ≡ true → latestOf (s′ .state) .«tot_length» ≤ limitsOf (s .state) .«table_area»
 
-placed-mono : {A : Type 0} (E F : ℕ → A → Type 0) → ((i : ℕ) (x : A) → E i x → F i x) → (xs : List A) (k : ℕ) → Placed E k xs → Placed F k xs
-placed-mono E F f [] k h = tt
-placed-mono E F f (x ∷ xs) k h = (f k x (h .0), placed-mono E F f xs (k + 1) (h .1))
-
 module _ (s : Session) (ok : Sound (s .state) (s .others) (lengthsOf s)) where
   abbrev l : Limits
   l = limitsOf (s .state)
 
   was : Exact l s
-  unfolding sound
-  was = exact-was s (is-sound (s .state) (s .others) (lengthsOf s) ok)
+  was = exact-was s ok
 
   fine : Passed l (lengthsOf s)
   fine = passed l (lengthsOf s) (ok .limits)
@@ -251,9 +245,6 @@ module _ (s : Session) (ok : Sound (s .state) (s .others) (lengthsOf s)) where
 
     abbrev there : Type 0
     there = Placed (controlThere l s) 0 (controlsIn (messageIn s n id i .state))
-
-    latest-fits : (o : Option Bytes) → tableLength o ≤ l .«table_area» → isSome o ≡ true → tableLength o ≤ l .«table_area»
-    latest-fits o h t = h
 
     message-lasts : Says s (messageIn s n id i) n → there → Lasts s (messageIn s n id i)
     unfolding messageIn latestFor

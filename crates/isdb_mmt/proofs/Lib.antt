@@ -14,6 +14,7 @@ pub mod StdB60
 pub mod StdB60Sections
 pub mod Places
 pub mod Units
+pub mod UnitStarts
 pub mod AggregatedMessages
 pub mod StdB60Tables
 pub mod StdB60Short
@@ -47,6 +48,7 @@ pub mod Demand
 pub mod Smallness
 pub mod Guards
 pub mod Lent
+pub mod LentRests
 pub mod Names
 pub mod Stored
 pub mod Sessions
@@ -61,6 +63,7 @@ pub mod StateWrites
 pub mod MessageLeaves
 pub mod PacketLeaves
 pub mod Declared
+pub mod TableKinds
 pub mod Amounts
 pub mod Brief
 pub mod Every
@@ -78,7 +81,6 @@ pub mod Said
 pub mod Calls
 pub mod PushAll
 pub mod Useless
-pub mod Room
 pub mod Outs
 pub mod PlaceFits
 pub mod MediaEffects

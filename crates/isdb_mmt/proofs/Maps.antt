@@ -1,17 +1,22 @@
 -- Maps in order of first arrival: what was put under a key is found under it, and under another key what was found before.
 -- Assumes nothing.
-use Prim.Native.Nat.{ℕ}
+use Prim.Native.Nat.{ℕ, _≤_}
 use mathlib.Core.Path.{_≡_, refl}
 use mathlib.Core.Bool.{Bool, true, false, cond}
 use mathlib.Core.Option.{some}
 use mathlib.Core.List.{List, [], _∷_}
+use native.Mathlib.Omega.{arith}
 use lib.Dec.{eqb}
 use borrow.Author.Tests.{eq-eqb}
 pub use borrow.Author.Tests.{eqb-true}
-use Rattle.isdb_mmt.specs.Decoder.Maps.{find, put}
+use Rattle.isdb_mmt.specs.Decoder.Maps.{find, put, one}
 
 pub eqb-self : (n : ℕ) → eqb n n ≡ true
 eqb-self n = eq-eqb n n refl
+
+pub one-le : (b : Bool) → one b ≤ 1
+one-le true = omega arith
+one-le false = omega arith
 
 module _ {A : Type 0} where
   pub find-put : (k : ℕ) (a : A) (m : List (ℕ × A)) → find k (put k a m) ≡ some a

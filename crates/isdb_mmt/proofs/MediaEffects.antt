@@ -26,12 +26,9 @@ use Rattle.isdb_mmt.specs.declared.decoder.reassembler.MediaEffect.{Medi
 use Rattle.isdb_mmt.specs.declared.decoder.reassembler.UnitsEffect.{UnitsEffect}
 use Rattle.isdb_mmt.specs.declared.decoder.reassembler.UnitsEffect.the-variants.{Malformed, Units}
 use Rattle.isdb_mmt.proofs.Units.{unit-lies, units-at}
+use Rattle.isdb_mmt.proofs.Maps.{one-le}
 
 -- ---- one turn
-
-pub one-le : (b : Bool) → one b ≤ 1
-one-le true = omega arith
-one-le false = omega arith
 
 -- a count below 2 ^ 32 has room for one more
 pub one-fits : (n x : ℕ) (b : Bool) → n < 4294967296 → x ≡ one b → Fits w64 (n + x)

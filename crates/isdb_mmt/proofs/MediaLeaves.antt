@@ -1,5 +1,5 @@
 -- What a media packet leaves, seen as the model's state: only this id's entry and the count of packets differ. Assumes nothing.
-use Prim.Native.Nat.{ℕ, _+_, _-_, _*_, _^_, _≤_, _<_, max}
+use Prim.Native.Nat.{ℕ, _+_, _-_, _*_, _^_, _≤_, _<_}
 use mathlib.Core.Path.{_≡_, refl, sym, ap, _∙_, subst}
 use mathlib.Core.Logic.{inl, inr}
 use mathlib.Core.Bool.{Bool, true, false}
@@ -7,7 +7,7 @@ use mathlib.Core.Option.{Option, none, some}
 use mathlib.Core.List.{List, [], _∷_, _++_}
 use native.Mathlib.Nat.{add-zero, mul-le-mul-right}
 use native.Mathlib.Omega.{arith}
-use lib.Dec.{eqb, leb}
+use lib.Dec.{eqb}
 use lib.ListN.{length, getD, set, drop, length-append, length-drop}
 use borrow.Author.Tests.{eqb-true}
 use Rattle.isdb_tlv.specs.Bytes.{be}
@@ -16,20 +16,15 @@ use Rattle.isdb_tlv.proofs.Fields.{length-written}
 use Rattle.isdb_tlv.proofs.Guards.{either}
 use Rattle.isdb_mmt.specs.Decoder.Packet.{MpuPacket, media as mediaPacket, Bytes, PayloadUnit, readable}
 use Rattle.isdb_mmt.specs.Decoder.Maps.{find, put, orElse, isSome}
-use Rattle.isdb_mmt.specs.Decoder.Objects.{newMpu, mpuAfter, rangeAfter, mpuIn, Mfu, Asset, fresh, assetAfter, mostObject, grown, continued, effectOf, unitEffect, afterUnit, objectOf, afterUnits, gap, afterHeaders}
+use Rattle.isdb_mmt.specs.Decoder.Objects.{newMpu, mpuAfter, rangeAfter, mpuIn, Mfu, Asset, fresh, assetAfter, unitEffect, afterUnit, afterUnits, gap, afterHeaders}
 use Rattle.isdb_mmt.specs.Decoder.Model.{assetOf, pushed, packetCounted}
-use Rattle.isdb_mmt.specs.Decoder.Needs.{heldLength, unitArea, unitsNeed, needs}
+use Rattle.isdb_mmt.specs.Decoder.Needs.{heldLength, needs}
 use Rattle.isdb_mmt.specs.Memory.Lent.{part, over, namesFrom, foundFrom, indexed}
 use Rattle.isdb_mmt.specs.Memory.Session.{Session, limitsOf, usedOf, usedFields, latestOf, timeOf, countersOf, mediaFields}
 use Rattle.isdb_mmt.specs.Memory.Check.{mediaIn, controlsIn, sectionsIn, mediaSound, packetCounts, lengthsOf, Sound}
-use Rattle.isdb_mmt.specs.Memory.View.{given, headerGiven, itemGiven, mfuOf, assetOfPlace, assetEntry, controlEntry, sectionEntry, keptTableAt, viewBy, view}
+use Rattle.isdb_mmt.specs.Memory.View.{given, mfuOf, assetOfPlace, assetEntry, controlEntry, sectionEntry, keptTableAt, viewBy, view}
 use Rattle.isdb_mmt.specs.Memory.Opening.{lent}
-use Rattle.isdb_mmt.specs.Pushes.Records.{headerOr, hasHeader, itemOr, hasItem}
 use Rattle.isdb_mmt.specs.Pushes.MediaPush.{placeFor, heldFor, firstIn, heldOver, withPlace, oneMore, withUsed, withPackets, mediaPlaceFor, leavesAt, assetNext, mediaLeaves}
-use Rattle.isdb_mmt.specs.declared.maybe.MaybeU32.{MaybeU32}
-use Rattle.isdb_mmt.specs.declared.maybe.MaybeU32.the-variants.{None as noU32, Some as someU32}
-use Rattle.isdb_mmt.specs.declared.mpu.MaybeMfu.{MaybeMfu}
-use Rattle.isdb_mmt.specs.declared.mpu.MaybeMfu.the-variants.{None as noMfu, Some as someMfu}
 use Rattle.isdb_mmt.specs.declared.decoder.place.Found.the-variants.{At, Nothing}
 use Rattle.isdb_mmt.specs.declared.decoder.place.PlaceFor.{PlaceFor}
 use Rattle.isdb_mmt.specs.declared.decoder.place.PlaceFor.the-variants.{Own, Free, NoneFree}
@@ -44,11 +39,12 @@ use Rattle.isdb_mmt.proofs.Views.{keys, FoundAt, found-at, absent, inde
 use Rattle.isdb_mmt.proofs.Limits.{passed}
 use Rattle.isdb_mmt.proofs.Checks.{media-was, count-was}
 use lib.Seq.{length-take-le}
-use Rattle.isdb_mmt.specs.declared.mpu.FragmentationIndicator.{FragmentationIndicator}
-use Rattle.isdb_mmt.specs.declared.mpu.FragmentationIndicator.the-variants.{Complete, Head, Middle, Last}
 use Rattle.isdb_mmt.specs.declared.mpu.PayloadHeader.{PayloadHeader}
 use Rattle.isdb_mmt.proofs.StateWrites.{used-other}
 use Rattle.isdb_mmt.proofs.PlacesFor.{entries, entry-names, length-media, place-for-was-old, place-for-was-new, place-for-was-full, length-indexed, every-at, set-indexed, getD-indexed, none-some}
+use Rattle.isdb_mmt.proofs.RecordRows.{header-back, item-back}
+use Rattle.isdb_mmt.proofs.Placed.{rangeFor, Tied}
+use Rattle.isdb_mmt.proofs.MediaUnits.{units-held}
 
 -- ---- what a write leaves of the state, beside media places, the numbers in use and the counters
 
@@ -161,26 +157,10 @@ packets-back n l f h =
 
 -- ---- an asset in its place
 
--- the range ends with the last MPU number
-abbrev pub rangeFor : Option ℕ → ℕ → Option (ℕ × ℕ)
-rangeFor none f = none
-rangeFor (some n) f = some (f, n)
-
-abbrev pub Tied : Asset → Type 0
-Tied a = a .range ≡ rangeFor (a .mpu) (firstIn (a .range))
-
 pub given-back : (o : Option ℕ) → given (isSome o) (orElse 0 o) ≡ o
 unfolding isSome orElse
 given-back none = refl
 given-back (some n) = refl
-
-header-back : (o : MaybeMfu) → headerGiven (hasHeader o) (headerOr o) ≡ o
-header-back noMfu = refl
-header-back (someMfu h) = refl
-
-item-back : (o : MaybeU32) → itemGiven (hasItem o) (itemOr o) ≡ o
-item-back noU32 = refl
-item-back (someU32 i) = refl
 
 held-back : (o : Option Mfu) (b : List ℕ) → ((h : Mfu) → o ≡ some h → b ≡ h .bytes) → given (isSome o) (mfuOf (heldFor o) b) ≡ o
 unfolding isSome mfuOf
@@ -530,36 +510,6 @@ module _ (s : Session) (m : MpuPacket) (ok : Sound (s .state) (s .others) (lengt
       go NoneFree e = absurd (free e)
 
 -- ---- what is held fits where the needs do
-
-ended : (b : Bool) (x : Mfu) → heldLength (continued b true x .held) ≤ unitArea Last (continued b true x)
-unfolding continued
-ended true x = omega arith
-ended false x = omega arith
-
-unit-held : (f : FragmentationIndicator) (o : Option Mfu) (g : Mfu) → heldLength (effectOf f o g .held) ≤ unitArea f (effectOf f o g)
-unfolding effectOf
-unit-held Complete o g = omega arith
-unit-held Head o g = omega arith
-unit-held Middle none g = omega arith
-unit-held Middle (some h) g = omega arith
-unit-held Last none g = omega arith
-unit-held Last (some h) g = go (leb (length (h .bytes) + length (g .bytes)) mostObject) (grown h (g .bytes))
-  where
-    go : (b : Bool) (x : Mfu) → heldLength (continued b true x .held) ≤ unitArea Last (continued b true x)
-    go b x = ended b x
-
-did-held : (m : MpuPacket) (a : Asset) (u : PayloadUnit) → heldLength (afterUnit a (unitEffect m a u) .held) ≤ unitArea (u .fragment) (unitEffect m a u)
-unfolding unitEffect afterUnit
-did-held m a u = unit-held (u .fragment) (a .held) (objectOf m u)
-
-units-held : (m : MpuPacket) (us : List PayloadUnit) (a : Asset) → heldLength (afterUnits m a us .held) ≤ max (heldLength (a .held)) (unitsNeed m a us)
-unfolding afterUnits unitsNeed
-units-held m [] a = omega arith
-units-held m (u ∷ us) a =
-    let d = unitEffect m a u in
-    let i = units-held m us (afterUnit a d) in
-    let k : heldLength (afterUnit a d .held) ≤ unitArea (u .fragment) d = did-held m a u in
-    omega arith
 
 applied-held : (a : Asset) (m : MpuPacket) → heldLength (afterHeaders a m .held) ≤ heldLength (a .held)
 unfolding afterHeaders

@@ -36,7 +36,8 @@ use Rattle.isdb_mmt.specs.declared.decoder.reassembler.UnitsEffect.the-v
 use Rattle.isdb_mmt.specs.declared.decoder.reassembler.MediaOutcome.{MediaOutcome}
 use Rattle.isdb_mmt.proofs.EffectsModelled.{Told, told-empty, effect-told}
 use Rattle.isdb_mmt.proofs.Placed.{start-held, start-object, place-told}
-use Rattle.isdb_mmt.proofs.MediaEffects.{one-le, roomy-more, roomy-all}
+use Rattle.isdb_mmt.proofs.MediaEffects.{roomy-more, roomy-all}
+use Rattle.isdb_mmt.proofs.Maps.{one-le}
 
 -- ---- the code's returns: `rw` of a field would rewrite the struct around it too, so each equation is put in its one place
 

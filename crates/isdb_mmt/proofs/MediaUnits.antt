@@ -1,5 +1,5 @@
 -- What the units of a media packet leave in the object's area and hand out, by their fragmentation indicator. Assumes nothing.
-use Prim.Native.Nat.{ℕ, _+_, _-_, _≤_, max}
+use Prim.Native.Nat.{ℕ, _+_, _≤_, max}
 use mathlib.Core.Path.{_≡_, refl, sym, ap, _∙_, subst}
 use mathlib.Core.Bool.{Bool, true, false, cond}
 use mathlib.Core.Option.{Option, none, some}
@@ -24,29 +24,16 @@ use Rattle.isdb_mmt.specs.declared.decoder.reassembler.MediaEffect.{Medi
 use Rattle.isdb_mmt.specs.declared.decoder.media.Object.{Object}
 use Rattle.isdb_mmt.proofs.Names.{true-not-false}
 use Rattle.isdb_mmt.proofs.EffectsModelled.{grown-none, grown-some}
+use Rattle.isdb_mmt.proofs.Fits.{mild}
 
 abbrev pub unitAs : FragmentationIndicator → Bytes → DataUnit → PayloadUnit
 unitAs f q u = record { fragment = f; mfu = u .mfu; itemId = u .«item_id»; bytes = partOf q (u .«data») }
 
 -- ---- what is held is no longer than the needs
 
-ended : (b : Bool) (x : Mfu) → heldLength (continued b true x .held) ≤ unitArea Last (continued b true x)
-unfolding continued
-ended true x = omega arith
-ended false x = omega arith
-
-unit-held : (f : FragmentationIndicator) (o : Option Mfu) (g : Mfu) → heldLength (effectOf f o g .held) ≤ unitArea f (effectOf f o g)
-unfolding effectOf
-unit-held Complete o g = omega arith
-unit-held Head o g = omega arith
-unit-held Middle none g = omega arith
-unit-held Middle (some h) g = omega arith
-unit-held Last none g = omega arith
-unit-held Last (some h) g = ended (leb (length (h .bytes) + length (g .bytes)) mostObject) (grown h (g .bytes))
-
 did-held : (m : MpuPacket) (a : Asset) (u : PayloadUnit) → heldLength (afterUnit a (unitEffect m a u) .held) ≤ unitArea (u .fragment) (unitEffect m a u)
 unfolding unitEffect afterUnit
-did-held m a u = unit-held (u .fragment) (a .held) (objectOf m u)
+did-held m a u = mild (u .fragment) (a .held) (objectOf m u) .held
 
 pub units-held : (m : MpuPacket) (us : List PayloadUnit) (a : Asset) → heldLength (afterUnits m a us .held) ≤ max (heldLength (a .held)) (unitsNeed m a us)
 unfolding afterUnits unitsNeed

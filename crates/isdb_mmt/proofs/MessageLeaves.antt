@@ -7,7 +7,7 @@ use mathlib.Core.Option.{Option, none, some}
 use mathlib.Core.List.{List, [], _∷_, _++_, map}
 use native.Mathlib.Nat.{mul-le-mul-right}
 use native.Mathlib.Omega.{arith}
-use lib.ListN.{length, getD, set, length-append, length-set}
+use lib.ListN.{length, getD, set, length-append, length-set, length-map}
 use Rattle.isdb_tlv.specs.Bytes.{be}
 use Rattle.isdb_tlv.specs.Fields.{written, Fit}
 use Rattle.isdb_tlv.proofs.Fields.{length-written}
@@ -40,10 +40,11 @@ use Rattle.isdb_mmt.proofs.Sessions.{Sort, media, controls, sections, i
 use Rattle.isdb_mmt.proofs.Views.{keys, FoundAt, found-at, absent, indexed-set, indexed-snoc, indexed-same, keys-indexed}
 use Rattle.isdb_mmt.proofs.Limits.{passed, Passed}
 use Rattle.isdb_mmt.proofs.Checks.{control-was}
-use Rattle.isdb_mmt.proofs.PlacesFor.{length-media, place-for-was-old, place-for-was-new, length-map, length-indexed, every-at, set-indexed}
+use Rattle.isdb_mmt.proofs.PlacesFor.{length-media, place-for-was-old, place-for-was-new, length-indexed, every-at, set-indexed}
 use Rattle.isdb_mmt.proofs.TableAreas.{length-laid, laid-apart, laid, length-kept, kept-apart, Lie, kept-lie, lie-on, lie-read}
 use Rattle.isdb_mmt.proofs.StateWrites.{used-other, TablesFit, used-fits, length-tables, limits-tables, latest-tables, time-tables, counters-tables, used-tables, others-tables, sections-tables, latest-read, limits-latest, time-latest, counters-latest, places-latest}
 use Rattle.isdb_mmt.proofs.MediaLeaves.{given-back}
+use Rattle.isdb_mmt.specs.Pushes.Placed.{joinOf}
 
 -- ---- a view put together
 
@@ -85,12 +86,12 @@ says s s′ n h =
 pub length-controls : (l : List ℕ) → length (controlsIn l) ≡ usedOf l .«control_ids»
 unfolding controlsIn
 length-controls l =
-    length-map controlPlaceOf (placesFrom (usedOf l .«control_ids») controlSize controlPlaces l) ∙ length-places controlSize (usedOf l .«control_ids») controlPlaces l
+    length-map (placesFrom (usedOf l .«control_ids») controlSize controlPlaces l) controlPlaceOf ∙ length-places controlSize (usedOf l .«control_ids») controlPlaces l
 
 pub length-sections : (l : List ℕ) → length (sectionsIn l) ≡ usedOf l .sections
 unfolding sectionsIn
 length-sections l =
-    length-map sectionPlaceOf (placesFrom (usedOf l .sections) sectionSize sectionPlaces l) ∙ length-places sectionSize (usedOf l .sections) sectionPlaces l
+    length-map (placesFrom (usedOf l .sections) sectionSize sectionPlaces l) sectionPlaceOf ∙ length-places sectionSize (usedOf l .sections) sectionPlaces l
 
 abbrev pub controlEntries : Session → List (ℕ × ControlState)
 controlEntries s = indexed (controlEntry (limitsOf (s .state)) s) 0 (controlsIn (s .state))
@@ -109,21 +110,18 @@ control-names s =
 
 -- ---- a control place
 
-abbrev join : Bool → Bool → Bytes → PartialMessage
-join long aggregated b = record { long = long; aggregated = aggregated; bytes = b }
-
 -- bytes that its flags do not speak of do not matter
 control-bytes : (c : Control) (a b m t : Bytes) → (c .joining ≡ true → a ≡ b) → (c .mpt ≡ true → m ≡ t)
     → controlStateOf c a m ≡ controlStateOf c b t
 unfolding controlStateOf
 control-bytes c a b m t e f =
-    let p : given (c .joining) (join (c .«long_length») (c .aggregated) a) ≡ given (c .joining) (join (c .«long_length») (c .aggregated) b) =
+    let p : given (c .joining) (joinOf (c .«long_length») (c .aggregated) a) ≡ given (c .joining) (joinOf (c .«long_length») (c .aggregated) b) =
     either (c .joining) (λ y. rw (e y)) (λ y. rw y) in
     let q : given (c .mpt) m ≡ given (c .mpt) t = either (c .mpt) (λ y. rw (f y)) (λ y. rw y) in
     λ i. record { reassembly = record { number = given (c .seen) (c .sequence); partial = p i }; mpt = q i }
 
 join-laid : (o : Option PartialMessage) (area i : ℕ) (l : Bytes) → partialLength o ≤ area → (i + 1) * area ≤ length l
-    → given (isSome o) (join (longIn o) (aggregatedIn o) (part (i * area) (partialLength o) (bytesOver (i * area) (joinedIn o) l))) ≡ o
+    → given (isSome o) (joinOf (longIn o) (aggregatedIn o) (part (i * area) (partialLength o) (bytesOver (i * area) (joinedIn o) l))) ≡ o
 unfolding isSome
 join-laid none area i l h w = refl
 join-laid (some j) area i l h w =

@@ -1,11 +1,11 @@
 -- The tables of a message that a packet makes whole: what the walk and its commit leave is the model's. Assumes nothing.
-use Prim.Native.Nat.{ℕ, _+_, _-_, _*_, _≤_, _<_, max}
+use Prim.Native.Nat.{ℕ, _+_, _*_, _≤_, _<_}
 use mathlib.Core.Path.{_≡_, refl, sym, ap, _∙_, subst}
 use mathlib.Core.Bool.{Bool, true, false}
 use mathlib.Core.Option.{Option}
 use mathlib.Core.List.{List, map}
 use native.Mathlib.Omega.{arith}
-use native.Mathlib.Nat.{zero-add, mul-le-mul-right}
+use native.Mathlib.Nat.{zero-add, mul-le-mul-right, zero-max}
 use lib.ListN.{length, take, drop, replicate, length-replicate, length-drop}
 use lib.Seq.{length-take-le}
 use Rattle.isdb_mmt.specs.Memory.Layout.{mostSections, mostMessageArea, mostTableArea, mostCount, tableIds, sectionPlaces, sectionSize}
@@ -36,7 +36,7 @@ use Rattle.isdb_mmt.proofs.Placing.{bytes-cut, cut-located}
 use Rattle.isdb_mmt.proofs.Committed.{tables-located}
 use Rattle.isdb_mmt.proofs.Logging.{AllHeld, RecentHeld, Recents, recents-all}
 use Rattle.isdb_mmt.proofs.Loaded.{no-log, met, areas, version-start, store-view, held-view, versions-view}
-use Rattle.isdb_mmt.proofs.Commits.{logged-all, all-each, put-length, put-apart, recent-length, recent-apart, recent-is}
+use Rattle.isdb_mmt.proofs.Commits.{logged-all, put-length, put-apart, recent-length, recent-apart, recent-is, store-can}
 use Rattle.isdb_mmt.proofs.Leaving.{recent-there, recent-long, counters-are}
 use Rattle.isdb_mmt.proofs.Modelled.{AsModel, walk-is, full-above, used-after, kept-grows, fits-after, length-after, committed-kept, committed-rows}
 
@@ -67,9 +67,9 @@ module _ (s : Session) (ok : Sound (s .state) (s .others) (lengthsOf s)) (i : �
   abbrev c₁ : Counters
   c₁ = malformedMore c₀ (cutOf j .malformed)
 
-  pub message-can : CountsFit c₀ → length (s .others) ≡ tableIds → (assembled : List ℕ) → length assembled ≡ mostTableArea → length m ≤ mostMessageArea
-      → CanWalk ix₀ log₀ (s .others) assembled g₀ m 0 mostCount
-  message-can f lo assembled ls lm =
+  pub message-can : CountsFit c₀ → length (s .others) ≡ tableIds → length m ≤ mostMessageArea
+      → CanWalk ix₀ log₀ (s .others) g₀ m 0 mostCount
+  message-can f lo lm =
       record {
         copies =
             record {
@@ -78,7 +78,6 @@ module _ (s : Session) (ok : Sound (s .state) (s .others) (lengthsOf s)) (i : �
               othersLong = lo;
               used = ok .there .sections;
             };
-        assembledLong = ls;
         room =
             record {
               tables = f .tables;
@@ -183,9 +182,6 @@ module _ (s : Session) (ok : Sound (s .state) (s .others) (lengthsOf s)) (i : �
           ∙ zero-max (tablesNeed (before .store) ts)
           ∙ ap (λ (x : KeptTables). tablesNeed x ts) same-store
           ∙ ap (tablesNeed store-before) same-tables
-        where
-          zero-max : (k : ℕ) → max 0 k ≡ k
-          zero-max k = omega arith
 
       -- ---- what is left
 
@@ -232,15 +228,8 @@ module _ (s : Session) (ok : Sound (s .state) (s .others) (lengthsOf s)) (i : �
 
         pub message-areas-can : length log ≡ mostSections → CanStoreAreas (s .tables) ix log r l i m
         message-areas-can ll =
-            let e : loggedFrom (r .used) 0 ix log ≡ es = logged-all (r .used) ix log (omega (arith, some-sections)) in
             record {
-              sections =
-                  record {
-                    few = some-sections;
-                    logs = omega (arith, some-sections);
-                    room = room;
-                    each = λ k h. rw (zero-add k) at (all-each (l .«table_area») m ix log (r .used) 0 (rw e all-fit) k h);
-                  };
+              sections = store-can (s .tables) ix log (r .used) (l .«table_area») m some-sections (omega (arith, some-sections)) room all-fit;
               room = met s ok .tables;
               few = omega (arith, met s ok .ranges .sections, met s ok .ranges .controls);
               area = omega (arith, met s ok .ranges .table);

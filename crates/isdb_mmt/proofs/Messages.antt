@@ -6,16 +6,14 @@ use mathlib.Core.Bool.{Bool, true, false}
 use mathlib.Core.List.{List, [], _∷_, _++_, map}
 use native.Mathlib.Omega.{arith}
 use native.Mathlib.Nat.{zero-add}
-use lib.Dec.{ltb}
-use lib.ListN.{length, getD, drop, length-append, length-take, List·getD-eq-default}
-use lib.Seq.{getD-take, getD-drop}
+use lib.ListN.{length, getD, drop, length-append, length-take}
 use mir.Syntax.{w8, w64}
 use mir.Val.{Fits}
-use borrow.Author.Tests.{ltb-true, ltb-false}
+use borrow.Author.Tests.{ltb-false}
 use Rattle.isdb_tlv.specs.Guards.{_<?_, _≤?_, _=?_}
 use Rattle.isdb_tlv.specs.Bytes.{be}
 use Rattle.isdb_tlv.specs.Walk.{turn}
-use Rattle.isdb_tlv.proofs.Guards.{either, cond-elim}
+use Rattle.isdb_tlv.proofs.Guards.{cond-elim}
 use Rattle.isdb_tlv.proofs.Numbers.{be-lt}
 use Rattle.isdb_mmt.specs.Memory.Layout.{mostMessageArea, mostTableArea, mostCount}
 use Rattle.isdb_mmt.specs.Decoder.Packet.{Bytes}
@@ -34,54 +32,45 @@ use Rattle.isdb_mmt.specs.declared.decoder.table_outcome.TableOutcome.{T
 use Rattle.isdb_mmt.specs.declared.decoder.walk.WalkState.{WalkState}
 use Rattle.isdb_mmt.specs.Pushes.Placed.{joinOf, placed, placedIn, placedOf, placedOfAll, placedFrom, malformedFrom, placedCut, behind}
 use Rattle.isdb_mmt.specs.Pushes.TableOutcome.{indexOf, tableOutcome, CanDecide}
-use Rattle.isdb_mmt.specs.Pushes.PendingTables.{mostAdded, mostBefore, Room, CanApply, cutShort, Applied, Walked, CanTake, CanWalk, inBody}
+use Rattle.isdb_mmt.specs.Pushes.PendingTables.{mostByTable, mostBefore, Room, CanApply, cutShort, Applied, Walked, CanTake, CanWalk, inBody}
 use Rattle.isdb_mmt.proofs.Places.{Lies}
 use Rattle.isdb_mmt.proofs.AggregatedMessages.{width-ge, aggregated-lies, aggregated-at, table-lies, tables-at}
 use Rattle.isdb_mmt.proofs.TableOutcomes.{length-index}
 use Rattle.isdb_mmt.proofs.Breaks.{small-told}
 use Rattle.isdb_mmt.proofs.Joined.{pieces, both-fit}
-use Rattle.isdb_mmt.proofs.Walking.{room-more, none-walked, cut-walked, one-walked, walked-more, Goes, goes-start, in-sequence, goes-end, goes-cut}
+use Rattle.isdb_mmt.proofs.Walking.{none-walked, cut-walked, one-walked, walked-more, Goes, goes-start, in-sequence, goes-end, goes-cut}
+use Rattle.isdb_mmt.proofs.Applied.{room-more}
 
 part-short : (m : Bytes) (p : Part) → length (partOf m p) ≤ p .length
 part-short m p = omega (arith, length-take (p .length) (drop (p .start) m))
-
-part-bytes : (m : Bytes) → ((i : ℕ) → Fits w8 (getD m i 0)) → (p : Part) (i : ℕ) → Fits w8 (getD (partOf m p) i 0)
-part-bytes m h p i =
-    either (ltb i (p .length))
-    (λ t. rw (getD-take (p .length) (drop (p .start) m) i 0 (ltb-true i (p .length) t), getD-drop (p .start) m i 0) (h (p .start + i)))
-    (λ t.
-    let k = ltb-false i (p .length) t in
-    rw (List·getD-eq-default (partOf m p) 0 {n = i} (omega (arith, part-short m p))) (omega arith))
 
 part-fits : (m : Bytes) → ((i : ℕ) → Fits w8 (getD m i 0)) → (n : ℕ) → be 2 m n ≤ 65535
 part-fits m h n = omega (arith, be-lt m h 2 n)
 
 -- ---- one table
 
-module _ (ix log others assembled : List ℕ) (g : WalkState) (a b : Bytes) (p : Part) (from : ℕ) (can : CanTake ix log others assembled g (a ++ b) p from) where
+module _ (ix log others : List ℕ) (g : WalkState) (a b : Bytes) (p : Part) (from : ℕ) (can : CanTake ix log others g (a ++ b) p from) where
   module _ (q : Part) (eq : q ≡ behind (length a) p) (x y : Bytes) (ex : x ≡ partOf a p) (ey : y ≡ partOf b q) where
     whole : x ++ y ≡ partOf (a ++ b) p
     whole = rw (ex, ey, eq) (pieces a b p)
 
-    pub table-tell : CanDecide assembled ix (g .used) x y
+    pub table-tell : CanDecide ix (g .used) x y
     table-tell =
         let l : length x + length y ≡ length (partOf (a ++ b) p) = sym (length-append x y) ∙ ap length whole in
         record {
           few = can .copies .used;
           indexLong = can .copies .indexLong;
-          assembledLong = can .assembledLong;
           short = omega (arith, part-short (a ++ b) p, can .few);
         }
 
     module _ (t : TableOutcome) (et : t ≡ tableOutcome (indexOf (g .used) ix) (g .mpt) (g .plt) (tableRead (x ++ y))) where
-      pub table-apply : ((i : ℕ) → Fits w8 (getD a i 0)) → ((i : ℕ) → Fits w8 (getD b i 0)) → CanApply ix log others g t
-      table-apply ha hb =
+      pub table-apply : CanApply ix log others g t
+      table-apply =
           let l : length (x ++ y) ≤ mostMessageArea = rw whole (omega (arith, part-short (a ++ b) p, can .few)) in
-          let h : (i : ℕ) → Fits w8 (getD (x ++ y) i 0) = rw whole (part-bytes (a ++ b) (both-fit a b ha hb) p) in
           record {
             copies = can .copies;
             room = can .room;
-            told = rw et (small-told (indexOf (g .used) ix) (g .used) (length-index (g .used) ix) (g .mpt) (g .plt) (x ++ y) h l);
+            told = rw et (small-told (indexOf (g .used) ix) (g .used) (length-index (g .used) ix) (g .mpt) (g .plt) (x ++ y) l);
           }
 
       pub table-walked : (r : WalkState) (ix′ log′ others′ : List ℕ) → Applied ix log others g t (from + p .start + 1) r ix′ log′ others′
@@ -103,28 +92,26 @@ few-table m p h =
     cond-elim FewIn (length m - p <? 4) (λ e. tt) (λ e.
     cond-elim FewIn (length m - p <? be 2 m (p + 2) + 4) (λ e. tt) (λ e. omega (arith, part-fits m h (p + 2))))
 
-pub record InTables (ix₀ log₀ others₀ assembled₀ : List ℕ) (g₀ : WalkState) (m : Bytes) (first from : ℕ) (ix log others assembled : List ℕ) (g : WalkState) (p : ℕ) : Type 0 where
+pub record InTables (ix₀ log₀ others₀ : List ℕ) (g₀ : WalkState) (m : Bytes) (first from : ℕ) (ix log others : List ℕ) (g : WalkState) (p : ℕ) : Type 0 where
   pub goes : Goes tableRead ix₀ log₀ others₀ g₀ (inBody m from first) (tablesFrom m first .malformed) ix log others g (inBody m from p) (tablesFrom m p .malformed) (min p (length m))
-  pub assembledLong : length assembled ≡ mostTableArea
-  pub can : CanWalk ix₀ log₀ others₀ assembled₀ g₀ m from (2 * mostCount)
+  pub can : CanWalk ix₀ log₀ others₀ g₀ m from (2 * mostCount)
 
-pub tables-start : (ix log others assembled : List ℕ) (g : WalkState) (m : Bytes) (first from : ℕ) → CanWalk ix log others assembled g m from (2 * mostCount)
-    → InTables ix log others assembled g m first from ix log others assembled g first
-tables-start ix log others assembled g m first from c =
+pub tables-start : (ix log others : List ℕ) (g : WalkState) (m : Bytes) (first from : ℕ) → CanWalk ix log others g m from (2 * mostCount)
+    → InTables ix log others g m first from ix log others g first
+tables-start ix log others g m first from c =
     record {
       goes = goes-start tableRead ix log others g (c .copies) (inBody m from first) (tablesFrom m first .malformed) (min first (length m));
-      assembledLong = c .assembledLong;
       can = c;
     }
 
-module _ (ix₀ log₀ others₀ assembled₀ : List ℕ) (g₀ : WalkState) (m : Bytes) (first from : ℕ) (ix log others assembled : List ℕ) (g : WalkState) (p : ℕ)
-    (go : InTables ix₀ log₀ others₀ assembled₀ g₀ m first from ix log others assembled g p) where
+module _ (ix₀ log₀ others₀ : List ℕ) (g₀ : WalkState) (m : Bytes) (first from : ℕ) (ix log others : List ℕ) (g : WalkState) (p : ℕ)
+    (go : InTables ix₀ log₀ others₀ g₀ m first from ix log others g p) where
   pub tables-short : length m ≤ mostMessageArea
   tables-short = omega (arith, go .can .short)
 
   tables-room : Room g others mostBefore
   tables-room =
-      room-more g others (2 * mostCount + min p (length m) * mostAdded) mostBefore (omega (arith, go .can .short)) (go .goes .room (2 * mostCount) (go .can .room))
+      room-more g others (2 * mostCount + min p (length m) * mostByTable) mostBefore (omega (arith, go .can .short)) (go .goes .room (2 * mostCount) (go .can .room))
 
   pub tables-cut-can : g .«message_malformed» ≤ mostBefore
   tables-cut-can = tables-room .bad
@@ -161,29 +148,27 @@ module _ (ix₀ log₀ others₀ assembled₀ : List ℕ) (g₀ : WalkState) (m 
       pub tables-less : length m - next < length m - p
       tables-less = omega (arith, lies .ahead, lies .within)
 
-      pub tables-can : ((i : ℕ) → Fits w8 (getD m i 0)) → CanTake ix log others assembled g m q from
+      pub tables-can : ((i : ℕ) → Fits w8 (getD m i 0)) → CanTake ix log others g m q from
       tables-can h =
           record {
             copies = go .goes .copies;
-            assembledLong = go .assembledLong;
             room = tables-room;
             lies = omega (arith, lies .within, lies .ends);
             few = subst FewIn (sym es ∙ e) (few-table m p h);
             short = go .can .short;
           }
 
-      pub tables-on : (r : WalkState) (ix′ log′ others′ assembled′ : List ℕ)
+      pub tables-on : (r : WalkState) (ix′ log′ others′ : List ℕ)
           → Walked tableRead ix log others g (placed from m q ∷ []) 1 0 r ix′ log′ others′
-          → length ix′ ≡ length ix → length log′ ≡ length log → length others′ ≡ length others → length assembled′ ≡ length assembled
-          → InTables ix₀ log₀ others₀ assembled₀ g₀ m first from ix′ log′ others′ assembled′ r next
-      tables-on r ix′ log′ others′ assembled′ w li ll lo ls =
+          → length ix′ ≡ length ix → length log′ ≡ length log → length others′ ≡ length others
+          → InTables ix₀ log₀ others₀ g₀ m first from ix′ log′ others′ r next
+      tables-on r ix′ log′ others′ w li ll lo =
           record {
             goes =
                 in-sequence tableRead ix₀ log₀ others₀ g₀ (inBody m from first) (tablesFrom m first .malformed) ix log others g (inBody m from p)
                 (tablesFrom m p .malformed) (min p (length m)) (go .goes) (placed from m q ∷ []) (inBody m from next) (rest-of (tableStep q next) e) 0
                 (tablesFrom m next .malformed) (left-of (tableStep q next) e ∙ sym (zero-add (tablesFrom m next .malformed))) 1 (min next (length m))
                 (omega (arith, lies .ahead, lies .within)) r ix′ log′ others′ w li ll lo;
-            assembledLong = ls ∙ go .assembledLong;
             can = go .can;
           }
 
@@ -218,7 +203,7 @@ content-in m h =
     (omega arith, omega (arith, part-fits m h 3)))))
     (λ e3. tt))))
 
-module _ (ix log others assembled : List ℕ) (g : WalkState) (a b : Bytes) (from : ℕ) (can : CanWalk ix log others assembled g (a ++ b) from (2 * mostCount))
+module _ (ix log others : List ℕ) (g : WalkState) (a b : Bytes) (from : ℕ) (can : CanWalk ix log others g (a ++ b) from (2 * mostCount))
     (c : Content) (ec : c ≡ contentOf (a ++ b)) where
   abbrev m : Bytes
   m = a ++ b
@@ -239,12 +224,11 @@ module _ (ix log others assembled : List ℕ) (g : WalkState) (a b : Bytes) (fro
   message-none e = as-placed nothing e 0 (omega arith) g ix log others (none-walked tableRead ix log others g (can .copies .used))
 
   module _ (p : Part) (e : c ≡ oneTable p) where
-    pub message-table-can : ((i : ℕ) → Fits w8 (getD a i 0)) → ((i : ℕ) → Fits w8 (getD b i 0)) → CanTake ix log others assembled g m p from
+    pub message-table-can : ((i : ℕ) → Fits w8 (getD a i 0)) → ((i : ℕ) → Fits w8 (getD b i 0)) → CanTake ix log others g m p from
     message-table-can ha hb =
         let q : ContentIn m (oneTable p) = subst (ContentIn m) (sym ec ∙ e) (content-in m (both-fit a b ha hb)) in
         record {
           copies = can .copies;
-          assembledLong = can .assembledLong;
           room = room-more g others (2 * mostCount) mostBefore (omega arith) (can .room);
           lies = q .0;
           few = q .1;
@@ -266,11 +250,10 @@ module _ (ix log others assembled : List ℕ) (g : WalkState) (a b : Bytes) (fro
       body-whole : x ++ y ≡ partOf m body
       body-whole = rw (ex, ey, eq) (pieces a b body)
 
-      pub message-body-can : CanWalk ix log others assembled g (x ++ y) (from + body .start) (2 * mostCount)
+      pub message-body-can : CanWalk ix log others g (x ++ y) (from + body .start) (2 * mostCount)
       message-body-can =
           record {
             copies = can .copies;
-            assembledLong = can .assembledLong;
             room = can .room;
             short = rw body-whole (omega (arith, part-short m body, body-in, can .short));
           }
@@ -297,22 +280,20 @@ aggregated-starts m long p =
     cond-elim (BehindIn p) (length m - p <? prefixWidth long) (λ e. tt) (λ e.
     cond-elim (BehindIn p) (length m - (p + prefixWidth long) <? be (prefixWidth long) m p) (λ e. tt) (λ e. omega (arith, width-ge long)))
 
-pub record InMessages (ix₀ log₀ others₀ assembled₀ : List ℕ) (g₀ : WalkState) (m : Bytes) (long : Bool) (ix log others assembled : List ℕ) (g : WalkState) (p : ℕ) : Type 0 where
+pub record InMessages (ix₀ log₀ others₀ : List ℕ) (g₀ : WalkState) (m : Bytes) (long : Bool) (ix log others : List ℕ) (g : WalkState) (p : ℕ) : Type 0 where
   pub goes : Goes tableRead ix₀ log₀ others₀ g₀ (placedFrom m long 0) (malformedFrom m long 0) ix log others g (placedFrom m long p) (malformedFrom m long p) (min p (length m))
-  pub assembledLong : length assembled ≡ mostTableArea
-  pub can : CanWalk ix₀ log₀ others₀ assembled₀ g₀ m 0 mostCount
+  pub can : CanWalk ix₀ log₀ others₀ g₀ m 0 mostCount
 
-pub messages-start : (ix log others assembled : List ℕ) (g : WalkState) (m : Bytes) (long : Bool) → CanWalk ix log others assembled g m 0 mostCount
-    → InMessages ix log others assembled g m long ix log others assembled g 0
-messages-start ix log others assembled g m long c =
+pub messages-start : (ix log others : List ℕ) (g : WalkState) (m : Bytes) (long : Bool) → CanWalk ix log others g m 0 mostCount
+    → InMessages ix log others g m long ix log others g 0
+messages-start ix log others g m long c =
     record {
       goes = goes-start tableRead ix log others g (c .copies) (placedFrom m long 0) (malformedFrom m long 0) (min 0 (length m));
-      assembledLong = c .assembledLong;
       can = c;
     }
 
-module _ (ix₀ log₀ others₀ assembled₀ : List ℕ) (g₀ : WalkState) (a b : Bytes) (long : Bool) (ix log others assembled : List ℕ) (g : WalkState) (p : ℕ)
-    (go : InMessages ix₀ log₀ others₀ assembled₀ g₀ (a ++ b) long ix log others assembled g p) where
+module _ (ix₀ log₀ others₀ : List ℕ) (g₀ : WalkState) (a b : Bytes) (long : Bool) (ix log others : List ℕ) (g : WalkState) (p : ℕ)
+    (go : InMessages ix₀ log₀ others₀ g₀ (a ++ b) long ix log others g p) where
   abbrev all : Bytes
   all = a ++ b
 
@@ -321,7 +302,7 @@ module _ (ix₀ log₀ others₀ assembled₀ : List ℕ) (g₀ : WalkState) (a 
 
   messages-room : Room g others (2 * mostCount)
   messages-room =
-      room-more g others (mostCount + min p (length all) * mostAdded) (2 * mostCount) (omega (arith, go .can .short)) (go .goes .room mostCount (go .can .room))
+      room-more g others (mostCount + min p (length all) * mostByTable) (2 * mostCount) (omega (arith, go .can .short)) (go .goes .room mostCount (go .can .room))
 
   pub messages-cut-can : g .«message_malformed» ≤ mostBefore
   messages-cut-can = omega (arith, messages-room .bad)
@@ -365,21 +346,20 @@ module _ (ix₀ log₀ others₀ assembled₀ : List ℕ) (g₀ : WalkState) (a 
         aggregated-whole : x ++ y ≡ partOf all q
         aggregated-whole = rw (ex, ey, ed) (pieces a b q)
 
-        pub messages-can : CanWalk ix log others assembled g (x ++ y) (q .start) (2 * mostCount)
+        pub messages-can : CanWalk ix log others g (x ++ y) (q .start) (2 * mostCount)
         messages-can =
             record {
               copies = go .goes .copies;
-              assembledLong = go .assembledLong;
               room = messages-room;
               short = rw aggregated-whole (omega (arith, part-short all q, aggregated-in .within, aggregated-in .ends, go .can .short));
             }
 
-        pub messages-on : (r : WalkState) (ix′ log′ others′ assembled′ : List ℕ)
+        pub messages-on : (r : WalkState) (ix′ log′ others′ : List ℕ)
             → Walked tableRead ix log others g (placedOf (q .start) (x ++ y)) (length (x ++ y) + 1) (tablesOf (x ++ y) .malformed) r ix′ log′ others′
-            → length ix′ ≡ length ix → length log′ ≡ length log → length others′ ≡ length others → length assembled′ ≡ length assembled
-            → InMessages ix₀ log₀ others₀ assembled₀ g₀ all long ix′ log′ others′ assembled′ r next
+            → length ix′ ≡ length ix → length log′ ≡ length log → length others′ ≡ length others
+            → InMessages ix₀ log₀ others₀ g₀ all long ix′ log′ others′ r next
         unfolding placedOfAll tablesOfAll
-        messages-on r ix′ log′ others′ assembled′ w li ll lo ls =
+        messages-on r ix′ log′ others′ w li ll lo =
             let w′ : Walked tableRead ix log others g (placedOf (q .start) (partOf all q)) (length (x ++ y) + 1) (tablesOf (partOf all q) .malformed) r ix′ log′ others′ =
             subst (λ (z : Bytes). Walked tableRead ix log others g (placedOf (q .start) z) (length (x ++ y) + 1) (tablesOf z .malformed) r ix′ log′ others′) aggregated-whole w in
             let n : length (x ++ y) ≤ q .length = rw aggregated-whole (part-short all q) in
@@ -391,7 +371,6 @@ module _ (ix₀ log₀ others₀ assembled₀ : List ℕ) (g₀ : WalkState) (a 
                   (aggregated-left s es (messageStep q next) e
                   ∙ swap (aggregatedFrom all long next .malformed) (tablesOf (partOf all q) .malformed) (tablesOfAll (partsOf all (aggregatedFrom all long next .found)) .malformed))
                   (length (x ++ y) + 1) (min next (length all)) (omega (arith, n, aggregated-behind, aggregated-in .within, aggregated-in .ends)) r ix′ log′ others′ w′ li ll lo;
-              assembledLong = ls ∙ go .assembledLong;
               can = go .can;
             }
           where
@@ -400,12 +379,11 @@ module _ (ix₀ log₀ others₀ assembled₀ : List ℕ) (g₀ : WalkState) (a 
 
 -- ---- joined data
 
-module _ (ix log others assembled : List ℕ) (g : WalkState) (m : Bytes) (long : Bool) (can : CanWalk ix log others assembled g m 0 mostCount) where
-  pub joined-can : CanWalk ix log others assembled g m 0 (2 * mostCount)
+module _ (ix log others : List ℕ) (g : WalkState) (m : Bytes) (long : Bool) (can : CanWalk ix log others g m 0 mostCount) where
+  pub joined-can : CanWalk ix log others g m 0 (2 * mostCount)
   joined-can =
       record {
         copies = can .copies;
-        assembledLong = can .assembledLong;
         room = room-more g others mostCount (2 * mostCount) (omega arith) (can .room);
         short = can .short;
       }

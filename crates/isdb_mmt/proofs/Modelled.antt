@@ -1,15 +1,14 @@
 -- A walk over tables, and the model: where the copies are not full they stand for the model's next state. Assumes nothing.
-use Prim.Native.Nat.{ℕ, suc, _+_, _-_, _*_, _≤_, _<_, max}
+use Prim.Native.Nat.{ℕ, _+_, _*_, _≤_, _<_, max}
 use mathlib.Core.Path.{_≡_, refl, sym, ap, _∙_, subst}
 use mathlib.Core.Bool.{true, false}
-use mathlib.Core.List.{List, [], _∷_, map}
+use mathlib.Core.List.{List, map}
 use native.Mathlib.Omega.{arith}
 use native.Mathlib.Nat.{zero-add}
 use lib.ListN.{length, take}
 use Rattle.isdb_mmt.specs.declared.decoder.counts.Counters.{Counters}
 use Rattle.isdb_mmt.specs.Memory.Layout.{mostSections, sectionSize}
 use Rattle.isdb_mmt.specs.Decoder.Packet.{Bytes}
-use Rattle.isdb_mmt.specs.Memory.Lent.{indexed}
 use Rattle.isdb_mmt.specs.Decoder.Kept.{KeptTables, Table, mptAfterAll, storedAll, countedAll}
 use Rattle.isdb_mmt.specs.Decoder.Needs.{tablesNeed}
 use Rattle.isdb_mmt.specs.declared.decoder.walk.WalkState.{WalkState}
@@ -28,6 +27,7 @@ use Rattle.isdb_mmt.specs.Memory.Octets.{Octets}
 use Rattle.isdb_mmt.proofs.Commits.{put-is}
 use Rattle.isdb_mmt.proofs.Walking.{mono}
 use Rattle.isdb_mmt.proofs.Leaving.{rows-are}
+use Rattle.isdb_mmt.proofs.PlacesFor.{length-indexed}
 
 pub record AsModel (w : TableState) (ts : List Table) (e : TableState) : Type 0 where
   pub mpt : e .mpt ≡ mptAfterAll (w .mpt) ts
@@ -43,11 +43,6 @@ as-model w ts e q =
       counters = ap (λ (z : TableState). z .counters) (sym q) ∙ counters-all ts w;
       longest = ap (λ (z : TableState). z .longest) (sym q) ∙ longest-all ts w;
     }
-
-length-indexed : {A B : Type 0} (f : ℕ → A → B) (k : ℕ) (xs : List A) → length (indexed f k xs) ≡ length xs
-unfolding indexed
-length-indexed f k [] = refl
-length-indexed f k (x ∷ xs) = ap suc (length-indexed f (k + 1) xs)
 
 module _ (read : Bytes → Table) (found-at : ReadPlaced read) (ix log others : List ℕ) (g : WalkState) (xs : List Placed) (n k : ℕ) (r : WalkState) (ix′ log′ others′ : List ℕ)
     (walked : Walked read ix log others g xs n k r ix′ log′ others′) (m : Bytes) (a : Areas) (c : Counters)

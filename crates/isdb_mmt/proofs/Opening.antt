@@ -12,7 +12,7 @@ use borrow.Author.Tests.{le-leb}
 use Rattle.isdb_tlv.specs.Bytes.{be}
 use Rattle.isdb_tlv.specs.Fields.{written, Fit}
 use Rattle.isdb_tlv.proofs.Fields.{length-written, be-behind, be-before}
-use Rattle.isdb_mmt.specs.Memory.Lent.{over, flag, flagByte, placesFrom, namesFrom, distinct, every, indexed}
+use Rattle.isdb_mmt.specs.Memory.Lent.{over, flag, placesFrom, namesFrom, distinct, every, indexed}
 use Rattle.isdb_mmt.specs.Memory.Layout.{tableIds, usedPlace, latestPlace, timePlace, countersPlace, stateSize}
 use Rattle.isdb_mmt.specs.Memory.Limits.{asked}
 use Rattle.isdb_mmt.specs.Memory.Session.{Session, limitsFields, limitsOf, usedOf, latestOf, timeOf, countersOf}
@@ -26,10 +26,9 @@ use Rattle.isdb_mmt.specs.declared.decoder.limits.Lengths.{Lengths}
 use Rattle.isdb_mmt.specs.declared.decoder.head.Used.{Used}
 use Rattle.isdb_mmt.specs.declared.decoder.head.Latest.{Latest}
 use Rattle.isdb_mmt.specs.declared.decoder.head.Time.{Time}
-use Rattle.isdb_mmt.specs.declared.decoder.counts.Counters.{Counters}
 use Rattle.isdb_mmt.proofs.Lent.{over-start, length-over}
 use Rattle.isdb_mmt.proofs.Limits.{passed}
-use Rattle.isdb_mmt.proofs.Stored.{holds-front, yes-no, limits-held}
+use Rattle.isdb_mmt.proofs.Stored.{holds-front, yes-no, limits-held, flag-small}
 
 -- `s` has come of `s₀` by zeros in the first `i` elements
 pub record Cleared (s₀ s : List ℕ) (i : ℕ) : Type 0 where
@@ -124,10 +123,6 @@ unfolding be
 be-zeros zero n at = refl
 be-zeros (suc w) n at = omega (arith, be-zeros w n at, getD-zeros n (at + w))
 
-flag-fits : (b : Bool) → flagByte b < 256
-flag-fits true = omega arith
-flag-fits false = omega arith
-
 length-opened : (l : Limits) → length (openedState l) ≡ stateSize
 unfolding openedState
 length-opened l =
@@ -151,29 +146,12 @@ noTables = record { plt = false; «plt_length» = 0; tot = false; «tot_length»
 abbrev pub noTime : Time
 noTime = record { seen = false; timestamp = 0 }
 
-abbrev pub noCounts : Counters
-noCounts =
-    record {
-      «tlv_packets» = 0;
-      «ip_errors» = 0;
-      «non_mmtp» = 0;
-      ntp = 0;
-      tables = 0;
-      «crc_errors» = 0;
-      malformed = 0;
-      «version_changes» = 0;
-      «orphan_fragments» = 0;
-      oversize = 0;
-      «message_malformed» = 0;
-      «split_errors» = 0;
-    }
-
 -- limits that pass the questions fit their fields
 limits-fit : (l : Limits) (n : Lengths) → asked l n ≡ 0 → Fit (limitsFields l)
 limits-fit l n e =
     let p = passed l n e in (
       omega arith,
-      (omega arith, (omega arith, (omega arith, (omega arith, (omega arith, (omega arith, (flag-fits (l .«pass_scrambled»), tt))))))),
+      (omega arith, (omega arith, (omega arith, (omega arith, (omega arith, (omega arith, (flag-small (l .«pass_scrambled»), tt))))))),
     )
 
 -- after an accepted opening the limits are those that it was given
@@ -238,8 +216,8 @@ module _ (l : Limits) (s : Session) where
       let n = none 8 (timePlace + 1) (omega arith) (omega arith) in
       λ i. record { seen = p i; timestamp = n i }
 
-  pub opened-counters : countersOf (openedSession l s .state) ≡ noCounts
-  unfolding openedSession countersOf
+  pub opened-counters : countersOf (openedSession l s .state) ≡ noCounters
+  unfolding openedSession countersOf noCounters
   opened-counters =
       let n : (k : ℕ) → k ≤ 11 → be 8 (over 0 (openedState l) (s .state)) (countersPlace + 8 * k) ≡ 0 =
       λ k h. none 8 (countersPlace + 8 * k) (omega arith) (omega arith) in
@@ -272,8 +250,8 @@ others-fit l s = every-zeros countFits tableIds refl
 
 -- bytes with no place in use, nothing kept and no counts, under limits that pass the questions
 blank-sound : (l : Limits) (m others : List ℕ) (n : Lengths) → asked l n ≡ 0 → limitsOf m ≡ l → usedOf m ≡ noPlaces
-    → latestOf m ≡ noTables → countersOf m ≡ noCounts → every countFits others ≡ true → soundIn m others n ≡ true
-unfolding soundIn headSound placesSound namesSound usedSound latestSound countersSound mediaIn controlsIn sectionsIn every distinct placesFrom namesFrom
+    → latestOf m ≡ noTables → countersOf m ≡ noCounters → every countFits others ≡ true → soundIn m others n ≡ true
+unfolding soundIn headSound placesSound namesSound usedSound latestSound countersSound noCounters mediaIn controlsIn sectionsIn every distinct placesFrom namesFrom
 blank-sound l m others n e el eu et ec eo =
     simp (el, eu, et, ec, e, le-leb 0 (l .«media_ids») zero-le, le-leb 0 (l .«control_ids») zero-le, le-leb 0 (l .sections) zero-le, eo)
 

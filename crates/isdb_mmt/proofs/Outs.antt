@@ -36,7 +36,6 @@ use Rattle.isdb_mmt.specs.Decoder.Maps.{isSome}
 use Rattle.isdb_mmt.specs.Decoder.Objects.{Mfu, Asset, Rec, UnitEffect, gap, mostObject, grown, continued, effectOf, objectOf, unitEffect, afterUnit, afterUnits, deliveredBy, afterHeaders, mpuNumber, tagged, passes, mediaGives}
 use Rattle.isdb_mmt.specs.Decoder.Needs.{heldLength, longestOf, unitArea, unitsNeed}
 use Rattle.isdb_mmt.specs.Memory.Octets.{Octets}
-use Rattle.isdb_mmt.specs.Memory.Lent.{flagByte}
 use Rattle.isdb_mmt.specs.Memory.Layout.{mostMfuArea}
 use Rattle.isdb_mmt.specs.Memory.Session.{objectFields}
 use Rattle.isdb_mmt.specs.Pushes.Records.{rowFlags, objectFor, headerOr, itemOr, hasHeader, hasItem}
@@ -54,10 +53,10 @@ use Rattle.isdb_mmt.specs.declared.mpu.MaybeMfu.the-variants.{None as no
 use Rattle.isdb_mmt.specs.declared.mpu.Unit.{Unit as DataUnit}
 use Rattle.isdb_mmt.specs.declared.mpu.UnitStep.{UnitStep}
 use Rattle.isdb_mmt.specs.declared.mpu.UnitStep.the-variants.{End, Malformed, Unit as found}
-use Rattle.isdb_mmt.proofs.Units.{Inside, unit-inside}
-use Rattle.isdb_mmt.proofs.Amounts.{Grows, grows-within}
+use Rattle.isdb_mmt.proofs.Amounts.{units-grow}
 use Rattle.isdb_mmt.proofs.Brief.{octets-drop, octets-take, octets-append}
 use Rattle.isdb_mmt.proofs.RecordRows.{RowFits, AllFit}
+use Rattle.isdb_mmt.proofs.Stored.{flag-small, flag-le}
 
 pub be-small : (s : Bytes) → Octets s → (w at : ℕ) → be w s at < 256 ^ w
 unfolding be
@@ -229,13 +228,6 @@ units-ok m (u ∷ us) a n h p =
     all-append (unitEffect m a u .outs) _ (q .outs) (units-ok m us (afterUnit a (unitEffect m a u)) n (q .held) (p .1))
 
 -- ---- rows
-
-flag-le : (b : Bool) → flagByte b ≤ 1
-flag-le true = omega arith
-flag-le false = omega arith
-
-pub flag-small : (b : Bool) → flagByte b < 256
-flag-small b = omega (arith, flag-le b)
 
 header-fits : (o : MaybeMfu) → MfuOk o → HeaderOk (headerOr o)
 header-fits noMfu h = record { fragment = omega arith; sample = omega arith; offset = omega arith; priority = omega arith; dependency = omega arith }
@@ -413,20 +405,9 @@ module _ (s : Bytes) (o : Octets s) (timed aggregated : Bool) where
   unfolding unitsOf unitsFrom
   all-units = keeps-run AllUnits (λ p. item (unitStep s timed aggregated p)) (λ p. none) (λ p. tt) (λ p. item-ok (unitStep s timed aggregated p) (step-ok p)) (suc (length s)) 8
 
-  unit-covers : (at : ℕ) (d : UnitStep) → Inside s at d → Grows dataBytes (length s) at (item d)
-  unit-covers at End w = omega arith
-  unit-covers at Malformed w = omega arith
-  unit-covers at (found u next) w = (
-    omega (arith, w .ahead),
-    w .within,
-    λ r. omega (arith, w .starts, w .ends, w .ahead, bytes-also u r),
-  )
-
   all-bytes : dataBytes (unitsOf s timed aggregated) ≤ length s
-  unfolding unitsOf unitsFrom
   all-bytes =
-      let h = grows-within dataBytes (length s) (λ p. item (unitStep s timed aggregated p)) (λ p. none) (λ p. refl) (λ p. unit-covers p (unitStep s timed aggregated p) (unit-inside s timed aggregated p)) (suc (length s)) 8 in
-      omega (arith, h)
+      units-grow s timed aggregated dataBytes refl refl (λ at next u o w. omega (arith, w .starts, w .ends, w .ahead, bytes-also u o))
 
 payload-units-ok : (h : PayloadHeader) (q : Bytes) → Octets q → (us : List DataUnit) → AllUnits (some us) → AllPayloadUnits (map (payloadUnit h q) us)
 payload-units-ok h q o [] a = tt

@@ -7,7 +7,7 @@ use mathlib.Core.Option.{Option, none, some}
 use mathlib.Core.List.{List, [], _∷_, _++_, map}
 use native.Mathlib.Omega.{arith}
 use lib.ListN.{length, getD, take}
-use lib.Dec.{eqb, leb, ltb}
+use lib.Dec.{eqb, ltb}
 use Rattle.isdb_tlv.specs.Bytes.{be}
 use Rattle.isdb_tlv.specs.Crc.{crcOf}
 use Rattle.isdb_tlv.specs.Fields.{Field, Fit}
@@ -18,7 +18,7 @@ use Rattle.isdb_mmt.specs.Decoder.Maps.{find, orElse}
 use Rattle.isdb_mmt.specs.Decoder.Objects.{Mfu, Asset, fresh, gap, afterUnit, unitEffect, afterUnits, afterHeaders, mpuIn, mpuNumber, mpuAfter, lastIn, rangeAfter, newMpu, assetAfter}
 use Rattle.isdb_mmt.specs.Formats.Section.{length12, longSectionOf}
 use Rattle.isdb_mmt.specs.Decoder.Reassembly.{PartialMessage, idle}
-use Rattle.isdb_mmt.specs.Decoder.Kept.{Section, sectionOf, keyOf, versionIn, Kept, otherVersion, keepIf, keep, KeptTables, Table, emptyTable, mptTable, pltTable, totTable, truncatedSection, aSection, otherTable, longTable, tableById, tableRead, latest, mptAfter, mptAfterAll, stored, storedAll}
+use Rattle.isdb_mmt.specs.Decoder.Kept.{Section, sectionOf, keyOf, versionIn, Kept, otherVersion, keepIf, keep, KeptTables, Table, emptyTable, mptTable, pltTable, totTable, truncatedSection, aSection, otherTable, tableRead, latest, mptAfter, mptAfterAll, stored, storedAll}
 use Rattle.isdb_mmt.specs.Decoder.GivenTables.{controlTables}
 use Rattle.isdb_mmt.specs.Decoder.Model.{Control, idleControl}
 use Rattle.isdb_mmt.specs.Decoder.Needs.{heldLength, partialLength, unitsNeed, tableArea, tablesNeed}
@@ -34,7 +34,9 @@ use Rattle.isdb_mmt.specs.Theorems.Room.{mostAdded}
 use Rattle.isdb_mmt.proofs.Fits.{AssetFits, fresh-fits, asset-fits}
 use Rattle.isdb_mmt.proofs.Stores.{CountersFit, counted-one}
 use Rattle.isdb_mmt.proofs.Joins.{JoinFits}
-use Rattle.isdb_mmt.proofs.Outs.{HeldOk, MediaOk, held-after, flag-small, object-fits}
+use Rattle.isdb_mmt.proofs.Outs.{HeldOk, MediaOk, held-after, object-fits}
+use Rattle.isdb_mmt.proofs.TableKinds.{by-kinds}
+use Rattle.isdb_mmt.proofs.Stored.{flag-small}
 
 fit-append : (xs ys : List Field) → Fit xs → Fit ys → Fit (xs ++ ys)
 fit-append [] ys a b = b
@@ -230,21 +232,18 @@ unfolding sectionOf
 section-ok b o = record { key = key-small b o; version = version-small b; octets = octets-take (length12 b 1 + 3) b o }
 
 table-ok : (b : Bytes) → Octets b → ReadOk (tableRead b)
-unfolding tableRead tableById
 table-ok b o =
-    let id = getD b 0 0 in
-    let long : ReadOk (longTable b) = cond-elim ReadOk (ltb (length b) 7) (λ e. tt) (λ e. section-ok b o) in
     let declared = octets-take (be 2 b 2 + 4) b o in
-    cond-elim ReadOk (eqb (length b) 0) (λ e. tt) (λ e.
-    cond-elim ReadOk (ltb id 0x11) (λ e. tt) (λ e.
-    cond-elim ReadOk (leb id 0x20) (λ e. declared) (λ e.
-    cond-elim ReadOk (eqb id 0x80) (λ e. declared) (λ e.
-    cond-elim ReadOk (eqb id 0xA1) (λ e. octets-take (length12 b 1 + 3) b o) (λ e.
-    cond-elim ReadOk (ltb id 0x8B) (λ e. tt) (λ e.
-    cond-elim ReadOk (leb id 0x9B) (λ e. long) (λ e.
-    cond-elim ReadOk (eqb id 0x9D) (λ e. long) (λ e.
-    cond-elim ReadOk (eqb id 0x9F) (λ e. long) (λ e.
-    cond-elim ReadOk (eqb id 0xA0) (λ e. long) (λ e. tt))))))))))
+    by-kinds ReadOk b
+    (record {
+      empty = tt;
+      mpt = λ l h. declared;
+      plt = declared;
+      tot = octets-take (length12 b 1 + 3) b o;
+      truncated = tt;
+      section = section-ok b o;
+      others = tt;
+    })
 
 pub tables-ok : (bs : List Bytes) → AllOctets bs → AllRead (map tableRead bs)
 tables-ok [] o = tt
@@ -294,19 +293,6 @@ stores-ok area [] n s h q l = store-ok-more area n (n + 0) s (omega arith) h
 stores-ok area (t ∷ ts) n s h q l =
     store-ok-more area (n + 1 + length ts) (n + suc (length ts)) (storedAll (stored s t) ts) (omega arith)
     (stores-ok area ts (n + 1) (stored s t) (store-ok area n s t h (q .0) (omega arith)) (q .1) (omega arith))
-
--- the counts of table ids alone
-pub others-counted : (ts : List Table) (n : ℕ) (s : KeptTables) → ((i : ℕ) → getD (s .others) i 0 ≤ n) → (i : ℕ) → getD (storedAll s ts .others) i 0 ≤ n + length ts
-unfolding storedAll stored
-others-counted [] n s h i = omega (arith, h i)
-others-counted (emptyTable ∷ ts) n s h i = omega (arith, others-counted ts n (stored s emptyTable) h i)
-others-counted (mptTable ok k b ∷ ts) n s h i = omega (arith, others-counted ts n (stored s (mptTable ok k b)) h i)
-others-counted (pltTable ok b ∷ ts) n s h i = omega (arith, others-counted ts n (stored s (pltTable ok b)) h i)
-others-counted (totTable ok c k b ∷ ts) n s h i = omega (arith, others-counted ts n (stored s (totTable ok c k b)) h i)
-others-counted (truncatedSection ∷ ts) n s h i = omega (arith, others-counted ts n (stored s truncatedSection) h i)
-others-counted (aSection x ∷ ts) n s h i = omega (arith, others-counted ts n (stored s (aSection x)) h i)
-others-counted (otherTable id ∷ ts) n s h i =
-    omega (arith, others-counted ts (n + 1) (stored s (otherTable id)) (counted-one (s .others) id n h) i)
 
 -- the MPT of a control id
 mpt-ok : (area : ℕ) (m : Option Bytes) (s : KeptTables) (t : Table) → TableOk area m → ReadOk t → tableArea s t ≤ area → TableOk area (mptAfter m t)

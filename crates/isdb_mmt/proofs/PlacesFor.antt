@@ -7,7 +7,7 @@ use mathlib.Core.List.{List, [], _∷_, map}
 use native.Mathlib.Nat.{add-zero}
 use native.Mathlib.Omega.{arith}
 use lib.Dec.{ltb}
-use lib.ListN.{length, getD, set}
+use lib.ListN.{length, getD, set, length-map}
 use borrow.Author.Tests.{ltb-true, ltb-false}
 use Rattle.isdb_tlv.specs.Bytes.{be}
 use Rattle.isdb_tlv.proofs.Guards.{either}
@@ -62,13 +62,9 @@ place-for-was-full names limit x e = go (foundFrom 0 names x) e
 
 -- ---- the entries of places
 
-pub length-map : {A B : Type 0} (f : A → B) (xs : List A) → length (map f xs) ≡ length xs
-length-map f [] = refl
-length-map f (x ∷ xs) = ap suc (length-map f xs)
-
 pub length-media : (l : List ℕ) → length (mediaIn l) ≡ usedOf l .«media_ids»
 unfolding mediaIn
-length-media l = length-map mediaPlaceOf (placesFrom (usedOf l .«media_ids») mediaSize mediaPlaces l) ∙ length-places mediaSize (usedOf l .«media_ids») mediaPlaces l
+length-media l = length-map (placesFrom (usedOf l .«media_ids») mediaSize mediaPlaces l) mediaPlaceOf ∙ length-places mediaSize (usedOf l .«media_ids») mediaPlaces l
 
 pub length-indexed : {A B : Type 0} (g : ℕ → A → B) (k : ℕ) (xs : List A) → length (indexed g k xs) ≡ length xs
 unfolding indexed

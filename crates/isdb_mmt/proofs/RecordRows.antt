@@ -1,5 +1,5 @@
 -- Rows of records: what was written is read back. Assumes nothing.
-use Prim.Native.Nat.{ℕ, _+_, _-_, _*_}
+use Prim.Native.Nat.{ℕ, _+_, _*_}
 use mathlib.Core.Path.{_≡_, refl, sym, ap, _∙_}
 use mathlib.Core.Bool.{Bool, true, false}
 use mathlib.Core.List.{List, [], _∷_, _++_, map, append-assoc}
@@ -40,11 +40,11 @@ flag-bits false false true false n e = rw e (refl, (refl, (refl, refl)))
 flag-bits false false false true n e = rw e (refl, (refl, (refl, refl)))
 flag-bits false false false false n e = rw e (refl, (refl, (refl, refl)))
 
-header-back : (o : MaybeMfu) → headerGiven (hasHeader o) (headerOr o) ≡ o
+pub header-back : (o : MaybeMfu) → headerGiven (hasHeader o) (headerOr o) ≡ o
 header-back noMfu = refl
 header-back (someMfu h) = refl
 
-item-back : (o : MaybeU32) → itemGiven (hasItem o) (itemOr o) ≡ o
+pub item-back : (o : MaybeU32) → itemGiven (hasItem o) (itemOr o) ≡ o
 item-back noU32 = refl
 item-back (someU32 i) = refl
 

@@ -5,7 +5,7 @@ use mathlib.Core.Bool.{Bool, true, false}
 use mathlib.Core.Option.{Option, none, some}
 use mathlib.Core.List.{List, [], map}
 use native.Mathlib.Omega.{arith}
-use lib.ListN.{length}
+use lib.ListN.{length, length-map}
 use Rattle.isdb_tlv.specs.Bytes.{be}
 use Rattle.isdb_mmt.specs.Decoder.Packet.{Bytes}
 use Rattle.isdb_mmt.specs.Decoder.Maps.{find, orElse}
@@ -27,7 +27,7 @@ use Rattle.isdb_mmt.specs.declared.decoder.media.Media.{Media}
 use Rattle.isdb_mmt.specs.declared.decoder.control.Control.{Control}
 use Rattle.isdb_mmt.specs.declared.decoder.section.KeptSection.{KeptSection}
 use Rattle.isdb_mmt.proofs.Views.{keys, found-at, absent}
-use Rattle.isdb_mmt.proofs.PlacesFor.{getD-indexed, length-indexed, length-map}
+use Rattle.isdb_mmt.proofs.PlacesFor.{getD-indexed, length-indexed}
 use Rattle.isdb_mmt.proofs.Lent.{length-places}
 use Rattle.isdb_mmt.proofs.ControlPlaces.{getD-places}
 use Rattle.isdb_mmt.proofs.Stays.{names-view, media-name, control-name, section-name}
@@ -55,7 +55,7 @@ module _ {A B : Type 0} (of : Bytes → A) (name : A → ℕ) (g : ℕ → A →
           let k = found-at es x 0 i (named ∙ w) in
           let z : i - 0 ≡ i = omega arith in
           let y : 0 + i ≡ i = omega arith in
-          let b : length (map of (placesFrom n size at l)) ≡ n = length-map of (placesFrom n size at l) ∙ length-places size n at l in
+          let b : length (map of (placesFrom n size at l)) ≡ n = length-map (placesFrom n size at l) of ∙ length-places size n at l in
           let u : i < n = omega (arith, k .1 .within, length-indexed g 0 (map of (placesFrom n size at l))) in
           rw z at (k .1 .found (g 0 d .1))
           ∙ ap (λ (p : ℕ × B). some (p .1))

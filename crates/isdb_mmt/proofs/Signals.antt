@@ -19,10 +19,11 @@ use Rattle.isdb_mmt.specs.declared.decoder.table_outcome.TableOutcome.{T
 use Rattle.isdb_mmt.specs.declared.decoder.walk.WalkState.{WalkState}
 use Rattle.isdb_mmt.specs.Pushes.Placed.{Placed, placedSections}
 use Rattle.isdb_mmt.specs.Pushes.TableOutcome.{indexOf, sectionOutcome, tableOutcome}
-use Rattle.isdb_mmt.specs.Pushes.PendingTables.{mostAdded, mostBefore, sectionRead, CanApply, Applied, Walked, at, CanTakeSection, CanWalkSections}
+use Rattle.isdb_mmt.specs.Pushes.PendingTables.{mostByTable, mostBefore, sectionRead, CanApply, Applied, Walked, at, CanTakeSection, CanWalkSections}
 use Rattle.isdb_mmt.proofs.TableOutcomes.{length-index}
 use Rattle.isdb_mmt.proofs.Breaks.{small-section-told}
-use Rattle.isdb_mmt.proofs.Walking.{room-more, one-walked, Goes, goes-start, in-sequence, goes-end}
+use Rattle.isdb_mmt.proofs.Walking.{one-walked, Goes, goes-start, in-sequence, goes-end}
+use Rattle.isdb_mmt.proofs.Applied.{room-more}
 
 -- ---- one section
 
@@ -84,7 +85,7 @@ module _ (ix₀ log₀ others₀ : List ℕ) (g₀ : WalkState) (b : Bytes) (ix 
           record {
             copies = go .goes .copies;
             room =
-                room-more g others (mostCount + min p (length b) * mostAdded) mostBefore (omega (arith, go .can .short))
+                room-more g others (mostCount + min p (length b) * mostByTable) mostBefore (omega (arith, go .can .short))
                 (go .goes .room mostCount (go .can .room));
             short = rw et (omega (arith, length-take (x .size) (drop (x .offset) b), lies .within, go .can .short));
             near = omega (arith, lies .within, go .can .short);

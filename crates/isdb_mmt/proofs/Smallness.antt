@@ -29,10 +29,10 @@ use Rattle.isdb_mmt.specs.declared.mpu.Unit.{Unit as DataUnit}
 use Rattle.isdb_mmt.specs.Decoder.Packet.{Bytes, ntp, headerIn, payloadUnit, payloadUnits, unitsFor, unitsRead, mediaOf, clear, readable, byType, mmtpIn, toPort, inFlow, datagramIn, byKind, classify}
 use Rattle.isdb_mmt.specs.Books.Demand.{AllSmall, Small, EverySmall, Feed, packetsOf, AllFit}
 
-take-small : (n : ℕ) (b : Bytes) → length b < 65536 → length (take n b) < 65536
+pub take-small : (n : ℕ) (b : Bytes) → length b < 65536 → length (take n b) < 65536
 take-small n b l = omega (arith, length-take n b)
 
-drop-small : (n : ℕ) (b : Bytes) → length b < 65536 → length (drop n b) < 65536
+pub drop-small : (n : ℕ) (b : Bytes) → length b < 65536 → length (drop n b) < 65536
 drop-small n b l = omega (arith, length-drop n b)
 
 -- a media payload

@@ -1,9 +1,8 @@
 -- What tables leave of the state: places in use, section places, counters, PLT and TOT, each read back; all else is as before.
 -- Assumes nothing.
-use Prim.Native.Nat.{ℕ, _+_, _*_, _≤_, _<_}
+use Prim.Native.Nat.{ℕ, _+_, _*_, _≤_}
 use mathlib.Core.Path.{_≡_, sym, ap, _∙_}
 use mathlib.Core.Logic.{inl, inr}
-use mathlib.Core.Bool.{Bool, true, false}
 use mathlib.Core.List.{List, map}
 use native.Mathlib.Omega.{arith}
 use lib.ListN.{length, take, drop}
@@ -14,7 +13,7 @@ use Rattle.isdb_mmt.specs.Decoder.Kept.{Kept, KeptTables}
 use Rattle.isdb_mmt.specs.Decoder.Maps.{isSome}
 use Rattle.isdb_mmt.specs.Decoder.Model.{State}
 use Rattle.isdb_mmt.specs.Memory.Layout.{usedPlace, latestPlace, timePlace, countersPlace, mediaPlaces, sectionPlaces, sectionSize, mostMediaIds, mostControlIds, mostSections, mostTableArea, stateSize}
-use Rattle.isdb_mmt.specs.Memory.Lent.{over, flagByte, placesFrom}
+use Rattle.isdb_mmt.specs.Memory.Lent.{over, placesFrom}
 use Rattle.isdb_mmt.specs.Memory.Session.{limitsOf, usedOf, usedFields, latestOf, latestFields, timeOf, countersOf, countersFields, sectionPlaceOf}
 use Rattle.isdb_mmt.specs.Memory.Check.{sectionsIn}
 use Rattle.isdb_mmt.specs.Pushes.MediaPush.{withUsed}
@@ -23,7 +22,7 @@ use Rattle.isdb_mmt.specs.Pushes.Leaves.{keptPlace, usedFor, sectionRows
 use Rattle.isdb_mmt.specs.declared.decoder.limits.Limits.{Limits}
 use Rattle.isdb_mmt.specs.declared.decoder.head.Used.{Used}
 use Rattle.isdb_mmt.proofs.Lent.{length-over, places-apart}
-use Rattle.isdb_mmt.proofs.Stored.{apart, limits-own, latest-own, time-own, counters-own, used-back, latest-back, counters-back}
+use Rattle.isdb_mmt.proofs.Stored.{apart, limits-own, latest-own, time-own, counters-own, used-back, latest-back, counters-back, flag-small}
 use Rattle.isdb_mmt.proofs.Sessions.{Sort, media, controls, sections, inUse, named, place-apart, used-apart}
 use Rattle.isdb_mmt.proofs.TableAreas.{AllKept, length-rows, rows-read}
 
@@ -149,10 +148,6 @@ module _ (s : KeptTables) (area : ℕ) (small : area ≤ mostTableArea) (p : tab
 
   pub long-latest : length (withLatest s b) ≡ length b
   long-latest = length-over latestPlace fields b (omega (arith, length-latest))
-
-  flag-small : (x : Bool) → flagByte x < 256
-  flag-small true = omega arith
-  flag-small false = omega arith
 
   latest-fits : Fit (latestFields (latestFor s))
   unfolding latestFor

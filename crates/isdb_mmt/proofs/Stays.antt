@@ -1,11 +1,11 @@
 -- A session whose view its places can hold, with counts up to 2^53, no name twice and no more of each than its limits say, and whose
 -- stored lengths are those of the bytes that stand there, passes question 5. Assumes nothing.
-use Prim.Native.Nat.{ℕ, zero, suc, _+_, _-_, _*_, _≤_, _<_}
-use mathlib.Core.Path.{_≡_, refl, ap, _∙_}
+use Prim.Native.Nat.{ℕ, zero, suc, _+_, _*_, _≤_, _<_}
+use mathlib.Core.Path.{_≡_, refl, _∙_}
 use mathlib.Core.Bool.{Bool, true, false}
 use mathlib.Core.List.{List, [], _∷_, _++_, map}
 use native.Mathlib.Omega.{arith}
-use lib.ListN.{length, getD, set, drop, length-take, length-drop}
+use lib.ListN.{length, getD, set, drop, length-take, length-drop, length-map}
 use native.Mathlib.Nat.{add-zero, mul-le-mul-right}
 use borrow.Author.Tests.{le-leb, leb-true}
 use Rattle.isdb_tlv.specs.Bytes.{be}
@@ -17,7 +17,7 @@ use Rattle.isdb_mmt.specs.Memory.Lent.{part, placesFrom, namesFrom, ever
 use Rattle.isdb_mmt.specs.Memory.Limits.{asked}
 use Rattle.isdb_mmt.specs.Memory.Layout.{mostCount, mediaPlaces, mediaSize, controlPlaces, controlSize, sectionPlaces, sectionSize}
 use Rattle.isdb_mmt.specs.Memory.Session.{Session, limitsOf, usedOf, latestOf, countersOf, mediaPlaceOf, controlPlaceOf, sectionPlaceOf}
-use Rattle.isdb_mmt.specs.Memory.Check.{countFits, lengthFits, mediaSound, controlSound, sectionSound, mediaIn, controlsIn, sectionsIn, sound, lengthsOf}
+use Rattle.isdb_mmt.specs.Memory.Check.{countFits, lengthFits, mediaSound, controlSound, sectionSound, mediaIn, controlsIn, sectionsIn, sound, lengthsOf, Sound}
 use Rattle.isdb_mmt.specs.Memory.View.{given, mfuOf, assetOfPlace, controlStateOf, assetEntry, controlEntry, sectionEntry, viewBy, view}
 use Rattle.isdb_mmt.specs.declared.decoder.limits.Limits.{Limits}
 use Rattle.isdb_mmt.specs.declared.decoder.media.Media.{Media}
@@ -27,7 +27,7 @@ use Rattle.isdb_mmt.proofs.Names.{true-not-false}
 use Rattle.isdb_mmt.proofs.Lent.{names-of, length-places}
 use Rattle.isdb_mmt.proofs.Views.{keys, keys-indexed}
 use Rattle.isdb_mmt.proofs.Limits.{passed}
-use Rattle.isdb_mmt.proofs.Checks.{media-is, control-is, is-sound, sound-session}
+use Rattle.isdb_mmt.proofs.Checks.{media-is, control-is, is-sound}
 use Rattle.isdb_mmt.proofs.Guards.{was-both}
 use Rattle.isdb_mmt.proofs.Every.{Every}
 use Rattle.isdb_mmt.proofs.Fits.{AssetFits}
@@ -35,6 +35,7 @@ use Rattle.isdb_mmt.proofs.Named.{Named}
 use Rattle.isdb_mmt.proofs.Joins.{JoinFits}
 use Rattle.isdb_mmt.proofs.PlaceFits.{TableOk, KeptOk, ControlOk}
 use Rattle.isdb_mmt.proofs.Storable.{MediaFits, ReassemblyFits, Storable}
+use Rattle.isdb_mmt.proofs.PlacesFor.{length-indexed}
 
 -- of each place with its index
 module _ {A : Type 0} (E : ℕ → A → Type 0) where
@@ -64,8 +65,12 @@ pub record Exact (l : Limits) (s : Session) : Type 0 where
       → (l .sections + l .«control_ids» + 1) * l .«table_area» + latestOf (s .state) .«tot_length» ≤ length (s .tables)
 
 -- what stands within a buffer has its length
-part-length : (at n : ℕ) (b : Bytes) → at + n ≤ length b → length (part at n b) ≡ n
+pub part-length : (at n : ℕ) (b : Bytes) → at + n ≤ length b → length (part at n b) ≡ n
 part-length at n b h = omega (arith, length-take n (drop at b), length-drop at b)
+
+pub placed-mono : {A : Type 0} (E F : ℕ → A → Type 0) → ((i : ℕ) (x : A) → E i x → F i x) → (xs : List A) (k : ℕ) → Placed E k xs → Placed F k xs
+placed-mono E F f [] k h = tt
+placed-mono E F f (x ∷ xs) k h = (f k x (h .0), placed-mono E F f xs (k + 1) (h .1))
 
 -- one place stored anew, and one place more
 module _ {A : Type 0} (E : ℕ → A → Type 0) where
@@ -89,18 +94,9 @@ unfolding indexed every
 every-is g f P E h [] i a b = refl
 every-is g f P E h (x ∷ xs) i a b = rw (h i x (a .0) (b .0), every-is g f P E h xs (i + 1) (a .1) (b .1))
 
-length-indexed : {A B : Type 0} (g : ℕ → A → B) (xs : List A) (i : ℕ) → length (indexed g i xs) ≡ length xs
-unfolding indexed
-length-indexed g [] i = refl
-length-indexed g (x ∷ xs) i = ap suc (length-indexed g xs (i + 1))
-
-length-mapped : {A B : Type 0} (f : A → B) (xs : List A) → length (map f xs) ≡ length xs
-length-mapped f [] = refl
-length-mapped f (x ∷ xs) = ap suc (length-mapped f xs)
-
 module _ {A B : Type 0} (of : Bytes → A) (name : A → ℕ) (g : ℕ → A → ℕ × B) (size at n : ℕ) (l : Bytes) where
   pub length-view : length (indexed g 0 (map of (placesFrom n size at l))) ≡ n
-  length-view = length-indexed g (map of (placesFrom n size at l)) 0 ∙ length-mapped of (placesFrom n size at l) ∙ length-places size n at l
+  length-view = length-indexed g 0 (map of (placesFrom n size at l)) ∙ length-map (placesFrom n size at l) of ∙ length-places size n at l
 
   map-names : ((p : Bytes) → name (of p) ≡ be 4 p 0) → (ps : List Bytes) → map name (map of ps) ≡ map (λ p. be 4 p 0) ps
   map-names f [] = refl
@@ -277,16 +273,15 @@ placed-all f E most h (x ∷ xs) k b e =
     let q = was-both (f x) (every f xs) e in
     (h k x (omega arith) (q .0), placed-all f E most h xs (k + 1) (omega arith) (q .1))
 
-pub exact-was : (s : Session) → sound s ≡ true → Exact (limitsOf (s .state)) s
+pub exact-was : (s : Session) → Sound (s .state) (s .others) (lengthsOf s) → Exact (limitsOf (s .state)) s
 unfolding mediaSound controlSound mediaIn controlsIn sectionsIn
-exact-was s e =
+exact-was s q =
     let l = limitsOf (s .state) in
     let u = usedOf (s .state) in
-    let q = sound-session s e in
     let p = passed l (lengthsOf s) (q .limits) in
-    let m1 = length-mapped mediaPlaceOf (placesFrom (u .«media_ids») mediaSize mediaPlaces (s .state)) ∙ length-places mediaSize (u .«media_ids») mediaPlaces (s .state) in
-    let m2 = length-mapped controlPlaceOf (placesFrom (u .«control_ids») controlSize controlPlaces (s .state)) ∙ length-places controlSize (u .«control_ids») controlPlaces (s .state) in
-    let m3 = length-mapped sectionPlaceOf (placesFrom (u .sections) sectionSize sectionPlaces (s .state)) ∙ length-places sectionSize (u .sections) sectionPlaces (s .state) in
+    let m1 = length-map (placesFrom (u .«media_ids») mediaSize mediaPlaces (s .state)) mediaPlaceOf ∙ length-places mediaSize (u .«media_ids») mediaPlaces (s .state) in
+    let m2 = length-map (placesFrom (u .«control_ids») controlSize controlPlaces (s .state)) controlPlaceOf ∙ length-places controlSize (u .«control_ids») controlPlaces (s .state) in
+    let m3 = length-map (placesFrom (u .sections) sectionSize sectionPlaces (s .state)) sectionPlaceOf ∙ length-places sectionSize (u .sections) sectionPlaces (s .state) in
     record {
       media =
           placed-all (mediaSound l) (mediaThere l s) (l .«media_ids»)

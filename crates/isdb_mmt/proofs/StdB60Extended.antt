@@ -9,7 +9,7 @@ use native.Mathlib.Omega.{arith}
 use lib.ListN.{length, getD, length-append, length-map}
 use borrow.Author.Tests.{le-ltb, lt-leb, le-leb}
 use Rattle.isdb_tlv.specs.Guards.{_=?_}
-use Rattle.isdb_tlv.specs.Fields.{bits, packed, written, Fit}
+use Rattle.isdb_tlv.specs.Fields.{written, Fit}
 use Rattle.isdb_tlv.proofs.Fields.{size, length-written}
 use Rattle.isdb_mmt.specs.Formats.Part.{partAt}
 use Rattle.isdb_mmt.specs.Formats.Desc.{descriptorOf, extendedTimestamp}
@@ -87,9 +87,6 @@ units-read t o start us c =
 module _ {s : List ℕ} {at : ℕ} (o : PtsOffsets) (m : SentMpu) (c : MpuConforming o m) (h : FoundAt s at (mpuSent o m)) where
   abbrev units : List ℕ
   units = rowsSent (accessUnitSent o) (m .units)
-
-  abbrev word : ℕ
-  word = packed (bits 2 (m .leapIndicator) ∷ bits 6 (m .reserved) ∷ [])
 
   units-found : FoundAt s (at + 8) units
   units-found = located-rest (written (mpuFields m)) units h (length-written (mpuFields m))

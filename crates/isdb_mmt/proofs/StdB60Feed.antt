@@ -7,13 +7,12 @@ use mathlib.Core.List.{List, [], _∷_, _++_}
 use mathlib.Core.Option.{some}
 use native.Mathlib.Omega.{arith}
 use lib.ListN.{drop, getD}
-use Rattle.isdb_tlv.specs.Tlv.{packetType}
 use Rattle.isdb_tlv.specs.Fields.{bytesOf}
 use Rattle.isdb_tlv.specs.Iso23008.{Mmtp, sent as mmtpSent}
-use Rattle.isdb_tlv.specs.StdB32.{Kind, ipv4Packet, ipv6Packet, compressedIp, transmissionControl, nullPacket, kindCode, kindSeen}
+use Rattle.isdb_tlv.specs.StdB32.{kindCode}
 use Rattle.isdb_tlv.specs.StdB32.{Tlv, tlvSent, TlvConforming, hcfbSent, ipv6IdFits}
 use Rattle.isdb_tlv.proofs.Iso23008.{iso23008}
-use Rattle.isdb_tlv.proofs.StdB32.{tlv}
+use Rattle.isdb_tlv.proofs.StdB32.{tlv, kind-named}
 use Rattle.isdb_mmt.specs.Decoder.Packet.{Bytes, message, messagePacket, classify}
 use Rattle.isdb_mmt.specs.Decoder.Maps.{find, orElse}
 use Rattle.isdb_mmt.specs.Decoder.Objects.{fresh}
@@ -46,17 +45,9 @@ pub mpt-pushed : MptPushed
 mpt-pushed x m i c s s′ number records bytes rows out p zero =
     ap (λ y. controlOf (m .packetId) y .mpt) (p .state zero) ∙ mpt-fed x m (i .kind) (i .bytes) c (view s)
 
-kind-read : (k : Kind) → packetType (kindCode k) ≡ kindSeen k
-unfolding packetType
-kind-read ipv4Packet = refl
-kind-read ipv6Packet = refl
-kind-read compressedIp = refl
-kind-read transmissionControl = refl
-kind-read nullPacket = refl
-
 tlv-read : (t : Tlv) → TlvConforming t → classify (getD (tlvSent t) 1 0) (drop 4 (tlvSent t)) ≡ classify (kindCode (t .kind)) (t .content)
 unfolding classify
-tlv-read t c = rw (tlv t c .kind, tlv t c .content, kind-read (t .kind))
+tlv-read t c = rw (tlv t c .kind, tlv t c .content, kind-named (t .kind))
 
 pub mpt-in-tlv : MptInTlv
 mpt-in-tlv x m t fits c s = rw (tlv-read t fits) (mpt-fed x m (kindCode (t .kind)) (t .content) c s)

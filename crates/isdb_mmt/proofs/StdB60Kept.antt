@@ -6,16 +6,14 @@ use mathlib.Core.List.{List, [], _∷_, _++_, append-nil, map, map-append}
 use mathlib.Core.Option.{Option, some}
 use native.Mathlib.Nat.{add-zero, add-assoc}
 use native.Mathlib.Omega.{arith}
-use lib.Dec.{ltb, leb, eqb}
 use lib.ListN.{length, getD}
-use borrow.Author.Tests.{le-ltb, le-leb, ne-eqb, ltb-false, leb-true}
+use borrow.Author.Tests.{le-ltb, le-leb, ne-eqb}
 use Rattle.isdb_tlv.specs.Bytes.{be}
 use Rattle.isdb_tlv.specs.Fields.{bytesOf, written, Fit}
-use Rattle.isdb_tlv.proofs.Guards.{cond-elim}
 use Rattle.isdb_mmt.specs.Decoder.Maps.{orElse, one}
 use Rattle.isdb_mmt.specs.Decoder.Packet.{Bytes, MessagePacket, messagePacket, message}
 use Rattle.isdb_mmt.specs.Decoder.Reassembly.{Reassembly, short, reassemblyAfter, messageCompleted, orphan, oversize, cutOfAll}
-use Rattle.isdb_mmt.specs.Decoder.Kept.{Table, KeptTables, tableById, tableRead, longTable, mptAfter, mptAfterAll, stored, storedAll}
+use Rattle.isdb_mmt.specs.Decoder.Kept.{Table, KeptTables, tableById, tableRead, mptAfter, mptAfterAll, stored, storedAll}
 use Rattle.isdb_mmt.specs.Decoder.Kept.{tableCounted, tableIncrements, countedAll}
 use Rattle.isdb_mmt.specs.Decoder.GivenTables.{tablesGiven}
 use Rattle.isdb_mmt.specs.Decoder.Model.{State, Control, controlOf, reassemblyOf, packetCounted, messageCounted, reassemblyCounted}
@@ -32,6 +30,7 @@ use Rattle.isdb_mmt.specs.Standards.StdB60Messages.{controlSent, SentPar
 use Rattle.isdb_mmt.specs.Standards.StdB60Kept.{stateAfter, ContentPushed, NoMpt, LastMpt, mptAsTable, mptInPaSent, MptInPaKept, mptWitness}
 use Rattle.isdb_mmt.specs.Standards.StdB60Kept.{mptWitnessBytes, MptWitness, UndividedPushed, DividedPushed, MptRecognized, MptKept}
 use Rattle.isdb_mmt.proofs.StdB60Messages.{controls, divided}
+use Rattle.isdb_mmt.proofs.TableKinds.{by-kinds}
 
 -- an MPT is told from its bytes
 pub mpt-recognized : MptRecognized
@@ -48,29 +47,19 @@ mpt-recognized t c is =
     (rw (mpt t c .table, size, h .whole))
 
 -- another table leaves the MPT as it is
-module _ (m : Option Bytes) where
-  abbrev Same : Table → Type 0
-  Same x = mptAfter m x ≡ m
-
-  long-same : (b : Bytes) → Same (longTable b)
-  unfolding mptAfter
-  long-same b = cond-elim Same (ltb (length b) 7) (λ e. refl) (λ e. refl)
-
-  other-same : (b : Bytes) → NoMpt b → Same (tableRead b)
-  unfolding mptAfter tableRead tableById
-  other-same b other =
-      let id = getD b 0 0 in
-      cond-elim Same (eqb (length b) 0) (λ e. refl) (λ e.
-      cond-elim Same (ltb id 0x11) (λ e. refl) (λ low.
-      cond-elim Same (leb id 0x20)
-      (λ high. let l = ltb-false id 0x11 low in let h = leb-true id 0x20 high in let o = other l in absurd (omega arith)) (λ e.
-      cond-elim Same (eqb id 0x80) (λ e. refl) (λ e.
-      cond-elim Same (eqb id 0xA1) (λ e. refl) (λ e.
-      cond-elim Same (ltb id 0x8B) (λ e. refl) (λ e.
-      cond-elim Same (leb id 0x9B) (λ e. long-same b) (λ e.
-      cond-elim Same (eqb id 0x9D) (λ e. long-same b) (λ e.
-      cond-elim Same (eqb id 0x9F) (λ e. long-same b) (λ e.
-      cond-elim Same (eqb id 0xA0) (λ e. long-same b) (λ e. refl))))))))))
+other-same : (m : Option Bytes) (b : Bytes) → NoMpt b → mptAfter m (tableRead b) ≡ m
+unfolding mptAfter
+other-same m b other =
+    by-kinds (λ (x : Table). mptAfter m x ≡ m) b
+    (record {
+      empty = refl;
+      mpt = λ l h. let o = other l in absurd (omega arith);
+      plt = refl;
+      tot = refl;
+      truncated = refl;
+      section = refl;
+      others = refl;
+    })
 
 others-same : (m : Option Bytes) (bs : List Bytes) → All NoMpt bs → mptAfterAll m (map tableRead bs) ≡ m
 unfolding mptAfterAll

@@ -7,11 +7,11 @@ use mathlib.Core.Bool.{Bool, true, false}
 use mathlib.Core.Option.{Option, none, some}
 use mathlib.Core.List.{List, map}
 use native.Mathlib.Omega.{arith}
-use lib.ListN.{length, getD, drop, replicate, length-take}
+use lib.ListN.{length, getD, drop, replicate, length-take, length-map}
 use Rattle.isdb_mmt.specs.Decoder.Packet.{Bytes, MpuPacket, MessagePacket, Packet, ipError, ntp, nonMmtp, media, message, control, other, classify}
 use Rattle.isdb_mmt.specs.Decoder.Objects.{Mfu, Asset, fresh, assetAfter}
 use Rattle.isdb_mmt.specs.Decoder.Reassembly.{PartialMessage, mostMessage, reassemblyAfter, messageCompleted, cutOfAll}
-use Rattle.isdb_mmt.specs.Decoder.Kept.{zeros, tableRead, mptAfterAll}
+use Rattle.isdb_mmt.specs.Decoder.Kept.{zeros, tableRead, mptAfterAll, aSection, sectionOf}
 use Rattle.isdb_mmt.specs.Decoder.GivenTables.{tablesGiven, controlTables}
 use Rattle.isdb_mmt.specs.Decoder.Model.{State, Control as ControlState, idleControl, opened, assetOf, controlOf, reassemblyOf, packetCounted, timeAfter, pushed}
 use Rattle.isdb_mmt.specs.Decoder.Needs.{heldLength, needs}
@@ -34,7 +34,7 @@ use Rattle.isdb_mmt.proofs.Brief.{octets-drop, octets-take, Plain, plai
 use Rattle.isdb_mmt.specs.Theorems.Room.{mostAdded}
 use Rattle.isdb_mmt.proofs.Fits.{asset-more}
 use Rattle.isdb_mmt.proofs.Stores.{breaksIn, breaks-read, breaks-control, CountersFit, counters-more, counted-fit}
-use Rattle.isdb_mmt.proofs.Joins.{JoinFits, reassembly-fits, gives-fits, Given, given-cut, length-map, length-control, packet-fits, reassembly-counts}
+use Rattle.isdb_mmt.proofs.Joins.{JoinFits, reassembly-fits, gives-fits, Given, given-cut, packet-fits, reassembly-counts}
 use Rattle.isdb_mmt.proofs.Outs.{be-small, HeaderOk, MfuOk, ItemOk, ObjectOk, HeldOk, MediaOk, TimeOk, PacketOk, packet-ok}
 use Rattle.isdb_mmt.proofs.PlaceFits.{NumberOk, AssetOk, fresh-ok, asset-after, TableOk, KeptOk, StoreOk, store-ok-more, tables-ok, control-ok, stores-ok, mpts-ok, ControlOk, idle-ok}
 
@@ -149,7 +149,7 @@ module _ (l : Limits) (n : ℕ) (s : State) (h : Storable l n s) where
       let reassembly = reassemblyOf (c .id) s in
       let g = tables-given c o q in
       let bs = cutOfAll (messageCompleted reassembly c) .tables in
-      let many = length-map bs in
+      let many = length-map bs tableRead in
       counters-more (n + 1 + (mostMessage + 2)) (n + length (map tableRead bs)) (n + breaksIn (map tableRead bs)) (n + mostAdded) (n + mostAdded) (n + mostAdded)
       _ (omega arith) (omega (arith, many, g .many)) (omega (arith, breaks-read bs, g .long))
       (counted-fit (map tableRead bs) (n + 1 + (mostMessage + 2)) n n (controlOf (c .id) s .mpt) (s .store) _
@@ -160,7 +160,7 @@ module _ (l : Limits) (n : ℕ) (s : State) (h : Storable l n s) where
       → CountersFit (n + mostAdded) (n + mostAdded) (n + mostAdded) (pushed s (control bs) .counters)
   unfolding pushed
   control-counted bs q =
-      let many = length-control bs in
+      let many = length-map bs (λ (b : Bytes). aSection (sectionOf b)) in
       counters-more (n + 1) (n + length (controlTables bs)) (n + breaksIn (controlTables bs)) (n + mostAdded) (n + mostAdded) (n + mostAdded) _
       (omega arith) (omega (arith, many, q .0)) (omega (arith, breaks-control bs, q .1))
       (counted-fit (controlTables bs) (n + 1) n n none (s .store) _
@@ -184,7 +184,7 @@ module _ (l : Limits) (n : ℕ) (s : State) (h : Storable l n s) where
       let reassembly = reassemblyOf (c .id) s in
       let g = tables-given c o q in
       let bs = cutOfAll (messageCompleted reassembly c) .tables in
-      let many = length-map bs in
+      let many = length-map bs tableRead in
       record {
         assets = others-fit;
         controls = every-put (ReassemblyFits l) (c .id) _ (control-next c o q a) (s .controls) (h .controls);
@@ -198,7 +198,7 @@ module _ (l : Limits) (n : ℕ) (s : State) (h : Storable l n s) where
   control-stored : (bs : List Bytes) → Plain (control bs) → HasAreas l s (control bs) → Storable l (n + mostAdded) (pushed s (control bs))
   unfolding pushed needs
   control-stored bs q a =
-      let many = length-control bs in
+      let many = length-map bs (λ (b : Bytes). aSection (sectionOf b)) in
       record {
         assets = others-fit;
         controls = h .controls;

@@ -1,6 +1,6 @@
 -- The layout of a session's state: what is stored is read back, and each of the readings depends on its own bytes alone.
 -- Assumes nothing.
-use Prim.Native.Nat.{ℕ, _+_, _-_, _≤_}
+use Prim.Native.Nat.{ℕ, _+_, _-_, _≤_, _<_}
 use mathlib.Core.Path.{_≡_, refl, sym, ap, _∙_}
 use mathlib.Core.Bool.{Bool, true, false, not}
 use mathlib.Core.Logic.{_⊎_}
@@ -61,6 +61,13 @@ pub holds-written : (fs : List Field) → Fit fs → Holds 0 fs (written fs)
 holds-written fs f = rw append-nil at (holds-front fs [] f)
 
 -- a flag that is stored as a byte is the flag again
+pub flag-le : (b : Bool) → flagByte b ≤ 1
+flag-le true = omega arith
+flag-le false = omega arith
+
+pub flag-small : (b : Bool) → flagByte b < 256
+flag-small b = omega (arith, flag-le b)
+
 pub yes-no : (b : Bool) {n : ℕ} → n ≡ flagByte b → not (n =? 0) ≡ b
 yes-no true e = rw e
 yes-no false e = rw e

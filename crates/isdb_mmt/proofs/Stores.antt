@@ -1,6 +1,6 @@
 -- What tables do to what is kept and counted: what is kept parses, and counts grow by the number of tables and of their descriptor
 -- loops. Assumes nothing.
-use Prim.Native.Nat.{ℕ, suc, _+_, _-_, _/_, _^_, _≤_}
+use Prim.Native.Nat.{ℕ, suc, _+_, _/_, _^_, _≤_}
 use mathlib.Core.Path.{_≡_, refl}
 use mathlib.Core.Bool.{Bool, true, false, not, cond, _&&_}
 use mathlib.Core.Option.{Option, none, some}
@@ -8,7 +8,7 @@ use mathlib.Core.List.{List, [], _∷_, map}
 use native.Mathlib.Omega.{arith}
 use lib.ListN.{length, getD, set}
 use lib.Seq.{getD-set-same, getD-set-other, set-out}
-use lib.Dec.{eqb, leb, ltb}
+use lib.Dec.{eqb, ltb}
 use borrow.Author.Tests.{eqb-true, eqb-false, ltb-true, ltb-false}
 use Rattle.isdb_tlv.specs.Bytes.{be}
 use Rattle.isdb_tlv.proofs.Guards.{cond-elim, either}
@@ -19,13 +19,14 @@ use Rattle.isdb_mmt.specs.Formats.Mpt.{mptOf}
 use Rattle.isdb_mmt.specs.Formats.Plt.{pltOf}
 use Rattle.isdb_mmt.specs.Formats.Tot.{totOf}
 use Rattle.isdb_mmt.specs.Memory.Octets.{Octets}
-use Rattle.isdb_mmt.specs.Decoder.Kept.{Section, keyOf, sectionOf, parsesAs, Kept, otherVersion, keepIf, keep, Increments, increments, tableCounted, sectionIncrements, KeptTables, Table, emptyTable, mptTable, pltTable, totTable, truncatedSection, aSection, otherTable, mptParses, pltParses, totParses, longTable, tableById, tableRead, changes, tableIncrements, latest, mptAfter, mptAfterAll, stored, storedAll, countedAll}
+use Rattle.isdb_mmt.specs.Decoder.Kept.{Section, keyOf, sectionOf, parsesAs, Kept, otherVersion, keepIf, keep, Increments, increments, tableCounted, sectionIncrements, KeptTables, Table, emptyTable, mptTable, pltTable, totTable, truncatedSection, aSection, otherTable, mptParses, pltParses, totParses, tableRead, changes, tableIncrements, latest, mptAfter, mptAfterAll, stored, storedAll, countedAll}
 use Rattle.isdb_mmt.specs.Decoder.GivenTables.{controlTables}
 use Rattle.isdb_mmt.proofs.Declared.{same-section, same-body, same-tot, same-mpt, same-plt}
 use Rattle.isdb_mmt.proofs.Every.{Every, every-put}
-use Rattle.isdb_mmt.proofs.Fits.{one-le}
 use Rattle.isdb_mmt.proofs.Amounts.{breaksOf, section-breaks, table-breaks, total}
 use Rattle.isdb_mmt.proofs.Brief.{AllOctets}
+use Rattle.isdb_mmt.proofs.Maps.{one-le}
+use Rattle.isdb_mmt.proofs.TableKinds.{by-kinds}
 
 -- ---- a table whose declared bytes parse where it did
 
@@ -52,20 +53,17 @@ unfolding sectionOf parsesAs
 section-sane b o h k = rw (key-id b o, same-section b, same-body b (getD b 0 0), h, k)
 
 pub table-sane : (b : Bytes) → Octets b → Sane (tableRead b)
-unfolding tableRead tableById
 table-sane b o =
-    let id = getD b 0 0 in
-    let long : Sane (longTable b) = cond-elim Sane (ltb (length b) 7) (λ e. tt) (λ e. section-sane b o) in
-    cond-elim Sane (eqb (length b) 0) (λ e. tt) (λ e.
-    cond-elim Sane (ltb id 0x11) (λ e. tt) (λ e.
-    cond-elim Sane (leb id 0x20) (λ e h. rw (same-mpt b) h) (λ e.
-    cond-elim Sane (eqb id 0x80) (λ e h. rw (same-plt b) h) (λ e.
-    cond-elim Sane (eqb id 0xA1) (λ e h. rw (same-tot b) h) (λ e.
-    cond-elim Sane (ltb id 0x8B) (λ e. tt) (λ e.
-    cond-elim Sane (leb id 0x9B) (λ e. long) (λ e.
-    cond-elim Sane (eqb id 0x9D) (λ e. long) (λ e.
-    cond-elim Sane (eqb id 0x9F) (λ e. long) (λ e.
-    cond-elim Sane (eqb id 0xA0) (λ e. long) (λ e. tt))))))))))
+    by-kinds Sane b
+    (record {
+      empty = tt;
+      mpt = λ l h k. rw (same-mpt b) k;
+      plt = λ k. rw (same-plt b) k;
+      tot = λ k. rw (same-tot b) k;
+      truncated = tt;
+      section = section-sane b o;
+      others = tt;
+    })
 
 pub tables-sane : (bs : List Bytes) → AllOctets bs → AllSane (map tableRead bs)
 tables-sane [] o = tt

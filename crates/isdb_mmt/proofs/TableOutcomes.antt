@@ -1,12 +1,12 @@
 -- What is decided of a table: one law for each return. Assumes nothing.
-use Prim.Native.Nat.{ℕ, zero, suc, _+_, _-_, _*_, _≤_, _<_, _%_}
+use Prim.Native.Nat.{ℕ, zero, suc, _+_, _*_, _≤_, _<_, _%_}
 use mathlib.Core.Path.{_≡_, refl, sym, ap, _∙_}
 use mathlib.Core.Bool.{Bool, true, false, not, cond}
 use mathlib.Core.List.{List, [], _∷_, map}
 use native.Mathlib.Omega.{arith}
 use native.Mathlib.Nat.{add-zero, zero-add, mul-zero}
 use lib.Dec.{eqb}
-use lib.ListN.{length, getD, take, length-take}
+use lib.ListN.{length, getD, take, length-take, length-map}
 use borrow.Author.Tests.{eq-eqb, ne-eqb, lt-ltb, le-ltb, not-true, not-false}
 use mir.Syntax.{w16, w32, w64}
 use mir.Val.{Fits}
@@ -62,11 +62,7 @@ byte-at s at = rw add-zero (omega arith)
 
 pub length-index : (n : ℕ) (l : List ℕ) → length (indexOf n l) ≡ n
 unfolding indexOf
-length-index n l = length-map (placesFrom n sectionSize 0 l) ∙ length-places sectionSize n 0 l
-  where
-    length-map : (ps : List (List ℕ)) → length (map sectionPlaceOf ps) ≡ length ps
-    length-map [] = refl
-    length-map (p ∷ ps) = ap suc (length-map ps)
+length-index n l = length-map (placesFrom n sectionSize 0 l) sectionPlaceOf ∙ length-places sectionSize n 0 l
 
 pub keys-index : (n : ℕ) (l : List ℕ) → keysOf (indexOf n l) ≡ namesFrom n sectionSize 0 l
 unfolding indexOf sectionPlaceOf

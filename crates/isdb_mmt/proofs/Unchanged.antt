@@ -5,7 +5,7 @@ use mathlib.Core.Bool.{Bool, true, false}
 use mathlib.Core.List.{List, [], _∷_, _++_, map, append-nil}
 use native.Mathlib.Nat.{add-zero}
 use native.Mathlib.Omega.{arith}
-use lib.ListN.{length, getD, take, drop, length-take, length-drop}
+use lib.ListN.{length, getD, take, drop, length-drop}
 use lib.Seq.{take-suc, take-add, drop-drop, getD-drop}
 use Rattle.isdb_tlv.specs.Bytes.{be}
 use Rattle.isdb_tlv.specs.Fields.{bytesOf, written}
@@ -16,7 +16,7 @@ use Rattle.isdb_mmt.specs.Decoder.Kept.{Kept}
 use Rattle.isdb_mmt.specs.Memory.Lent.{part, over, placesFrom, indexed}
 use Rattle.isdb_mmt.specs.Memory.Layout.{sectionPlaces, sectionSize}
 use Rattle.isdb_mmt.specs.Memory.Session.{Session, limitsOf, usedOf, latestOf, sectionPlaceOf, sectionFields}
-use Rattle.isdb_mmt.specs.Memory.Check.{Sound, lengthsOf, sectionsIn, sound}
+use Rattle.isdb_mmt.specs.Memory.Check.{Sound, lengthsOf, sectionsIn}
 use Rattle.isdb_mmt.specs.Memory.View.{given, sectionEntry, keptTableAt, viewBy, view}
 use Rattle.isdb_mmt.specs.Memory.Octets.{Octets}
 use Rattle.isdb_mmt.specs.Memory.PlacesOf.{tableLength, latestFor}
@@ -24,8 +24,7 @@ use Rattle.isdb_mmt.specs.Pushes.Leaves.{keptPlace, sectionRows, withSec
 use Rattle.isdb_mmt.specs.Pushes.FragmentPush.{lengthIf, normalLatest}
 use Rattle.isdb_mmt.specs.declared.decoder.limits.Limits.{Limits}
 use Rattle.isdb_mmt.specs.declared.decoder.section.KeptSection.{KeptSection}
-use Rattle.isdb_mmt.proofs.Checks.{is-sound}
-use Rattle.isdb_mmt.proofs.Stays.{Placed, Exact, exact-was, sectionThere}
+use Rattle.isdb_mmt.proofs.Stays.{Placed, exact-was, sectionThere, part-length, placed-mono}
 use Rattle.isdb_mmt.proofs.Fragments.{over-same}
 
 -- ---- places
@@ -62,10 +61,6 @@ section-bytes at l o h =
     ∙ ap (λ (y : List ℕ). take 1 (drop (at + 4) l) ++ take 4 y) (drop-drop 1 (at + 4) l ∙ ap (λ k. drop k l) z)) in
     rw (a, b, c, append-nil) (sym u)
 
-placed-mono : {A : Type 0} (E F : ℕ → A → Type 0) → ((i : ℕ) (x : A) → E i x → F i x) → (xs : List A) (k : ℕ) → Placed E k xs → Placed F k xs
-placed-mono E F h [] k p = tt
-placed-mono E F h (x ∷ xs) k p = (h k x (p .0), placed-mono E F h xs (k + 1) (p .1))
-
 rows-bytes : (g : ℕ → KeptSection → ℕ × Kept) (l : List ℕ) → Octets l → (n k at : ℕ) → at + sectionSize * n ≤ length l
     → Placed (λ i x. keptPlace (g i x) ≡ x) k (map sectionPlaceOf (placesFrom n sectionSize at l))
     → sectionRows (indexed g k (map sectionPlaceOf (placesFrom n sectionSize at l))) ≡ part at (sectionSize * n) l
@@ -99,9 +94,6 @@ unfolding isSome
 is-there true a = refl
 is-there false a = refl
 
-pub part-length : (at n : ℕ) (b : Bytes) → at + n ≤ length b → length (part at n b) ≡ n
-part-length at n b h = omega (arith, length-take n (drop at b), length-drop at b)
-
 pub given-length : (b : Bool) (at n : ℕ) (t : Bytes) → (b ≡ true → at + n ≤ length t) → tableLength (given b (part at n t)) ≡ lengthIf b n
 given-length true at n t h = part-length at n t (h refl)
 given-length false at n t h = refl
@@ -112,17 +104,13 @@ module _ (s : Session) (ok : Sound (s .state) (s .others) (lengthsOf s)) where
   abbrev l : Limits
   l = limitsOf (s .state)
 
-  exact : Exact l s
-  unfolding sound
-  exact = exact-was s (is-sound (s .state) (s .others) (lengthsOf s) ok)
-
   rows-are : Octets (s .state) → sectionRows (view s .store .kept) ≡ part sectionPlaces (sectionSize * usedOf (s .state) .sections) (s .state)
   unfolding view viewBy sectionsIn
   rows-are o =
       rows-bytes (sectionEntry l s) (s .state) o (usedOf (s .state) .sections) 0 sectionPlaces (omega (arith, ok .there .long, ok .there .sections))
       (placed-mono (sectionThere l s) (λ i x. keptPlace (sectionEntry l s i x) ≡ x)
       (λ i x h. let e = part-length (i * l .«table_area») (x .length) (s .tables) h in λ j. record { key = x .key; version = x .version; length = e j })
-      (sectionsIn (s .state)) 0 (exact .sections))
+      (sectionsIn (s .state)) 0 (exact-was s ok .sections))
 
   -- a state with these section places
   pub sections-same : Octets (s .state) → (b : List ℕ)
@@ -145,6 +133,6 @@ module _ (s : Session) (ok : Sound (s .state) (s .others) (lengthsOf s)) where
       let x = latestOf (s .state) in
       let p = is-there (x .plt) (keptTableAt l s (l .sections + l .«control_ids») (x .«plt_length»)) in
       let t = is-there (x .tot) (keptTableAt l s (l .sections + l .«control_ids» + 1) (x .«tot_length»)) in
-      let pl = given-length (x .plt) ((l .sections + l .«control_ids») * l .«table_area») (x .«plt_length») (s .tables) (exact .plt) in
-      let tl = given-length (x .tot) ((l .sections + l .«control_ids» + 1) * l .«table_area») (x .«tot_length») (s .tables) (exact .tot) in
+      let pl = given-length (x .plt) ((l .sections + l .«control_ids») * l .«table_area») (x .«plt_length») (s .tables) (exact-was s ok .plt) in
+      let tl = given-length (x .tot) ((l .sections + l .«control_ids» + 1) * l .«table_area») (x .«tot_length») (s .tables) (exact-was s ok .tot) in
       λ i. record { plt = p i; «plt_length» = pl i; tot = t i; «tot_length» = tl i }

@@ -1,55 +1,26 @@
 -- The units of an MPU payload: each leads on to a place ahead and its data lie within the declared bytes, so that steps from one
--- to the next go over all of them; and a kind and its code name each other. Assumes nothing.
-use Prim.Native.Nat.{ℕ, _+_, _-_, _%_, _≤_}
-use mathlib.Core.Path.{_≡_, refl, sym, _∙_}
-use mathlib.Core.Bool.{Bool, not}
+-- to the next go over all of them. Assumes nothing.
+use Prim.Native.Nat.{ℕ, _+_, _-_, _≤_}
+use mathlib.Core.Path.{_≡_, _∙_, refl}
+use mathlib.Core.Bool.{Bool, not, true}
 use mathlib.Core.List.{List}
-use mathlib.Core.Option.{none}
+use mathlib.Core.Option.{none, Option, some}
 use native.Mathlib.Omega.{arith}
-use lib.Dec.{ltb, leb, eqb}
+use lib.Dec.{ltb, leb}
 use lib.ListN.{length}
-use borrow.Author.Tests.{ltb-false, leb-true, eqb-true, eqb-false}
+use borrow.Author.Tests.{ltb-false, leb-true}
 use Rattle.isdb_tlv.specs.Bytes.{be}
-use Rattle.isdb_tlv.specs.Walk.{turn}
+use Rattle.isdb_tlv.specs.Walk.{turn, also}
 use Rattle.isdb_tlv.proofs.Walk.{Ahead, walk-at, plus, one-more as one-more-item}
 use Rattle.isdb_tlv.proofs.Guards.{cond-elim}
 use Rattle.isdb_mmt.proofs.Places.{Lies}
-use Rattle.isdb_mmt.specs.Formats.Mpu.{fragmentCode, fragmentType, indicatorCode, indicator, unitIn, unitAt, unitStep, item, unitsFrom}
-use Rattle.isdb_mmt.specs.declared.mpu.FragmentType.{FragmentType}
-use Rattle.isdb_mmt.specs.declared.mpu.FragmentationIndicator.{FragmentationIndicator}
-use Rattle.isdb_mmt.specs.declared.mpu.FragmentationIndicator.the-variants.{Complete, Head, Middle, Last}
+use Rattle.isdb_mmt.specs.Formats.Mpu.{unitIn, unitAt, unitStep, item, unitsFrom}
 use Rattle.isdb_mmt.specs.declared.mpu.Unit.{Unit as DataUnit}
 use Rattle.isdb_mmt.specs.declared.mpu.UnitStep.{UnitStep}
 use Rattle.isdb_mmt.specs.declared.mpu.UnitStep.the-variants.{End, Malformed, Unit as found}
 use Rattle.isdb_mmt.specs.declared.mpu.UnitCount.{UnitCount}
 use Rattle.isdb_mmt.specs.declared.mpu.UnitCount.the-variants.{Malformed as notWhole, Count}
-
-pub fragment-code : (c : ℕ) → fragmentCode (fragmentType c) ≡ c % 16
-unfolding fragmentType
-fragment-code c =
-    let P : FragmentType → Type 0 = λ t. fragmentCode t ≡ c % 16 in
-    cond-elim P (eqb (c % 16) 0) (λ e. sym (eqb-true (c % 16) 0 e)) (λ e0.
-    cond-elim P (eqb (c % 16) 1) (λ e. sym (eqb-true (c % 16) 1 e)) (λ e1.
-    cond-elim P (eqb (c % 16) 2) (λ e. sym (eqb-true (c % 16) 2 e)) (λ e2. refl)))
-
-pub indicator-code : (c : ℕ) → indicatorCode (indicator c) ≡ c % 4
-unfolding indicator
-indicator-code c =
-    let P : FragmentationIndicator → Type 0 = λ f. indicatorCode f ≡ c % 4 in
-    cond-elim P (eqb (c % 4) 0) (λ e. sym (eqb-true (c % 4) 0 e)) (λ e0.
-    cond-elim P (eqb (c % 4) 1) (λ e. sym (eqb-true (c % 4) 1 e)) (λ e1.
-    cond-elim P (eqb (c % 4) 2) (λ e. sym (eqb-true (c % 4) 2 e)) (λ e2.
-    let n0 = eqb-false (c % 4) 0 e0 in
-    let n1 = eqb-false (c % 4) 1 e1 in
-    let n2 = eqb-false (c % 4) 2 e2 in
-    omega arith)))
-
-pub indicator-of : (f : FragmentationIndicator) → indicator (indicatorCode f) ≡ f
-unfolding indicator
-indicator-of Complete = refl
-indicator-of Head = refl
-indicator-of Middle = refl
-indicator-of Last = refl
+use Rattle.isdb_mmt.specs.Decoder.Maps.{isSome}
 
 abbrev pub Inside : List ℕ → ℕ → UnitStep → Type 0
 Inside s at End = Unit {0}
@@ -101,6 +72,16 @@ module _ (s : List ℕ) (timed aggregated : Bool) where
   unfolding unitsFrom
   units-at at =
       walk-at (λ p. item (unitStep s timed aggregated p)) none (length s) (λ p. ahead-of p (unitStep s timed aggregated p) (unit-inside p)) at
+
+-- where a unit was found, they are it and those behind it
+pub units-also : (s : List ℕ) (timed aggregated : Bool) (at next : ℕ) (u : DataUnit) (x : UnitStep) → x ≡ unitStep s timed aggregated at → x ≡ found u next
+    → unitsFrom s timed aggregated at ≡ also u (unitsFrom s timed aggregated next)
+units-also s timed aggregated at next u x ex e = rw (units-at s timed aggregated at, ← ex, e)
+
+pub whole-behind : (u : DataUnit) (o : Option (List DataUnit)) → isSome (also u o) ≡ true → isSome o ≡ true
+unfolding isSome
+whole-behind u none h = h
+whole-behind u (some us) h = refl
 
 -- the turn of the loop that counts them
 pub one-more : (s : List ℕ) (timed aggregated : Bool) (at k : ℕ) {u : DataUnit} {next : ℕ} {r : UnitCount}

@@ -1,5 +1,5 @@
 -- A walk over tables on the copies: steps one after the other, and the loop over them. Assumes nothing.
-use Prim.Native.Nat.{ℕ, _+_, _-_, _*_, _≤_, _<_}
+use Prim.Native.Nat.{ℕ, _+_, _*_, _≤_, _<_}
 use mathlib.Core.Path.{_≡_, refl, sym, ap, _∙_, subst}
 use mathlib.Core.Bool.{true, false}
 use mathlib.Core.List.{List, [], _∷_, _++_}
@@ -17,21 +17,9 @@ use Rattle.isdb_mmt.specs.declared.decoder.table_outcome.TableOutcome.{T
 use Rattle.isdb_mmt.specs.declared.decoder.walk.WalkState.{WalkState}
 use Rattle.isdb_mmt.specs.Pushes.Placed.{Placed}
 use Rattle.isdb_mmt.specs.Pushes.TableOutcome.{indexOf, tableOutcome}
-use Rattle.isdb_mmt.specs.Pushes.PendingTables.{mostAdded, Logged, logged, withLog, placesOf, PendingTables, pendingOf, indexAfter, pendingAfter, pendingWith, pendingWithAll, Room, Copies, cutShort, WalkedTo, Applied, Walked}
+use Rattle.isdb_mmt.specs.Pushes.PendingTables.{mostByTable, Logged, logged, withLog, placesOf, PendingTables, pendingOf, indexAfter, pendingAfter, pendingWith, pendingWithAll, Room, Copies, cutShort, WalkedTo, Applied, Walked}
 use Rattle.isdb_mmt.proofs.Names.{true-not-false}
-use Rattle.isdb_mmt.proofs.Applied.{log-places}
-
-pub room-more : (g : WalkState) (others : List ℕ) (n k : ℕ) → n ≤ k → Room g others n → Room g others k
-room-more g others n k h r =
-    record {
-      tables = omega (arith, r .tables);
-      «crc_errors» = omega (arith, r .«crc_errors»);
-      malformed = omega (arith, r .malformed);
-      changes = omega (arith, r .changes);
-      breaks = omega (arith, r .breaks);
-      bad = omega (arith, r .bad);
-      each = λ j. omega (arith, r .each j);
-    }
+use Rattle.isdb_mmt.proofs.Applied.{log-places, room-more}
 
 -- ---- the index grows
 
@@ -66,7 +54,7 @@ module _ (read : Bytes → Table) where
     none-walked =
         record {
           to = record { stays = λ y. y; over = λ y z. true-not-false (g .full) z y; now = λ y. (y, refl); used = u };
-          room = λ most r. room-more g others most (most + 0 * mostAdded) (omega arith) r;
+          room = λ most r. room-more g others most (most + 0 * mostByTable) (omega arith) r;
           bad = omega arith;
         }
 
@@ -110,7 +98,7 @@ pub walked-more : (read : Bytes → Table) (ix log others : List ℕ) (g : WalkS
 walked-more read ix log others g xs n k r ix′ log′ others′ w m h =
     record {
       to = w .to;
-      room = λ most q. room-more r others′ (most + n * mostAdded) (most + m * mostAdded) (omega arith) (w .room most q);
+      room = λ most q. room-more r others′ (most + n * mostByTable) (most + m * mostByTable) (omega arith) (w .room most q);
       bad = w .bad;
     }
 
@@ -118,7 +106,7 @@ walked-more read ix log others g xs n k r ix′ log′ others′ w m h =
 
 pub record Goes (read : Bytes → Table) (ix₀ log₀ others₀ : List ℕ) (g₀ : WalkState) (all : List Placed) (bads : ℕ) (ix log others : List ℕ) (g : WalkState) (rest : List Placed) (left n : ℕ) : Type 0 where
   pub copies : Copies ix log others g
-  pub room : (most : ℕ) → Room g₀ others₀ most → Room g others (most + n * mostAdded)
+  pub room : (most : ℕ) → Room g₀ others₀ most → Room g others (most + n * mostByTable)
   pub bad : g .«message_malformed» + left ≡ g₀ .«message_malformed» + bads
   pub stays : g₀ .full ≡ true → g .full ≡ true
   pub over : g₀ .full ≡ false → g .full ≡ true → mostSections < length (pendingWithAll read (pendingOf ix₀ log₀ others₀ g₀) all .index)
@@ -129,7 +117,7 @@ pub goes-start : (read : Bytes → Table) (ix log others : List ℕ) (g : WalkSt
 goes-start read ix log others g c all bads n =
     record {
       copies = c;
-      room = λ most r. room-more g others most (most + n * mostAdded) (omega arith) r;
+      room = λ most r. room-more g others most (most + n * mostByTable) (omega arith) r;
       bad = refl;
       stays = λ y. y;
       over = λ y z. true-not-false (g .full) z y;
@@ -157,8 +145,8 @@ module _ (read : Bytes → Table) (ix₀ log₀ others₀ : List ℕ) (g₀ : Wa
             };
         room =
             λ most q.
-            room-more r others′ (most + n * mostAdded + c * mostAdded) (most + n′ * mostAdded) (omega arith)
-            (w .room (most + n * mostAdded) (go .room most q));
+            room-more r others′ (most + n * mostByTable + c * mostByTable) (most + n′ * mostByTable) (omega arith)
+            (w .room (most + n * mostByTable) (go .room most q));
         bad = omega (arith, w .bad, go .bad);
         stays = λ y. w .to .stays (go .stays y);
         over =
@@ -186,7 +174,7 @@ module _ (read : Bytes → Table) (ix₀ log₀ others₀ : List ℕ) (g₀ : Wa
               now = λ y. let q = go .now y in (q .0, sym (ap (λ (xs : List Placed). pendingWithAll read (pendingOf ix log others g) xs) er) ∙ q .1);
               used = go .copies .used;
             };
-        room = λ most q. room-more g others (most + n * mostAdded) (most + m * mostAdded) (omega arith) (go .room most q);
+        room = λ most q. room-more g others (most + n * mostByTable) (most + m * mostByTable) (omega arith) (go .room most q);
         bad = omega (arith, go .bad);
       }
 
@@ -209,6 +197,6 @@ module _ (read : Bytes → Table) (ix₀ log₀ others₀ : List ℕ) (g₀ : Wa
             };
         room =
             λ most q.
-            room-more r others (most + n * mostAdded + 1 * mostAdded) (most + m * mostAdded) (omega arith) (w .room (most + n * mostAdded) (go .room most q));
+            room-more r others (most + n * mostByTable + 1 * mostByTable) (most + m * mostByTable) (omega arith) (w .room (most + n * mostByTable) (go .room most q));
         bad = omega (arith, w .bad, go .bad);
       }

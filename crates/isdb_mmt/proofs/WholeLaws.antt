@@ -1,5 +1,5 @@
 -- A message packet with which a message is whole, and the model: what is asked and left. Assumes nothing.
-use Prim.Native.Nat.{ℕ, zero, suc, _+_, _-_, _*_, _≤_, _<_}
+use Prim.Native.Nat.{ℕ, zero, suc, _+_, _*_, _≤_, _<_}
 use mathlib.Core.Path.{_≡_, refl, sym, ap, _∙_, subst}
 use mathlib.Core.Bool.{Bool, true, false, not}
 use mathlib.Core.Option.{Option, some}
@@ -30,7 +30,7 @@ use Rattle.isdb_mmt.specs.Memory.PlacesOf.{tableLength, latestFor}
 use Rattle.isdb_mmt.specs.Pushes.Leaves.{sectionRows, bytesOver, keptOver, latestOver, controlPlaceFor, messageAt, messageIn, packetLeaves}
 use Rattle.isdb_mmt.specs.Pushes.Push.{asksOf, QuietPushed}
 use Rattle.isdb_mmt.specs.Pushes.Fragments.{fragmentOutcome, byDivision, flagsIn, continued, inSequence, grownLength, joinedBy, noneJoined, controlWith, laidBy, areaBy, wholeBy, completes, faultsOf, fragmentCounted, CanCount}
-use Rattle.isdb_mmt.specs.Pushes.FragmentPush.{placeIn, withReassembly, withCounts, receivedFragment}
+use Rattle.isdb_mmt.specs.Pushes.FragmentPush.{placeIn, withReassembly, withCounts}
 use Rattle.isdb_mmt.specs.Pushes.TableOutcome.{indexSize}
 use Rattle.isdb_mmt.specs.Pushes.Commit.{putAreas, loggedFrom, CanStoreAreas}
 use Rattle.isdb_mmt.specs.Pushes.Start.{recentLength, latestWith, countersWith, tablesAsk, malformedMore, CountsFit}
@@ -56,6 +56,7 @@ use Rattle.isdb_mmt.proofs.ControlPlaces.{Sits, sits-old, sits-new, doe
 use Rattle.isdb_mmt.proofs.TableOutcomes.{found-within}
 use Rattle.isdb_mmt.proofs.Loaded.{can-go}
 use Rattle.isdb_mmt.proofs.MessageTables.{message-can, message-full, message-grows, message-used, message-longest, message-others, message-counters, message-areas-can, message-rows, message-mpt-there, message-mpt-long, message-latest, message-areas}
+use Rattle.isdb_mmt.proofs.FragmentPushes.{Met, received-met}
 
 -- ---- by the fragment's fate
 
@@ -186,7 +187,7 @@ none-asked l area r e =
 
 -- ---- a packet
 
-module _ (s : Session) (x : MessagePacket) (y : ReceivedFragment) (i k : ℕ) (ix log mine assembled : List ℕ) (can : CanPushAt s x y i k ix log mine assembled) where
+module _ (s : Session) (x : MessagePacket) (y : ReceivedFragment) (i k : ℕ) (ix log mine : List ℕ) (can : CanPushAt s x y i k ix log mine) where
   abbrev ok : Sound (s .state) (s .others) (lengthsOf s)
   ok = can .packet .session
 
@@ -208,24 +209,13 @@ module _ (s : Session) (x : MessagePacket) (y : ReceivedFragment) (i k : ℕ) (i
   whole : completes f ≡ true
   whole = can .packet .whole
 
-  place-for-met : y .«place_for» ≡ controlPlaceFor (s .state) (x .id)
-  unfolding receivedFragment
-  place-for-met = ap (λ (z : ReceivedFragment). z .«place_for») (can .packet .received)
-
-  place-met : c ≡ placeIn (s .state) (y .«place_for»)
-  unfolding receivedFragment
-  place-met = ap (λ (z : ReceivedFragment). z .place) (can .packet .received) ∙ ap (placeIn (s .state)) (sym place-for-met)
-
-  outcome-met : f ≡ fragmentOutcome c (x .number) b
-  unfolding receivedFragment
-  outcome-met =
-      ap (λ (z : ReceivedFragment). z .outcome) (can .packet .received)
-      ∙ ap (λ (z : Control). fragmentOutcome z (x .number) b) (sym (ap (λ (z : ReceivedFragment). z .place) (can .packet .received)))
+  fragment : Met s x y
+  fragment = received-met s x y (can .packet .received)
 
   sits-by : (k : ℕ) → y .«place_for» ≡ placeForAt i k → k ≤ 1 → Sits s (x .id) i k c
   unfolding placeIn
-  sits-by zero e h = subst (Sits s (x .id) i 0) (sym (place-met ∙ ap (placeIn (s .state)) e)) (sits-old s ok (x .id) i (sym place-for-met ∙ e))
-  sits-by (suc zero) e h = subst (Sits s (x .id) i 1) (sym (place-met ∙ ap (placeIn (s .state)) e)) (sits-new s ok (x .id) i (sym place-for-met ∙ e))
+  sits-by zero e h = subst (Sits s (x .id) i 0) (sym (fragment .place ∙ ap (placeIn (s .state)) e)) (sits-old s ok (x .id) i (sym (fragment .placeFor) ∙ e))
+  sits-by (suc zero) e h = subst (Sits s (x .id) i 1) (sym (fragment .place ∙ ap (placeIn (s .state)) e)) (sits-new s ok (x .id) i (sym (fragment .placeFor) ∙ e))
   sits-by (suc (suc k)) e h = absurd (omega arith)
 
   at : Sits s (x .id) i k c
@@ -236,12 +226,12 @@ module _ (s : Session) (x : MessagePacket) (y : ReceivedFragment) (i k : ℕ) (i
   small-by zero e t =
       let u : ℕ = usedOf (s .state) .«control_ids» in
       let names : List ℕ = namesFrom u controlSize controlPlaces (s .state) in
-      let w = found-within 0 names (x .id) i (place-for-was-old names (l .«control_ids») (x .id) i (sym place-for-met ∙ e)) in
+      let w = found-within 0 names (x .id) i (place-for-was-old names (l .«control_ids») (x .id) i (sym (fragment .placeFor) ∙ e)) in
       let n : length names ≡ u = length-names controlSize u controlPlaces (s .state) in
       let q = control-was l (controlAt (s .state) i) (place-was (controlSound l) controlPlaceOf u controlSize controlPlaces (s .state) i (ok .messages) (omega arith)) in
-      let ec : c ≡ controlAt (s .state) i = place-met ∙ ap (placeIn (s .state)) e in
+      let ec : c ≡ controlAt (s .state) i = fragment .place ∙ ap (placeIn (s .state)) e in
       rw ec (q .1 (rw ec at t))
-  small-by (suc k) e t = true-not-false false (rw (place-met ∙ ap (placeIn (s .state)) e) at t) refl
+  small-by (suc k) e t = true-not-false false (rw (fragment .place ∙ ap (placeIn (s .state)) e) at t) refl
 
   small : c .mpt ≡ true → c .«mpt_length» ≤ l .«table_area»
   small t = small-by k (can .place-for) t
@@ -291,7 +281,7 @@ module _ (s : Session) (x : MessagePacket) (y : ReceivedFragment) (i k : ℕ) (i
   whole-before z e = rw e message-room
 
   pub whole-walk : (a : Counters) → a ≡ a₀ → (cs : Counters) → cs ≡ fragmentCounted f a → (last : Bool) → last ≡ isLast f
-      → CanWalkWhole (s .state) (s .others) (s .messages) (s .tables) ix log mine assembled i c last cs b
+      → CanWalkWhole (s .state) (s .others) (s .messages) (s .tables) ix log mine i c last cs b
   whole-walk a ea cs ec last el =
       let e : cs ≡ fragmentCounted f a₀ = ec ∙ ap (fragmentCounted f) ea in
       rw (el, e)
@@ -304,9 +294,9 @@ module _ (s : Session) (x : MessagePacket) (y : ReceivedFragment) (i k : ℕ) (i
         room = message-room;
         area = omega (arith, met .ranges .message);
         walk =
-            message-can s ok i (at .free) (c .mpt) (c .«mpt_length») small j c₀ counts-fit (can .packet .othersLong) assembled (can .assembledLong)
+            message-can s ok i (at .free) (c .mpt) (c .«mpt_length») small j c₀ counts-fit (can .packet .othersLong)
             (bytes-short f c m b (omega (arith, length-take (c .length) (drop (i * l .«message_area») (s .messages)))) (can .packet .short)
-            (subst (NotLong c b) (sym outcome-met) (not-long c (x .number) b)));
+            (subst (NotLong c b) (sym (fragment .outcome)) (not-long c (x .number) b)));
       })
 
   -- ---- the model's next state
@@ -321,7 +311,7 @@ module _ (s : Session) (x : MessagePacket) (y : ReceivedFragment) (i k : ℕ) (i
   reassembly = reassemblyOf (x .id) v
 
   done : Does reassembly x c m f
-  done = does s ok x i k c at f outcome-met
+  done = does s ok x i k c at f (fragment .outcome)
 
   gives-is : messageCompleted reassembly x ≡ some j
   gives-is = done .whole ∙ whole-is f whole c m b
@@ -342,9 +332,9 @@ module _ (s : Session) (x : MessagePacket) (y : ReceivedFragment) (i k : ℕ) (i
 
   mpt-is : controlOf (x .id) n .mpt ≡ mptAfterAll mptB ts
   mpt-is =
-      ap (λ (z : ControlState). z .mpt) (own s ok x i k c at f outcome-met)
+      ap (λ (z : ControlState). z .mpt) (own s ok x i k c at f (fragment .outcome))
       ∙ ap (mptAfterAll (controlOf (x .id) v .mpt)) given-is
-      ∙ ap (λ (o : Option Bytes). mptAfterAll o ts) (mpt-before s ok x i k c at f outcome-met)
+      ∙ ap (λ (o : Option Bytes). mptAfterAll o ts) (mpt-before s ok x i k c at f (fragment .outcome))
 
   abbrev c₁ : Counters
   c₁ = malformedMore c₀ (cutOf j .malformed)
@@ -381,7 +371,7 @@ module _ (s : Session) (x : MessagePacket) (y : ReceivedFragment) (i k : ℕ) (i
   unfolding pushed
   counters-is =
       ap (λ (z : Counters). countedAll (controlOf (x .id) v .mpt) (v .store) z (tablesGiven reassembly x)) reassembly-counts
-      ∙ ap (λ (o : Option Bytes). countedAll o (v .store) c₁ (tablesGiven reassembly x)) (mpt-before s ok x i k c at f outcome-met)
+      ∙ ap (λ (o : Option Bytes). countedAll o (v .store) c₁ (tablesGiven reassembly x)) (mpt-before s ok x i k c at f (fragment .outcome))
       ∙ ap (λ (zs : List Table). countedAll mptB (v .store) c₁ zs) given-is
 
   -- ---- after the walk
@@ -400,7 +390,7 @@ module _ (s : Session) (x : MessagePacket) (y : ReceivedFragment) (i k : ℕ) (i
 
     asked-sections : usedOf (s .state) .sections + needs v (message x) .sections ≡ kept-now
     unfolding needs
-    asked-sections = omega (arith, grows, length-kept s ok x i k c at f outcome-met)
+    asked-sections = omega (arith, grows, length-kept s ok x i k c at f (fragment .outcome))
 
     full-is : r .full ≡ true → mostSections < kept-now
     full-is y =
@@ -425,7 +415,7 @@ module _ (s : Session) (x : MessagePacket) (y : ReceivedFragment) (i k : ℕ) (i
     asks-is =
         go
         ∙ sym
-        (asks-message s ok x i k c at f outcome-met
+        (asks-message s ok x i k c at f (fragment .outcome)
         ∙ ap (λ z. asked-by z (tablesNeed (v .store) (tablesGiven reassembly x))) asked-sections)
       where
         go : wholeAsk l (areaBy f c b) r ≡ asked-by kept-now (tablesNeed (v .store) (tablesGiven reassembly x))
@@ -545,7 +535,7 @@ module _ (s : Session) (x : MessagePacket) (y : ReceivedFragment) (i k : ℕ) (i
                 (laidBy f (i * l .«message_area») c b (s .messages))
                 (bytesOver ((l .sections + i) * l .«table_area») (controlOf (x .id) n .mpt)
                 (latestOver l (n .store) (keptOver (l .«table_area») 0 (n .store .kept) (s .tables)))))
-                ∙ sym (leaves-parts s ok x i k c at f outcome-met (free .room) (y .«place_for») (sym place-for-met) (place-for-by k (can .place-for)))
+                ∙ sym (leaves-parts s ok x i k c at f (fragment .outcome) (free .room) (y .«place_for») (sym (fragment .placeFor)) (place-for-by k (can .place-for)))
 
             pub whole-taken : QuietPushed s (message x) 0 (lent state′ others′ (s .objects) (s .messages) tables′)
             whole-taken = record { number = sym e0 ∙ number-is; same = λ h. absurd (h refl); session = λ h. session-left }
@@ -591,5 +581,4 @@ module _ (s : Session) (x : MessagePacket) (y : ReceivedFragment) (i k : ℕ) (i
 
 module _ (s : Session) (x : MessagePacket) (y : ReceivedFragment) (h : CanPushWhole s x y) where
   pub whole-full : y .«place_for» ≡ NoneFree → QuietPushed s (message x) 8 s
-  unfolding receivedFragment
-  whole-full e = no-place s (h .session) x (sym (ap (λ (z : ReceivedFragment). z .«place_for») (h .received)) ∙ e)
+  whole-full e = no-place s (h .session) x (sym (received-met s x y (h .received) .placeFor) ∙ e)

@@ -1,5 +1,5 @@
 -- A message packet with which a message is whole: what is asked and left is the model's. Assumes nothing.
-use Prim.Native.Nat.{ℕ, _+_, _-_, _*_, _≤_, _<_}
+use Prim.Native.Nat.{ℕ, _+_, _*_, _≤_, _<_}
 use mathlib.Core.Path.{_≡_, ap, _∙_}
 use mathlib.Core.Bool.{Bool}
 use mathlib.Core.List.{List, _++_}
@@ -78,8 +78,8 @@ module _ (state ix : List ℕ) (i k : ℕ) (g : WalkState) (can : CanLeaveState 
 
 -- ---- the walk
 
-module _ (state others joined tables ix log mine assembled : List ℕ) (i : ℕ) (c : Control) (last : Bool) (cs : Counters) (b : Bytes)
-    (can : CanWalkWhole state others joined tables ix log mine assembled i c last cs b) (l : Limits) (el : l ≡ limitsOf state) where
+module _ (state others joined tables ix log mine : List ℕ) (i : ℕ) (c : Control) (last : Bool) (cs : Counters) (b : Bytes)
+    (can : CanWalkWhole state others joined tables ix log mine i c last cs b) (l : Limits) (el : l ≡ limitsOf state) where
   pub walk-adds : Fits w64 (l .sections + i)
   walk-adds = rw el (omega (arith, can .go .few, can .place))
 
@@ -110,7 +110,7 @@ module _ (state others joined tables ix log mine assembled : List ℕ) (i : ℕ)
         ap (λ (z : Bytes). z ++ d) (ea ∙ ap (λ (z : Limits). beforeBy last (part (i * z .«message_area») (c .length) joined)) el)
         ∙ ap (λ (z : Bytes). beforeBy last (heldIn state joined i c) ++ z) ed
 
-    pub walk-can : CanWalk ix₁ log₁ mine₁ assembled g (a ++ d) 0 mostCount
+    pub walk-can : CanWalk ix₁ log₁ mine₁ g (a ++ d) 0 mostCount
     walk-can = rw (ei, log-is, em, going-is, bytes-are) (can .walk)
 
     pub walk-done : (long : Bool) → long ≡ longBy last c b → (aggregated : Bool) → aggregated ≡ aggregatedBy last c b → (r : WalkState) (ix₂ log₂ mine₂ : List ℕ)

@@ -2,8 +2,10 @@
 // MPU's sequence number.
 // Translated from mpu.rs of isdb-rs (Apache-2.0, see NOTICE) and changed.
 ghost use mathlib.Core.Path.{_≡_};
+ghost use mathlib.Core.Bool.{false};
 ghost use Prim.Native.Nat.{_≤_};
 ghost use lib.ListN.{length};
+ghost use Rattle.isdb_tlv.specs.Guards.{if_then_else_, _≤?_};
 ghost use Rattle.isdb_mmt.specs.Formats.Mpu.{fragmentCode, fragmentType, indicatorCode, indicator, completesOf, payloadHeaderFields, payloadHeader, mfuAt, unitIn, unitAt, unitStep, unitsOf, counted, declaredOf, follows, lostFrom};
 use crate::maybe::MaybeU32;
 use crate::part::Part;
@@ -244,6 +246,26 @@ fn unit_at(q: &[u8], timed: bool, aggregated: bool, at: usize) -> UnitStep
     unit_in(q, timed, start, start + n)
 }
 
+// Where the unit of a place is to stand: the first one at 8, also for a place before it.
+fn first_at(at: usize) -> usize
+    ensures { λ r. ⌜ r ≡ (if at ≤? 8 then 8 else at) ⌝ }
+{
+    if at <= 8 {
+        return 8;
+    }
+    at
+}
+
+// Whether n bytes end at a place behind the first unit's.
+fn is_end(n: usize, at: usize) -> bool
+    ensures { λ r. ⌜ r ≡ (if at ≤? 8 then false else n ≤? at) ⌝ }
+{
+    if at <= 8 {
+        return false;
+    }
+    n <= at
+}
+
 // The units of a payload's declared bytes q, by a cursor: the first one stands at 8, where there is to be one, and a place before
 // it means it too.
 pub fn next_unit(q: &[u8], timed: bool, aggregated: bool, at: usize) -> UnitStep
@@ -252,13 +274,10 @@ pub fn next_unit(q: &[u8], timed: bool, aggregated: bool, at: usize) -> UnitStep
     if q.len() < 8 {
         return UnitStep::Malformed;
     }
-    if at <= 8 {
-        return unit_at(q, timed, aggregated, 8);
-    }
-    if q.len() <= at {
+    if is_end(q.len(), at) {
         return UnitStep::End;
     }
-    unit_at(q, timed, aggregated, at)
+    unit_at(q, timed, aggregated, first_at(at))
 }
 
 // How many units there are, where all are whole.

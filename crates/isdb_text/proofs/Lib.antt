@@ -4,6 +4,8 @@ pub mod Spelling
 pub mod DigitValues
 pub mod Filling
 pub mod Examples
+pub mod Windows
+pub mod KeptTables
 pub mod Elements
 pub mod DumpWhole
 pub mod Lists

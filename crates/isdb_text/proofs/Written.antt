@@ -16,7 +16,8 @@ sets-beyond : (l : List ℕ) (at : ℕ) (s : List ℕ) → length l ≤ at → s
 sets-beyond l at [] h = refl
 sets-beyond l at (a ∷ s) h = rw (set-out l at a h) (sets-beyond l (suc at) s (omega arith))
 
-sets-append : (l : List ℕ) (at : ℕ) (s t : List ℕ) → sets l at (s ++ t) ≡ sets (sets l at s) (at + length s) t
+-- one text behind another
+pub sets-append : (l : List ℕ) (at : ℕ) (s t : List ℕ) → sets l at (s ++ t) ≡ sets (sets l at s) (at + length s) t
 sets-append l at [] t = rw (add-zero at)
 sets-append l at (a ∷ s) t =
     let e : at + suc (length s) ≡ suc at + length s = omega arith in

@@ -1,6 +1,7 @@
 -- The definitions that the contracts cite.
 pub mod Text
 pub mod Fill
+pub mod Window
 pub mod Digits
 pub mod Elements
 pub mod DumpDescriptors
@@ -8,3 +9,6 @@ pub mod DumpTables
 pub mod DumpWhole
 pub mod Listing
 pub mod DumpSession
+pub mod KeptTables
+pub mod DumpKept
+pub mod ReplayKept

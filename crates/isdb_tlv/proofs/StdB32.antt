@@ -27,7 +27,7 @@ kind-fits compressedIp = omega arith
 kind-fits transmissionControl = omega arith
 kind-fits nullPacket = omega arith
 
-kind-named : (k : Kind) → packetType (kindCode k) ≡ kindSeen k
+pub kind-named : (k : Kind) → packetType (kindCode k) ≡ kindSeen k
 unfolding packetType
 kind-named ipv4Packet = refl
 kind-named ipv6Packet = refl

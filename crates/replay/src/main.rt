@@ -28,10 +28,6 @@ fn limits(passing: u8) -> Limits {
     }
 }
 
-fn say(text: &[u8]) {
-    io::write_all(1, text);
-}
-
 // The bytes of so many rows, of which there are at most 1,024.
 fn row_bytes(records: u64) -> usize {
     if records < 1024 {
@@ -58,7 +54,7 @@ fn say_answer(a: Answer, rows: &[u8], data: &[u8]) {
         b"push # records # bytes # %%%%%%%% %%%%%%%%\n",
         &values,
     );
-    say(bytes::part(&text, 0, n));
+    stdio::write_text(&text, n);
 }
 
 fn open_session(
@@ -73,7 +69,7 @@ fn open_session(
     let number = decoder::open(limits(passing), state, others, objects, messages, tables);
     let values = [passing as u64, number as u64];
     let n = fill::fill(&mut text, 0, b"open # number #\n", &values);
-    say(bytes::part(&text, 0, n));
+    stdio::write_text(&text, n);
 }
 
 fn list(
@@ -85,7 +81,7 @@ fn list(
 ) {
     let mut text = [0u8; 65536];
     let n = dump_session::session_lines(state, others, objects, messages, tables, &mut text, 0);
-    say(bytes::part(&text, 0, n));
+    stdio::write_text(&text, n);
     kept::say_all(state, others, objects, messages, tables);
 }
 
@@ -127,7 +123,7 @@ fn take_packet(
             next
         }
         _ => {
-            say(b"no item\n");
+            stdio::say(b"no item\n");
             input.len()
         }
     }
@@ -194,7 +190,7 @@ fn main() {
     let mut input = [0u8; 524288];
     let n = io::read_full(0, &mut input);
     if n == 524288 {
-        return say(b"the list is too long: it must have fewer than 524288 bytes\n");
+        return stdio::say(b"the list is too long: it must have fewer than 524288 bytes\n");
     }
     replay(&input[..n]);
 }

@@ -1,6 +1,6 @@
 -- Worked cases, proved as one table by computation: the lengths of descriptors, and feeds from their bytes through `classify` and
 -- `pushed`, with the readings that are easily got wrong. Those of messages and sections are in ControlCases.
-use Prim.Native.Nat.{ℕ, _+_}
+use Prim.Native.Nat.{ℕ}
 use mathlib.Core.Path.{refl}
 use mathlib.Core.Bool.{Bool, true, false}
 use mathlib.Core.List.{List, [], _∷_, _++_, map}
@@ -30,7 +30,7 @@ use Rattle.isdb_mmt.specs.Formats.Message.{divisionOf, paTables, section
 use Rattle.isdb_mmt.specs.Decoder.Packet.{Bytes, mediaOf, clear, readable, classify}
 use Rattle.isdb_mmt.specs.Decoder.Maps.{find, put, orElse, isSome}
 use Rattle.isdb_mmt.specs.Decoder.Objects.{Asset, Rec, fresh, gap, lostBy, grown, continued, effectOf, afterUnit, objectOf, unitEffect, afterUnits, deliveredBy, newMpu, jumped, mpuAfter, rangeAfter, malformedPayload, afterHeaders, assetAfter, tagged, passes, mediaGives}
-use Rattle.isdb_mmt.specs.Decoder.Reassembly.{PartialMessage, idle, partBefore, joinedOn, partAfter, wholeOf, reassemblyAfter, messageCompleted, orphan, oversize, tablesOf, tablesOfAll, messagesOf, cutOf, cutOfAll}
+use Rattle.isdb_mmt.specs.Decoder.Reassembly.{idle, partBefore, joinedOn, partAfter, wholeOf, reassemblyAfter, messageCompleted, orphan, oversize, tablesOf, tablesOfAll, messagesOf, cutOf, cutOfAll}
 use Rattle.isdb_mmt.specs.Decoder.Kept.{bodyRead, sectionOf, otherVersion, keepIf, keep, keepAll, zeros, tableCounted, sectionIncrements, tableById, tableRead, tableIncrements, mptAfter, mptAfterAll, stored, storedAll, countedAll}
 use Rattle.isdb_mmt.specs.Decoder.GivenTables.{tablesGiven}
 use Rattle.isdb_mmt.specs.Decoder.Model.{State, Control, opened, idleControl, assetOf, controlOf, packetCounted, messageCounted, reassemblyCounted, timeAfter, pushed, gives}
@@ -41,6 +41,7 @@ use Rattle.isdb_mmt.specs.declared.mpu.MfuHeader.{MfuHeader}
 use Rattle.isdb_mmt.specs.declared.mpu.MaybeMfu.{MaybeMfu}
 use Rattle.isdb_mmt.specs.declared.mpu.MaybeMfu.the-variants.{None as noMfu, Some as someMfu}
 use Rattle.isdb_mmt.specs.Books.Demand.{Feed, packetsOf, pushAll, giveAll, heldBytes}
+use Rattle.isdb_mmt.specs.Pushes.Leaves.{joinedIn as joiningIn}
 
 -- what a feed leaves of the media id F100h: packets, lost, scrambled, MPUs, malformed, objects delivered, dropped, the held one
 pub record Left : Type 0 where
@@ -106,10 +107,6 @@ pub data Told : Type 0 where
   -- orphans, malformed, the last number, what is being joined, the MPT
   joined : ℕ → ℕ → Option ℕ → Option Bytes → Option Bytes → Told
   asks : Needs → Told
-
-abbrev joiningIn : Option PartialMessage → Option Bytes
-joiningIn none = none
-joiningIn (some j) = some (j .bytes)
 
 -- what a state has joined for the control id, `c`
 abbrev joinedIn : State → Control → Told

@@ -1,6 +1,6 @@
 -- Worked cases of readings, as one table: what each answers of a session after some packets, of lent bytes that hold no session, and
 -- of a session whose kept bytes were overwritten.
-use Prim.Native.Nat.{ℕ, _+_}
+use Prim.Native.Nat.{ℕ}
 use mathlib.Core.Path.{refl}
 use mathlib.Core.Bool.{false}
 use mathlib.Core.List.{List, [], _∷_, _++_}

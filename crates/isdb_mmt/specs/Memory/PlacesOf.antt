@@ -12,7 +12,6 @@ use Rattle.isdb_mmt.specs.Decoder.Model.{Control as ControlState}
 use Rattle.isdb_mmt.specs.Decoder.Needs.{partialLength}
 use Rattle.isdb_mmt.specs.Pushes.Records.{noHeader, objectFor}
 use Rattle.isdb_mmt.specs.declared.decoder.head.Latest.{Latest}
-use Rattle.isdb_mmt.specs.declared.decoder.head.Time.{Time}
 use Rattle.isdb_mmt.specs.declared.decoder.media.Object.{Object}
 use Rattle.isdb_mmt.specs.declared.decoder.media.Media.{Media}
 use Rattle.isdb_mmt.specs.declared.decoder.control.Control.{Control}
@@ -85,7 +84,3 @@ latestFor s =
       tot = isSome (s .tot);
       «tot_length» = tableLength (s .tot);
     }
-
-unfoldable pub timeFor : Option ℕ → Time
-unfolding isSome orElse
-timeFor t = record { seen = isSome t; timestamp = orElse 0 t }

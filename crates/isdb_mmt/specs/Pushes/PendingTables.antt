@@ -221,8 +221,8 @@ pub record Versions (m : Bytes) (a : Areas) (d : PendingTables) : Type 0 where
 -- ---- what a call on the copies needs, and what it leaves
 
 -- the most that a table adds to a count, and the most that a count may be before it
-abbrev pub mostAdded : ℕ
-mostAdded = 2097152
+abbrev pub mostByTable : ℕ
+mostByTable = 2097152
 
 abbrev pub mostBefore : ℕ
 mostBefore = 512 * mostCount
@@ -261,14 +261,14 @@ pub record Small (t : TableOutcome) (used most : ℕ) : Type 0 where
 pub record CanApply (ix log others : List ℕ) (g : WalkState) (t : TableOutcome) : Type 0 where
   pub copies : Copies ix log others g
   pub room : Room g others mostBefore
-  pub told : Small t (g .used) mostAdded
+  pub told : Small t (g .used) mostByTable
 
 pub record CanCount (g : WalkState) (t : TableOutcome) : Type 0 where
   pub tables : g .tables ≤ mostBefore
-  pub «crc_errors» : g .«crc_errors» + t .«crc_errors» ≤ mostBefore + mostAdded
-  pub malformed : g .malformed + t .malformed ≤ mostBefore + mostAdded
-  pub changes : g .«version_changes» + t .«version_changes» ≤ mostBefore + mostAdded
-  pub breaks : g .«split_errors» + t .breaks ≤ mostBefore + mostAdded
+  pub «crc_errors» : g .«crc_errors» + t .«crc_errors» ≤ mostBefore + mostByTable
+  pub malformed : g .malformed + t .malformed ≤ mostBefore + mostByTable
+  pub changes : g .«version_changes» + t .«version_changes» ≤ mostBefore + mostByTable
+  pub breaks : g .«split_errors» + t .breaks ≤ mostBefore + mostByTable
 
 -- with the counts that a table adds
 abbrev pub countedBy : WalkState → TableOutcome → WalkState
@@ -342,13 +342,13 @@ pub record WalkedTo (e : PendingTables) (g r : WalkState) (ix log others : List 
 
 pub record Applied (ix log others : List ℕ) (g : WalkState) (t : TableOutcome) (f : ℕ) (r : WalkState) (ix′ log′ others′ : List ℕ) : Type 0 where
   pub to : WalkedTo (pendingAfter (pendingOf ix log others g) t f) g r ix′ log′ others′
-  pub room : (most : ℕ) → Room g others most → Room r others′ (most + 1 * mostAdded)
+  pub room : (most : ℕ) → Room g others most → Room r others′ (most + 1 * mostByTable)
   pub bad : r .«message_malformed» ≡ g .«message_malformed»
 
 -- a walk over tables, in so many bytes that counts rise by `n` tables' most; `k` messages or tables are cut short
 pub record Walked (read : Bytes → Table) (ix log others : List ℕ) (g : WalkState) (xs : List Placed) (n k : ℕ) (r : WalkState) (ix′ log′ others′ : List ℕ) : Type 0 where
   pub to : WalkedTo (pendingWithAll read (pendingOf ix log others g) xs) g r ix′ log′ others′
-  pub room : (most : ℕ) → Room g others most → Room r others′ (most + n * mostAdded)
+  pub room : (most : ℕ) → Room g others most → Room r others′ (most + n * mostByTable)
   pub bad : r .«message_malformed» ≡ g .«message_malformed» + k
 
 abbrev pub at : ℕ → Bytes → Placed
@@ -366,19 +366,17 @@ pub record CanWalkSections (ix log others : List ℕ) (g : WalkState) (b : Bytes
   pub room : Room g others mostCount
   pub short : length b ≤ mostMessageArea
 
--- a table that is a part of a message, which starts at `from`; `assembled` has room for a table in two pieces
-pub record CanTake (ix log others assembled : List ℕ) (g : WalkState) (m : Bytes) (p : Part) (from : ℕ) : Type 0 where
+-- a table that is a part of a message, which starts at `from`
+pub record CanTake (ix log others : List ℕ) (g : WalkState) (m : Bytes) (p : Part) (from : ℕ) : Type 0 where
   pub copies : Copies ix log others g
-  pub assembledLong : length assembled ≡ mostTableArea
   pub room : Room g others mostBefore
   pub lies : p .start + p .length ≤ length m
   pub few : p .length ≤ mostTableArea
   pub short : from + length m ≤ mostMessageArea
 
 -- tables of a message, or of its body, which starts at `from`
-pub record CanWalk (ix log others assembled : List ℕ) (g : WalkState) (m : Bytes) (from most : ℕ) : Type 0 where
+pub record CanWalk (ix log others : List ℕ) (g : WalkState) (m : Bytes) (from most : ℕ) : Type 0 where
   pub copies : Copies ix log others g
-  pub assembledLong : length assembled ≡ mostTableArea
   pub room : Room g others most
   pub short : from + length m ≤ mostMessageArea
 

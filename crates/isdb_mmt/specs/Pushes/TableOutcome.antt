@@ -124,9 +124,8 @@ tableOutcome ks m p truncatedSection = outcome 0 1 0 0 Nothing
 tableOutcome ks m p (aSection x) = sectionOutcome ks x
 tableOutcome ks m p (otherTable id) = outcome 0 0 0 0 (Other id)
 
--- a table in two pieces: `assembled` has room for it
-pub record CanDecide (assembled ix : List ℕ) (used : ℕ) (a b : Bytes) : Type 0 where
+-- a table in two pieces
+pub record CanDecide (ix : List ℕ) (used : ℕ) (a b : Bytes) : Type 0 where
   pub few : used ≤ mostSections
   pub indexLong : length ix ≡ indexSize
-  pub assembledLong : length assembled ≡ mostTableArea
   pub short : length a + length b ≤ mostTableArea

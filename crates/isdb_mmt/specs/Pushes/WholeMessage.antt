@@ -69,7 +69,7 @@ WalkedWhole state others t i c cs j r ix log mine =
     Walked tableRead (part sectionPlaces indexSize state) (replicate mostSections 0) others (walkFrom state t cs i c) (placedCut j) (length (j .bytes) + 1)
     (cutOf j .malformed) r ix log mine
 
-pub record CanWalkWhole (state others messages t ix log mine assembled : List ℕ) (i : ℕ) (c : Control) (last : Bool) (cs : Counters) (b : Bytes) : Type 0 where
+pub record CanWalkWhole (state others messages t ix log mine : List ℕ) (i : ℕ) (c : Control) (last : Bool) (cs : Counters) (b : Bytes) : Type 0 where
   pub go : CanGo state t
   pub copies : CopiesLent ix log mine
   pub counts : length mine ≡ length others
@@ -77,7 +77,7 @@ pub record CanWalkWhole (state others messages t ix log mine assembled : List �
   pub place : i < limitsOf state .«control_ids»
   pub room : (i + 1) * limitsOf state .«message_area» ≤ length messages
   pub area : limitsOf state .«message_area» ≤ mostMessageArea
-  pub walk : CanWalk (part sectionPlaces indexSize state) (replicate mostSections 0) others assembled (walkFrom state t cs i c) (joinBy last c (heldIn state messages i c) b .bytes) 0 mostCount
+  pub walk : CanWalk (part sectionPlaces indexSize state) (replicate mostSections 0) others (walkFrom state t cs i c) (joinBy last c (heldIn state messages i c) b .bytes) 0 mostCount
 
 -- ---- what is asked: places, then the message's area, then the tables'
 
@@ -122,9 +122,8 @@ abbrev pub placeForAt : ℕ → ℕ → PlaceFor
 placeForAt i zero = Own i
 placeForAt i (suc k) = Free i
 
-pub record CanPushAt (s : Session) (x : MessagePacket) (y : ReceivedFragment) (i k : ℕ) (ix log mine assembled : List ℕ) : Type 0 where
+pub record CanPushAt (s : Session) (x : MessagePacket) (y : ReceivedFragment) (i k : ℕ) (ix log mine : List ℕ) : Type 0 where
   pub packet : CanPushWhole s x y
   pub place-for : y .«place_for» ≡ placeForAt i k
   pub few : k ≤ 1
   pub copies : CopiesLent ix log mine
-  pub assembledLong : length assembled ≡ mostTableArea

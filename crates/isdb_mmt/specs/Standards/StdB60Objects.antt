@@ -1,6 +1,6 @@
 -- ARIB STD-B60, 6.3.2, Table 6-3: an object that a conforming sender divides over MMTP packets (ISO/IEC 23008-1), and what it
 -- means to join it right.
-use Prim.Native.Nat.{ℕ, _+_, _%_, _^_, _≤_, _<_}
+use Prim.Native.Nat.{ℕ, _+_, _%_, _^_, _≤_}
 use mathlib.Core.Path.{_≡_}
 use mathlib.Core.Bool.{Bool, false}
 use mathlib.Core.List.{List, [], _∷_, _++_, map}

@@ -1,6 +1,6 @@
 -- Calls on a session, one after the other, and the claim over every list of them from an accepted opening, turned-down ones among
 -- them. What was accepted and what was handed out is read off the answers; what the session says is read off its bytes.
-use Prim.Native.Nat.{ℕ, _+_, _*_}
+use Prim.Native.Nat.{ℕ, _*_}
 use mathlib.Core.Path.{_≡_}
 use mathlib.Core.Bool.{Bool, true}
 use mathlib.Core.Option.{Option, none, some}

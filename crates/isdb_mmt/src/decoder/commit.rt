@@ -1,7 +1,7 @@
 // The commit of a walk: what is logged goes from the message to its area, what is counted to the state. It decides nothing.
 ghost use mathlib.Core.Path.{_≡_};
 ghost use mathlib.Core.List.{_++_};
-ghost use Prim.Native.Nat.{_+_, _*_, _≤_};
+ghost use Prim.Native.Nat.{_+_, _*_};
 ghost use lib.ListN.{length, getD, take};
 ghost use Rattle.isdb_tlv.specs.Fields.{written};
 ghost use Rattle.isdb_mmt.specs.Memory.Lent.{over};

@@ -52,6 +52,22 @@ pub(crate) fn load_limits(s: &[u8]) -> Limits
     }
 }
 
+// The same for a media packet, which uses three of them: called once, so that the compiler reads these alone.
+pub(crate) fn media_limits(s: &[u8]) -> Limits
+    ensures { λ r. ⌜ r ≡ limitsOf (now (s .entry)) ⌝ }
+{
+    Limits {
+        media_ids: bytes::get_u64(s, 0),
+        control_ids: bytes::get_u64(s, 8),
+        sections: bytes::get_u64(s, 16),
+        mfu_area: bytes::get_u64(s, 24),
+        message_area: bytes::get_u64(s, 32),
+        table_area: bytes::get_u64(s, 40),
+        packets: bytes::get_u64(s, 48),
+        pass_scrambled: flag(s, 56),
+    }
+}
+
 pub(crate) fn store_limits(s: &mut [u8], l: Limits)
     requires { ⌜ stateSize ≤ length (now s) ⌝ }
     ensures { λ r. ⌜ now (s .exit) ≡ over 0 (written (limitsFields l)) (now (s .entry)) ⌝ }
@@ -77,6 +93,17 @@ pub(crate) fn store_limits(s: &mut [u8], l: Limits)
 }
 
 pub(crate) fn load_used(s: &[u8]) -> Used
+    ensures { λ r. ⌜ r ≡ usedOf (now (s .entry)) ⌝ }
+{
+    Used {
+        media_ids: bytes::get_u32(s, USED),
+        control_ids: bytes::get_u32(s, USED + 4),
+        sections: bytes::get_u32(s, USED + 8),
+    }
+}
+
+// The same for a media packet, which uses one of them.
+pub(crate) fn media_used(s: &[u8]) -> Used
     ensures { λ r. ⌜ r ≡ usedOf (now (s .entry)) ⌝ }
 {
     Used {

@@ -149,8 +149,8 @@ fn put_object(p: &mut [u8], o: Object)
 }
 
 fn put_media(p: &mut [u8], m: Media)
-    requires { ⌜ length (now p) ≡ mediaSize ⌝ }
-    ensures { λ r. ⌜ now (p .exit) ≡ written (mediaFields m) ⌝ }
+    requires { ⌜ mediaSize ≤ length (now p) ⌝ }
+    ensures { λ r. ⌜ now (p .exit) ≡ over 0 (written (mediaFields m)) (now (p .entry)) ⌝ }
 {
     let object = m.object;
     let stats = m.stats;
@@ -159,11 +159,12 @@ fn put_media(p: &mut [u8], m: Media)
     counts::put_stats(p, stats);
 }
 
+// To the end of the state: of a part whose length the compiler knows it would store each field byte by byte.
 pub(crate) fn store_media(s: &mut [u8], i: usize, m: Media)
     requires { ⌜ (i < mostMediaIds) × (stateSize ≤ length (now s)) ⌝ }
     ensures { λ r. ⌜ now (s .exit) ≡ over (mediaPlaces + mediaSize * i) (written (mediaFields m)) (now (s .entry)) ⌝ }
 {
     let at = MEDIA_PLACES + MEDIA_SIZE * i;
-    let end = at + MEDIA_SIZE;
+    let end = s.len();
     put_media(&mut s[at..end], m);
 }

@@ -1,6 +1,4 @@
 // A control packet: its sections are walked over on copies, then committed, or nothing is changed.
-ghost use mathlib.Core.Path.{_≡_};
-ghost use Prim.Native.Nat.{_*_};
 ghost use Rattle.isdb_mmt.specs.Memory.Opening.{lent};
 ghost use Rattle.isdb_mmt.specs.Pushes.Push.{CanTakePacket, QuietPushed};
 ghost use Rattle.isdb_mmt.specs.Pushes.Start.{signalOf, CopiesLent, CanLeave, SectionsLeft};

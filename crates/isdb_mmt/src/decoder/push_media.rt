@@ -52,7 +52,7 @@ fn media_place_for(s: &[u8], l: Limits, id: u16) -> PlaceFor
     requires { ⌜ CanTakePlace (now s) l ⌝ }
     ensures { λ r. ⌜ r ≡ mediaPlaceFor (now (s .entry)) id ⌝ }
 {
-    let u = head::load_used(s);
+    let u = head::media_used(s);
     place::place_for(
         s,
         MEDIA_PLACES,
@@ -450,7 +450,7 @@ pub(crate) fn push_media(
     requires { ⌜ CanPushMedia (lent (now state) (now others) (now objects) (now messages) (now tables)) (now b) ⌝ }
     ensures { λ r. ⌜ MediaPushed (lent (now (state .entry)) (now (others .entry)) (now (objects .entry)) (now (messages .entry)) (now (tables .entry))) (now (rows .entry)) (now (out .entry)) (mediaOf h (now (b .entry))) (r .number) (r .records) (r .bytes) (lent (now (state .exit)) (now (others .entry)) (now (objects .exit)) (now (messages .entry)) (now (tables .entry))) (now (rows .exit)) (now (out .exit)) ⌝ }
 {
-    let l = head::load_limits(state);
+    let l = head::media_limits(state);
     let place_for = media_place_for(state, l, h.packet_id);
     let p = place_in(state, place_for);
     let r = reassembler::media_outcome(p, h.sequence, h.scramble_info, h.rap, b);

@@ -82,14 +82,13 @@ fn walk_whole(
     ix: &mut [u8],
     log: &mut [u64],
     mine: &mut [u64],
-    assembled: &mut [u8],
     i: usize,
     c: Control,
     last: bool,
     cs: Counters,
     b: &[u8],
 ) -> WalkState
-    requires { ⌜ CanWalkWhole (now state) (now others) (now joined) (now tables) (now ix) (now log) (now mine) (now assembled) i c last cs (now b) ⌝ }
+    requires { ⌜ CanWalkWhole (now state) (now others) (now joined) (now tables) (now ix) (now log) (now mine) i c last cs (now b) ⌝ }
     ensures { λ r. ⌜ WalkedWhole (now (state .entry)) (now (others .entry)) (now (tables .entry)) i c cs (joinBy last c (heldIn (now (state .entry)) (now (joined .entry)) i c) (now (b .entry))) r (now (ix .exit)) (now (log .exit)) (now (mine .exit)) ⌝ }
 {
     let l = head::load_limits(state);
@@ -102,17 +101,7 @@ fn walk_whole(
     let a = before_by(joined, i, l.message_area as usize, c, last);
     let long = long_by(last, c, b);
     let aggregated = aggregated_by(last, c, b);
-    walk::joined_tables(
-        ix,
-        log,
-        mine,
-        assembled,
-        g,
-        a,
-        bytes::rest(b, 2),
-        long,
-        aggregated,
-    )
+    walk::joined_tables(ix, log, mine, g, a, bytes::rest(b, 2), long, aggregated)
 }
 
 // The questions, in their order: places, the message's area, the tables' areas.
@@ -167,7 +156,6 @@ fn whole_at(
     ix: &mut [u8],
     log: &mut [u64],
     mine: &mut [u64],
-    assembled: &mut [u8],
     id: u16,
     n: u32,
     b: &[u8],
@@ -175,7 +163,7 @@ fn whole_at(
     i: usize,
     k: u32,
 ) -> u8
-    requires { ⌜ CanPushAt (lent (now state) (now others) (now objects) (now joined) (now tables)) (messagePacket id n (now b)) y i k (now ix) (now log) (now mine) (now assembled) ⌝ }
+    requires { ⌜ CanPushAt (lent (now state) (now others) (now objects) (now joined) (now tables)) (messagePacket id n (now b)) y i k (now ix) (now log) (now mine) ⌝ }
     ensures { λ r. ⌜ QuietPushed (lent (now (state .entry)) (now (others .entry)) (now (objects .entry)) (now (joined .entry)) (now (tables .entry))) (message (messagePacket id n (now (b .entry)))) r (lent (now (state .exit)) (now (others .exit)) (now (objects .entry)) (now (joined .entry)) (now (tables .exit))) ⌝ }
 {
     let c = y.place;
@@ -191,7 +179,6 @@ fn whole_at(
         ix,
         log,
         mine,
-        assembled,
         i,
         c,
         last,
@@ -232,7 +219,6 @@ fn whole_in(
     let mut ix = [0u8; 4608];
     let mut log = [0u64; 512];
     let mut mine = [0u64; 256];
-    let mut assembled = [0u8; 65539];
     whole_at(
         state,
         others,
@@ -242,7 +228,6 @@ fn whole_in(
         &mut ix,
         &mut log,
         &mut mine,
-        &mut assembled,
         id,
         n,
         b,

@@ -1,11 +1,10 @@
 // What is decided of a table, against an index of the kept sections. Nothing is written, and a section's CRC is read once.
 ghost use mathlib.Core.Path.{_≡_};
-ghost use mathlib.Core.Bool.{not};
 ghost use mathlib.Core.List.{_++_};
 ghost use Prim.Native.Nat.{_*_, _≤_, _<_};
 ghost use lib.ListN.{length};
 ghost use Rattle.isdb_mmt.specs.Decoder.Maps.{one};
-ghost use Rattle.isdb_mmt.specs.Memory.Layout.{mostSections};
+ghost use Rattle.isdb_mmt.specs.Memory.Layout.{mostSections, mostTableArea};
 ghost use Rattle.isdb_mmt.specs.Decoder.Kept.{keyOf, bitBodyOk, sdtBodyOk, nitBodyOk, amtBodyOk, eitBodyOk, sectionOf, tableRead, tableById, mptParses, pltParses, totParses, totCrcBad, declaredTable, declaredSection};
 ghost use Rattle.isdb_mmt.specs.Formats.Bit.{bitBody};
 ghost use Rattle.isdb_mmt.specs.Formats.Sdt.{sdtBody};
@@ -443,8 +442,8 @@ pub(crate) fn outcome_of(ix: &[u8], used: usize, m: Recent, p: Recent, t: &[u8])
     by_id(ix, used, m, p, bytes::get_u8(t, 0), t)
 }
 
-// What is decided of a table in two pieces, one behind the other. Where it has bytes in both, they are gathered first.
-pub(crate) fn joined_outcome(
+// What is decided of a table with bytes in two pieces, which are gathered first.
+fn gathered(
     assembled: &mut [u8],
     ix: &[u8],
     used: usize,
@@ -453,7 +452,34 @@ pub(crate) fn joined_outcome(
     a: &[u8],
     b: &[u8],
 ) -> TableOutcome
-    requires { ⌜ CanDecide (now assembled) (now ix) used (now a) (now b) ⌝ }
+    requires { ⌜ CanDecide (now ix) used (now a) (now b) × (length (now assembled) ≡ mostTableArea) ⌝ }
+    ensures { λ r. ⌜ r ≡ tableOutcome (indexOf used (now (ix .entry))) m p (tableRead (now (a .entry) ++ now (b .entry))) ⌝ }
+{
+    let n = a.len();
+    place::put_bytes(assembled, 0, a);
+    place::put_bytes(assembled, n, b);
+    outcome_of(ix, used, m, p, bytes::part(assembled, 0, n + b.len()))
+}
+
+// The same, with what it is gathered in: few tables lie across two pieces, and only for them is it cleared.
+fn across(ix: &[u8], used: usize, m: Recent, p: Recent, a: &[u8], b: &[u8]) -> TableOutcome
+    requires { ⌜ CanDecide (now ix) used (now a) (now b) ⌝ }
+    ensures { λ r. ⌜ r ≡ tableOutcome (indexOf used (now (ix .entry))) m p (tableRead (now (a .entry) ++ now (b .entry))) ⌝ }
+{
+    let mut assembled = [0u8; 65539];
+    gathered(&mut assembled, ix, used, m, p, a, b)
+}
+
+// What is decided of a table in two pieces, one behind the other.
+pub(crate) fn joined_outcome(
+    ix: &[u8],
+    used: usize,
+    m: Recent,
+    p: Recent,
+    a: &[u8],
+    b: &[u8],
+) -> TableOutcome
+    requires { ⌜ CanDecide (now ix) used (now a) (now b) ⌝ }
     ensures { λ r. ⌜ r ≡ tableOutcome (indexOf used (now (ix .entry))) m p (tableRead (now (a .entry) ++ now (b .entry))) ⌝ }
 {
     if b.len() == 0 {
@@ -462,8 +488,5 @@ pub(crate) fn joined_outcome(
     if a.len() == 0 {
         return outcome_of(ix, used, m, p, b);
     }
-    let n = a.len();
-    place::put_bytes(assembled, 0, a);
-    place::put_bytes(assembled, n, b);
-    outcome_of(ix, used, m, p, bytes::part(assembled, 0, n + b.len()))
+    across(ix, used, m, p, a, b)
 }

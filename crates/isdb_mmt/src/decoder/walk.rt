@@ -248,14 +248,13 @@ fn table(
     ix: &mut [u8],
     log: &mut [u64],
     others: &mut [u64],
-    assembled: &mut [u8],
     g: WalkState,
     a: &[u8],
     b: &[u8],
     p: Part,
     from: usize,
 ) -> WalkState
-    requires { ⌜ CanTake (now ix) (now log) (now others) (now assembled) g (now a ++ now b) p from ⌝ }
+    requires { ⌜ CanTake (now ix) (now log) (now others) g (now a ++ now b) p from ⌝ }
     ensures { λ r. ⌜ Walked tableRead (now (ix .entry)) (now (log .entry)) (now (others .entry)) g (placed from (now (a .entry) ++ now (b .entry)) p ∷ []) 1 0 r (now (ix .exit)) (now (log .exit)) (now (others .exit)) ⌝ }
 {
     let mpt = g.mpt;
@@ -263,7 +262,7 @@ fn table(
     let used = g.used;
     let k = from + p.start;
     let q = joined::behind(a.len(), p);
-    let x = table_outcome::joined_outcome(assembled, ix, used, mpt, plt, p.of(a), q.of(b));
+    let x = table_outcome::joined_outcome(ix, used, mpt, plt, p.of(a), q.of(b));
     apply(ix, log, others, g, x, k as u64 + 1)
 }
 
@@ -272,14 +271,13 @@ fn tables(
     ix: &mut [u8],
     log: &mut [u64],
     others: &mut [u64],
-    assembled: &mut [u8],
     start: WalkState,
     a: &[u8],
     b: &[u8],
     first: usize,
     from: usize,
 ) -> WalkState
-    requires { ⌜ CanWalk (now ix) (now log) (now others) (now assembled) start (now a ++ now b) from (2 * mostCount) ⌝ }
+    requires { ⌜ CanWalk (now ix) (now log) (now others) start (now a ++ now b) from (2 * mostCount) ⌝ }
     ensures { λ r. ⌜ Walked tableRead (now (ix .entry)) (now (log .entry)) (now (others .entry)) start (inBody (now (a .entry) ++ now (b .entry)) from first) (length (now (a .entry) ++ now (b .entry)) + 1) (tablesFrom (now (a .entry) ++ now (b .entry)) first .malformed) r (now (ix .exit)) (now (log .exit)) (now (others .exit)) ⌝ }
 {
     let mut g = start;
@@ -287,7 +285,7 @@ fn tables(
     loop {
         match joined::next_table(a, b, at) {
             TableStep::Table(p, next) => {
-                g = table(ix, log, others, assembled, g, a, b, p, from);
+                g = table(ix, log, others, g, a, b, p, from);
                 at = next;
             }
             TableStep::Malformed => {
@@ -305,23 +303,22 @@ fn message(
     ix: &mut [u8],
     log: &mut [u64],
     others: &mut [u64],
-    assembled: &mut [u8],
     g: WalkState,
     a: &[u8],
     b: &[u8],
     from: usize,
 ) -> WalkState
-    requires { ⌜ CanWalk (now ix) (now log) (now others) (now assembled) g (now a ++ now b) from (2 * mostCount) ⌝ }
+    requires { ⌜ CanWalk (now ix) (now log) (now others) g (now a ++ now b) from (2 * mostCount) ⌝ }
     ensures { λ r. ⌜ Walked tableRead (now (ix .entry)) (now (log .entry)) (now (others .entry)) g (placedOf from (now (a .entry) ++ now (b .entry))) (length (now (a .entry) ++ now (b .entry)) + 1) (tablesOf (now (a .entry) ++ now (b .entry)) .malformed) r (now (ix .exit)) (now (log .exit)) (now (others .exit)) ⌝ }
 {
     match joined::content_of(a, b) {
         Content::Malformed => cut_short(g),
         Content::Nothing => g,
-        Content::Table(p) => table(ix, log, others, assembled, g, a, b, p, from),
+        Content::Table(p) => table(ix, log, others, g, a, b, p, from),
         Content::Tables { body, at } => {
             let k = from + body.start;
             let q = joined::behind(a.len(), body);
-            tables(ix, log, others, assembled, g, body.of(a), q.of(b), at, k)
+            tables(ix, log, others, g, body.of(a), q.of(b), at, k)
         }
     }
 }
@@ -331,13 +328,12 @@ fn messages(
     ix: &mut [u8],
     log: &mut [u64],
     others: &mut [u64],
-    assembled: &mut [u8],
     start: WalkState,
     a: &[u8],
     b: &[u8],
     long: bool,
 ) -> WalkState
-    requires { ⌜ CanWalk (now ix) (now log) (now others) (now assembled) start (now a ++ now b) 0 mostCount ⌝ }
+    requires { ⌜ CanWalk (now ix) (now log) (now others) start (now a ++ now b) 0 mostCount ⌝ }
     ensures { λ r. ⌜ Walked tableRead (now (ix .entry)) (now (log .entry)) (now (others .entry)) start (placedFrom (now (a .entry) ++ now (b .entry)) long 0) (length (now (a .entry) ++ now (b .entry)) + 1) (malformedFrom (now (a .entry) ++ now (b .entry)) long 0) r (now (ix .exit)) (now (log .exit)) (now (others .exit)) ⌝ }
 {
     let mut g = start;
@@ -347,7 +343,7 @@ fn messages(
             MessageStep::Message(p, next) => {
                 let k = p.start;
                 let q = joined::behind(a.len(), p);
-                g = message(ix, log, others, assembled, g, p.of(a), q.of(b), k);
+                g = message(ix, log, others, g, p.of(a), q.of(b), k);
                 at = next;
             }
             MessageStep::Malformed => {
@@ -365,18 +361,17 @@ pub(crate) fn joined_tables(
     ix: &mut [u8],
     log: &mut [u64],
     others: &mut [u64],
-    assembled: &mut [u8],
     g: WalkState,
     a: &[u8],
     b: &[u8],
     long: bool,
     aggregated: bool,
 ) -> WalkState
-    requires { ⌜ CanWalk (now ix) (now log) (now others) (now assembled) g (now a ++ now b) 0 mostCount ⌝ }
+    requires { ⌜ CanWalk (now ix) (now log) (now others) g (now a ++ now b) 0 mostCount ⌝ }
     ensures { λ r. ⌜ Walked tableRead (now (ix .entry)) (now (log .entry)) (now (others .entry)) g (placedCut (joinOf long aggregated (now (a .entry) ++ now (b .entry)))) (length (now (a .entry) ++ now (b .entry)) + 1) (cutOf (joinOf long aggregated (now (a .entry) ++ now (b .entry))) .malformed) r (now (ix .exit)) (now (log .exit)) (now (others .exit)) ⌝ }
 {
     if aggregated {
-        return messages(ix, log, others, assembled, g, a, b, long);
+        return messages(ix, log, others, g, a, b, long);
     }
-    message(ix, log, others, assembled, g, a, b, 0)
+    message(ix, log, others, g, a, b, 0)
 }

@@ -1,4 +1,4 @@
-use Rattle.cases.proofs.Floats.{not-nan}
+use Rattle.isdb_text.proofs.Dumped.{not-nan}
 use borrow.Author.Needs.{needs}
 use Rattle.cases.proofs.tables.ntp_answer.Statement.{statement}
 use Rattle.cases.proofs.tables.ntp_answer.Tie as tie

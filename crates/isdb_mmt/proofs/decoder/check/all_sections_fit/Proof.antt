@@ -8,7 +8,7 @@ use Rattle.isdb_tlv.specs.Guards.{_≤?_}
 use mathlib.Core.List.{map}
 use mathlib.Core.Bool.{false, cond}
 use mathlib.Core.Path.{_≡_}
-use Prim.Native.Nat.{_+_, _-_, _*_, _≤_}
+use Prim.Native.Nat.{_+_, _-_, _*_}
 use Rattle.isdb_mmt.proofs.decoder.check.all_sections_fit.Statement.{statement}
 use Rattle.isdb_mmt.proofs.decoder.check.all_sections_fit.Tie as tie
 

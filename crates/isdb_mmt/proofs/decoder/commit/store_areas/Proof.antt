@@ -2,10 +2,6 @@ use Rattle.isdb_mmt.proofs.Commits.{areas-mpt, areas-done}
 use borrow.Author.Needs.{needs}
 use Rattle.isdb_mmt.proofs.decoder.commit.store_areas.Statement.{statement}
 use Rattle.isdb_mmt.proofs.decoder.commit.store_areas.Tie as tie
-use Rattle.isdb_mmt.proofs.decoder.commit.store_areas.Reads as reads
-use Rattle.isdb_mmt.proofs.decoder.commit.store_areas.Lts as lts
-use Rattle.isdb_mmt.proofs.decoder.commit.store_recent.Reads as store-recent-reads
-use Rattle.isdb_mmt.proofs.decoder.commit.store_sections.Reads as store-sections-reads
 
 add-n : tie.Need-add-n
 add-n c = search needs

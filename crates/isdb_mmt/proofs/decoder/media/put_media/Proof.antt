@@ -1,5 +1,5 @@
 use mathlib.Core.Path.{refl}
-use Rattle.isdb_mmt.proofs.Stored.{filled}
+use Rattle.isdb_mmt.proofs.Stored.{stored}
 use native.Mathlib.Omega.{arith}
 use Rattle.isdb_mmt.specs.Memory.Session.{mediaFields}
 use borrow.Author.Needs.{needs}
@@ -9,7 +9,7 @@ use Rattle.isdb_mmt.proofs.decoder.media.put_media.Tie as tie
 returns : tie.Need-returns
 returns c =
     let x = c .before .before .before .before .before .before .before .before .before .before .before .before .before .before .before .args in
-    filled (mediaFields (x .m)) (x .p .now) (omega arith) (rw (c .before .before .put-stats .ensures, c .before .before .before .before .before .before .put-object .ensures, c .before .before .before .before .before .before .before .before .before .before .put-numbers .ensures) refl)
+    stored (mediaFields (x .m)) 0 (x .p .now) (omega arith) (rw (c .before .before .put-stats .ensures, c .before .before .before .before .before .before .put-object .ensures, c .before .before .before .before .before .before .before .before .before .before .put-numbers .ensures) refl)
 
 pub put-media-spec : {M : Type 1} → statement M
 put-media-spec =

@@ -10,7 +10,7 @@ place-for-requires c κs = search (needs, places-for-there)
 
 returns : tie.Need-returns
 unfolding mediaPlaceFor
-returns c = rw (c .place-for .ensures, c .before .before .load-used .ensures, c .before .before .before .before .pre .limits) refl
+returns c = rw (c .place-for .ensures, c .before .before .media-used .ensures, c .before .before .before .before .pre .limits) refl
 
 pub media-place-for-spec : {M : Type 1} → statement M
 media-place-for-spec = tie.close (tie.spec (λ c κs. search needs) (λ c. search needs) place-for-requires returns)

@@ -2,9 +2,6 @@ use mathlib.Core.Path.{refl}
 use borrow.Author.Needs.{needs}
 use Rattle.isdb_mmt.proofs.decoder.start.latest_with.Statement.{statement}
 use Rattle.isdb_mmt.proofs.decoder.start.latest_with.Tie as tie
-use Rattle.isdb_mmt.proofs.decoder.start.latest_with.Reads as reads
-use Rattle.isdb_mmt.proofs.decoder.start.latest_with.Lts as lts
-use Rattle.isdb_mmt.proofs.decoder.start.recent_length.Reads as recent-length-reads
 
 recent-length-requires : tie.Need-recent-length-requires
 recent-length-requires c κs = search needs

@@ -1,16 +1,13 @@
-use Rattle.isdb_mmt.proofs.Joined.{outcome-first, outcome-second, outcome-both}
+use Rattle.isdb_mmt.proofs.Joined.{outcome-first, outcome-second}
 use borrow.Author.Needs.{needs}
 use Rattle.isdb_mmt.proofs.decoder.table_outcome.joined_outcome.Statement.{statement}
 use Rattle.isdb_mmt.proofs.decoder.table_outcome.joined_outcome.Tie as tie
 
 returns : tie.Need-returns
-returns c = outcome-first _ _ _ _ _ (c .before .before .before .before .before .before .pre) _ _ _ _ (c .before .if1 .taken) (c .outcome-of .ensures)
+returns c = outcome-first _ _ _ _ (c .before .before .before .before .before .pre) _ _ _ _ (c .before .if1 .taken) (c .outcome-of .ensures)
 
 returns-2 : tie.Need-returns-2
-returns-2 c = outcome-second _ _ _ _ _ (c .before .before .before .before .before .before .before .pre) _ _ _ _ (c .before .if2 .taken) (c .outcome-of2 .ensures)
-
-returns-3 : tie.Need-returns-3
-returns-3 c = outcome-both _ _ _ _ _ (c .before .before .before .before .before .before .before .before .before .before .before .before .before .before .before .before .before .pre) _ _ _ _ _ _ _ (c .before .before .before .before .before .before .before .before .before .put-bytes .ensures) (c .before .before .before .before .before .put-bytes2 .ensures) (c .before .part .ensures) (c .outcome-of3 .ensures)
+returns-2 c = outcome-second _ _ _ _ (c .before .before .before .before .before .before .pre) _ _ _ _ (c .before .if2 .taken) (c .outcome-of2 .ensures)
 
 pub joined-outcome-spec : {M : Type 1} → statement M
 joined-outcome-spec =
@@ -21,9 +18,4 @@ joined-outcome-spec =
     (λ c κs. search needs)
     returns-2
     (λ c κs. search needs)
-    (λ c κs. search needs)
-    (λ c. search needs)
-    (λ c κs. search needs)
-    (λ c κs. search needs)
-    (λ c. search needs)
-    returns-3)
+    (λ c. search needs))

@@ -2,13 +2,6 @@ use Rattle.isdb_mmt.proofs.Taking.{can-media, may-count, type-media, ty
 use borrow.Author.Needs.{needs}
 use Rattle.isdb_mmt.proofs.decoder.take.by_type.Statement.{statement}
 use Rattle.isdb_mmt.proofs.decoder.take.by_type.Tie as tie
-use Rattle.isdb_mmt.proofs.decoder.take.by_type.Reads as reads
-use Rattle.isdb_mmt.proofs.decoder.take.by_type.Lts as lts
-use Rattle.isdb_mmt.proofs.decoder.counted.count_packet.Reads as count-packet-reads
-use Rattle.isdb_mmt.proofs.decoder.push_media.push_media.Reads as push-media-reads
-use Rattle.isdb_mmt.proofs.decoder.push_message.push_message.Reads as push-message-reads
-use Rattle.isdb_mmt.proofs.decoder.records.accepted.Reads as accepted-reads
-use Rattle.isdb_mmt.proofs.decoder.records.refused.Reads as refused-reads
 
 -- src/decoder/take.rt:58:13
 enum-told : tie.Need-enum-told

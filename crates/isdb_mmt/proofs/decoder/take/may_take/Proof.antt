@@ -3,9 +3,6 @@ use Rattle.isdb_mmt.specs.Memory.Session.{countersOf, limitsOf}
 use borrow.Author.Needs.{needs}
 use Rattle.isdb_mmt.proofs.decoder.take.may_take.Statement.{statement}
 use Rattle.isdb_mmt.proofs.decoder.take.may_take.Tie as tie
-use Rattle.isdb_mmt.proofs.decoder.take.may_take.Reads as reads
-use Rattle.isdb_mmt.proofs.decoder.take.may_take.Lts as lts
-use Rattle.isdb_tlv.proofs.bytes.get_u64.Reads as get-u64-reads
 
 -- src/decoder/take.rt:37:5
 get-u64-requires : tie.Need-get-u64-requires

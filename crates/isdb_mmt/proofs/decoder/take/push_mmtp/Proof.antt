@@ -2,13 +2,6 @@ use Rattle.isdb_mmt.proofs.Taking.{may-count-non, can-within, not-mmtp,
 use borrow.Author.Needs.{needs}
 use Rattle.isdb_mmt.proofs.decoder.take.push_mmtp.Statement.{statement}
 use Rattle.isdb_mmt.proofs.decoder.take.push_mmtp.Tie as tie
-use Rattle.isdb_mmt.proofs.decoder.take.push_mmtp.Reads as reads
-use Rattle.isdb_mmt.proofs.decoder.take.push_mmtp.Lts as lts
-use Rattle.isdb_mmt.proofs.decoder.counted.count_packet.Reads as count-packet-reads
-use Rattle.isdb_mmt.proofs.decoder.take.by_type.Reads as by-type-reads
-use Rattle.isdb_mmt.proofs.decoder.records.accepted.Reads as accepted-reads
-use Rattle.isdb_tlv.proofs.mmtp.Packet.payload.Reads as payload-reads
-use Rattle.isdb_tlv.proofs.mmtp.parse.Reads as parse-reads
 
 -- src/decoder/take.rt:102:11
 parse-requires : tie.Need-parse-requires

@@ -2,17 +2,6 @@ use Rattle.isdb_mmt.proofs.Taking.{may-count, may-count-ip, may-time, c
 use borrow.Author.Needs.{needs}
 use Rattle.isdb_mmt.proofs.decoder.take.take.Statement.{statement}
 use Rattle.isdb_mmt.proofs.decoder.take.take.Tie as tie
-use Rattle.isdb_mmt.proofs.decoder.take.take.Reads as reads
-use Rattle.isdb_mmt.proofs.decoder.take.take.Lts as lts
-use Rattle.isdb_mmt.proofs.decoder.counted.count_packet.Reads as count-packet-reads
-use Rattle.isdb_mmt.proofs.decoder.counted.push_time.Reads as push-time-reads
-use Rattle.isdb_mmt.proofs.decoder.take.push_mmtp.Reads as push-mmtp-reads
-use Rattle.isdb_mmt.proofs.decoder.push_control.push_control.Reads as push-control-reads
-use Rattle.isdb_mmt.proofs.decoder.records.accepted.Reads as accepted-reads
-use Rattle.isdb_mmt.proofs.decoder.records.refused.Reads as refused-reads
-use Rattle.isdb_mmt.proofs.decoder.route.find_route.Reads as find-route-reads
-use Rattle.isdb_mmt.proofs.decoder.route.time_in.Reads as time-in-reads
-use Rattle.isdb_tlv.proofs.bytes.rest.Reads as rest-reads
 
 -- src/decoder/take.rt:131:11
 find-route-requires : tie.Need-find-route-requires
