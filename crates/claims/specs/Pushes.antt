@@ -3,11 +3,12 @@ use Prim.Native.Nat.{ℕ}
 use mathlib.Core.Path.{_≡_, refl}
 use mathlib.Core.List.{[], _∷_, _++_}
 use lib.ListN.{replicate}
+use Rattle.isdb_mmt.specs.declared.decoder.many.Halt.the-variants.{End, Full, Refused}
 use Rattle.isdb_mmt.specs.Decoder.Packet.{Bytes}
 use Rattle.isdb_mmt.specs.Memory.Layout.{sectionPlaces, sectionSize}
 use Rattle.isdb_mmt.specs.Examples.Cases.{completeOf, headOf, lastOf, ab, cd}
 use Rattle.isdb_mmt.specs.Examples.ControlCases.{fragment, tableMessage, nit1, nitNext}
-use Rattle.isdb_mmt.specs.Examples.PushCases.{told, rowsOf, pushedTo, behind, stateAt, objectsBy, bytes, number, blank, input, only, whole, longHead, null, bare, low4, longMpt}
+use Rattle.isdb_mmt.specs.Examples.PushCases.{told, allOf, halted, place, two, line1, rowsOf, pushedTo, behind, stateAt, objectsBy, bytes, number, blank, input, only, whole, longHead, null, bare, low4, longMpt}
 
 -- decoder::push: memory of zeros is no session
 -- wrong: number 5 => number 0 (taken for one)
@@ -103,3 +104,24 @@ push-section = refl
 pub push-held : told (objectsBy (headOf 5 ab)) ≡ bytes ab
 unfolding told
 push-held = refl
+
+-- decoder::push_all: the data of a packet lie behind those of the packets before it
+-- wrong: (ab ++ cd) => (cd ++ ab) (in front of them)
+-- wrong: End => Full (a list of lines that is just full is too short)
+pub push-all-two : told (allOf 9 2 2 two) ≡ halted End (place 86 2 2 4) (ab ++ cd) (line1 ++ line1)
+unfolding told
+push-all-two = refl
+
+-- decoder::push_all: a packet that has no room for its line is not taken
+-- wrong: (place 43 1 1 2) => (place 86 2 2 4) (taken without a line)
+-- wrong: Full => Refused 10 (as if its records had no room)
+pub push-all-full : told (allOf 9 2 1 two) ≡ halted Full (place 43 1 1 2) (ab ++ (0x00 ∷ 0x00 ∷ [])) line1
+unfolding told
+push-all-full = refl
+
+-- decoder::push_all: one that is turned down has its number, and the place is in front of it
+-- wrong: (place 43 1 1 2) => (place 86 1 1 2) (passed over)
+-- wrong: Refused 10 => Refused 7 (as if no packet were left)
+pub push-all-refused : told (allOf 9 1 2 two) ≡ halted (Refused 10) (place 43 1 1 2) ab (line1 ++ replicate 16 0x00)
+unfolding told
+push-all-refused = refl

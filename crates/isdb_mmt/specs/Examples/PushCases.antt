@@ -1,11 +1,11 @@
 -- Worked cases of a push over the session's bytes, as one table: the rows of records, the question that a packet fails, and the
 -- bytes that an accepted one leaves at their places.
-use Prim.Native.Nat.{ℕ, _+_}
+use Prim.Native.Nat.{ℕ, _*_, _+_}
 use mathlib.Core.Path.{refl}
 use mathlib.Core.Bool.{true, false}
 use mathlib.Core.List.{List, [], _∷_, _++_}
 use Rattle.isdb_mmt.specs.Examples.Worked.{Case, _⇒_, Holds}
-use lib.ListN.{getD, take, replicate}
+use lib.ListN.{length, getD, take, replicate}
 use Rattle.isdb_tlv.specs.Ip.{ipv4Of}
 use Rattle.isdb_mmt.specs.Formats.Plt.{packageAt, deliverySize, deliveryAt, deliveriesWhole, pltDeliveries, pltTable, pltOf}
 use Rattle.isdb_mmt.specs.Formats.Tot.{totFields, totOf}
@@ -21,7 +21,14 @@ use Rattle.isdb_mmt.specs.Memory.Opening.{lent, openedState, openedSessi
 use Rattle.isdb_mmt.specs.Memory.PlacesOf.{placeFor, controlFor, latestFor}
 use Rattle.isdb_mmt.specs.Pushes.MediaPush.{mediaPlaceFor, assetNext, mediaLeaves}
 use Rattle.isdb_mmt.specs.Pushes.Leaves.{sectionRows, keptOver, controlLeaves, messageIn, controlPlaceFor, messageLeaves, packetLeaves}
-use Rattle.isdb_mmt.specs.Pushes.Push.{Input, packetOf, hasPlaces, hasAreas, hasOutputs, asksOf, asksLater, asks, leavesAll}
+use Rattle.isdb_mmt.specs.Pushes.Push.{Input, packetOf, hasPlaces, hasAreas, hasOutputs, asksOf, asksLater, asks, leavesOf, replyOf, leavesAll}
+use Rattle.isdb_mmt.specs.Pushes.PushAll.{Ran, nothingTaken, runOf, pushedEach}
+use Rattle.isdb_mmt.specs.declared.decoder.many.Progress.{Progress}
+use Rattle.isdb_mmt.specs.declared.decoder.many.Halt.{Halt}
+use Rattle.isdb_mmt.specs.declared.decoder.many.Halt.the-variants.{End, Short, Bad, Full, Refused}
+use Rattle.isdb_tlv.specs.Bytes.{putBe}
+use Rattle.isdb_tlv.specs.Fields.{bytesOf}
+use Rattle.isdb_tlv.specs.Cut.{cutAt, recordingFrom, recordingOf}
 use Rattle.isdb_mmt.specs.Pushes.Records.{rowsFrom, dataFrom, readRow, readRows}
 use Rattle.isdb_mmt.specs.Examples.Cases.{told as toldOfFeeds, compressed, mmtp, payload, completeOf, headOf, lastOf, ab, cd, oneTo14, header}
 use Rattle.isdb_mmt.specs.Examples.ControlCases.{fragment, firstPart, nit1, nitNext, emptyPa, mpt, tableMessage, mptMessage}
@@ -63,7 +70,8 @@ whole = input 36 2 (completeOf 5 ab)
 
 -- what is asked, and what is answered: the rows of records, the records of rows and data; the number of a push to a session, and
 -- of one behind others in a session of so many packets; of what a packet leaves in a session of 9 packets, so many bytes of the
--- state from a place on, each of the areas, and the count of a table id
+-- state from a place on, each of the areas, and the count of a table id; of a call for many packets with room for so many rows and lines,
+-- in a session of so many packets: why it ends, how far it came, the data and the lines
 pub data Ask : Type 0 where
   rowsOf : List Rec → Ask
   recordsOf : ℕ → Bytes → Bytes → Ask
@@ -74,17 +82,32 @@ pub data Ask : Type 0 where
   messagesBy : ℕ × Bytes → Ask
   tablesBy : ℕ × Bytes → Ask
   countOf : ℕ → ℕ × Bytes → Ask
+  allOf : ℕ → ℕ → ℕ → Bytes → Ask
 
 pub data Told : Type 0 where
   bytes : Bytes → Told
   records : List Rec → Told
   number : ℕ → Told
+  halted : Halt → Progress → Bytes → Bytes → Told
 
 abbrev leftBy : ℕ × Bytes → Session
 leftBy p = packetLeaves (fresh 9) (packetOf (only p))
 
+-- packets one behind the other, and a call for them; every row has room for two bytes of data
+abbrev pub framed : ℕ × Bytes → Bytes
+framed p = 0x7F ∷ p .0 ∷ bytesOf 2 (length (p .1)) ++ p .1
+
+abbrev ranOn : ℕ → ℕ → ℕ → Bytes → Ran
+ranOn packets rows lines given =
+    pushedEach given 255
+    (runOf (fresh packets) (replicate (36 * rows) 0x00) (replicate (2 * rows) 0x00) (replicate (16 * lines) 0x00) nothingTaken)
+    (recordingOf given 255 .packets)
+
+abbrev haltedAs : Ran → Told
+haltedAs r = halted (r .halt) (r .run .progress) (r .run .out) (r .run .lines)
+
 unfoldable pub told : Ask → Told
-unfolding toldOfFeeds ipv4Of packageAt deliverySize deliveryAt deliveriesWhole pltDeliveries pltTable pltOf totFields totOf over placesFrom namesFrom among distinct foundFrom placeForName every indexed inRange placesInRange areasInRange packetsInRange lengthsFor longEnough asked limitsOf usedOf latestOf timeOf countersOf heldObjectOf statsOf mediaPlaceOf controlPlaceOf sectionPlaceOf mediaSound controlSound usedSound latestSound countersSound mediaIn controlsIn sectionsIn headSound placesSound namesSound soundIn sound mfuOf assetOfPlace controlStateOf viewBy view openedState openedSession placeFor controlFor latestFor mediaPlaceFor assetNext mediaLeaves sectionRows keptOver controlLeaves messageIn controlPlaceFor messageLeaves packetLeaves hasPlaces hasAreas hasOutputs asksOf asksLater asks leavesAll rowsFrom dataFrom readRow readRows
+unfolding toldOfFeeds ipv4Of packageAt deliverySize deliveryAt deliveriesWhole pltDeliveries pltTable pltOf totFields totOf over placesFrom namesFrom among distinct foundFrom placeForName every indexed inRange placesInRange areasInRange packetsInRange lengthsFor longEnough asked limitsOf usedOf latestOf timeOf countersOf heldObjectOf statsOf mediaPlaceOf controlPlaceOf sectionPlaceOf mediaSound controlSound usedSound latestSound countersSound mediaIn controlsIn sectionsIn headSound placesSound namesSound soundIn sound mfuOf assetOfPlace controlStateOf viewBy view openedState openedSession placeFor controlFor latestFor mediaPlaceFor assetNext mediaLeaves sectionRows keptOver controlLeaves messageIn controlPlaceFor messageLeaves packetLeaves hasPlaces hasAreas hasOutputs asksOf asksLater asks bytesOf putBe leavesOf replyOf cutAt recordingFrom recordingOf pushedEach leavesAll rowsFrom dataFrom readRow readRows
 told (rowsOf rs) = bytes (rowsFrom 0 rs)
 told (recordsOf n rows given) = records (readRows n rows given)
 told (pushedTo s x) = number (asks s x)
@@ -94,6 +117,7 @@ told (objectsBy p) = bytes (leftBy p .objects)
 told (messagesBy p) = bytes (leftBy p .messages)
 told (tablesBy p) = bytes (leftBy p .tables)
 told (countOf i p) = number (getD (leftBy p .others) i 0)
+told (allOf packets rows lines given) = haltedAs (ranOn packets rows lines given)
 
 -- a packet of two bytes in a unit of the media id F101h
 abbrev pub secondId : ℕ × Bytes
@@ -158,6 +182,16 @@ low8 n = low4 0 ++ low4 n
 abbrev fullRow : Bytes
 fullRow =
     0xF1 ∷ 0x00 ∷ 0x0F ∷ 0x00 ∷ low4 7 ++ (oneTo14 ++ (0x00 ∷ 0x00 ∷ 0x11 ∷ 0x12 ∷ 0x13 ∷ 0x14 ∷ low4 0 ++ low4 2))
+
+-- two units of two bytes each, one packet behind the other, and their lines
+abbrev pub two : Bytes
+two = framed (completeOf 5 ab) ++ framed (completeOf 6 cd)
+
+abbrev pub place : ℕ → ℕ → ℕ → ℕ → Progress
+place at n m k = record { at = at; packets = n; records = m; bytes = k }
+
+abbrev pub line1 : Bytes
+line1 = low8 1 ++ low8 2
 
 -- its data start behind the two bytes of the first
 abbrev bareRow : Bytes
@@ -224,6 +258,17 @@ cases =
     -- a first fragment of an aggregated message with long lengths: the message being joined
     ∷ (stateAt controlPlaces controlSize (fragment 0x43 ab) ⇒ bytes (0x00 ∷ 0x00 ∷ 0x80 ∷ 0x01 ∷ 0x01 ∷ low4 5 ++ (0x01 ∷ 0x01 ∷ 0x01 ∷ low4 2 ++ replicate 5 0x00)))
     ∷ (messagesBy (fragment 0x43 ab) ⇒ bytes (ab ++ replicate 6 0x00))
+    -- many packets: all of them; none; the third is cut off, and is no packet; too many data
+    ∷ (allOf 9 2 2 two ⇒ halted End (place 86 2 2 4) (ab ++ cd) (line1 ++ line1))
+    ∷ (allOf 9 2 2 [] ⇒ halted End (place 0 0 0 0) (replicate 4 0x00) (replicate 32 0x00))
+    ∷ (allOf 9 2 2 (two ++ (0x7F ∷ 0xFF ∷ 0x00 ∷ [])) ⇒ halted Short (place 86 2 2 4) (ab ++ cd) (line1 ++ line1))
+    ∷ (allOf 9 2 2 (two ++ (0x47 ∷ [])) ⇒ halted Bad (place 86 2 2 4) (ab ++ cd) (line1 ++ line1))
+    ∷ (allOf 9 2 2 (0x7F ∷ 0xFF ∷ 0x01 ∷ 0x00 ∷ []) ⇒ halted Bad (place 0 0 0 0) (replicate 4 0x00) (replicate 32 0x00))
+    -- no room for the second's line, for its row and data, for another packet; no place for it
+    ∷ (allOf 9 2 1 two ⇒ halted Full (place 43 1 1 2) (ab ++ (0x00 ∷ 0x00 ∷ [])) line1)
+    ∷ (allOf 9 1 2 two ⇒ halted (Refused 10) (place 43 1 1 2) ab (line1 ++ replicate 16 0x00))
+    ∷ (allOf 1 2 2 two ⇒ halted (Refused 7) (place 43 1 1 2) (ab ++ (0x00 ∷ 0x00 ∷ [])) (line1 ++ replicate 16 0x00))
+    ∷ (allOf 9 2 2 (framed (completeOf 5 ab) ++ framed secondId) ⇒ halted (Refused 8) (place 43 1 1 2) (ab ++ (0x00 ∷ 0x00 ∷ [])) (line1 ++ replicate 16 0x00))
     -- the time
     ∷ (stateAt timePlace 9 ntp ⇒ bytes (0x01 ∷ 0x01 ∷ 0x02 ∷ 0x03 ∷ 0x04 ∷ 0x05 ∷ 0x06 ∷ 0x07 ∷ 0x08 ∷ []))
     ∷ []
