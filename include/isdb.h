@@ -43,7 +43,7 @@
  * - Buffers of one call do not overlap.
  * - One call at a time for a session: a push beside any other call on the same buffers needs a lock around both. Readings may run
  *   beside each other, and calls on different sessions in any way: the library has no global data.
- * - Nothing but isdb_open and isdb_push writes to the five buffers. They may be moved or copied, all five, between two calls: nothing in
+ * - Nothing but isdb_open, isdb_push and isdb_push_all writes to the five buffers. They may be moved or copied, all five, between two calls: nothing in
  *   them is an address. What else is written to them shows as code 5 or as wrong answers, never as an access outside the buffers.
  * - A call takes less than 256 KiB of stack.
  *
@@ -107,6 +107,14 @@
 #ifdef __cplusplus
 extern "C" {
 #endif
+
+enum isdb_halt {
+    ISDB_HALT_END = 0,
+    ISDB_HALT_SHORT = 1,
+    ISDB_HALT_BAD = 2,
+    ISDB_HALT_FULL = 3,
+    ISDB_HALT_REFUSED = 4
+};
 
 enum isdb_code {
     ISDB_OK = 0,
@@ -183,6 +191,25 @@ uint8_t isdb_push(uint8_t *state, size_t state_length, uint64_t others[ISDB_OTHE
                   uint8_t *messages, size_t messages_length, uint8_t *tables, size_t tables_length, uint8_t kind,
                   const uint8_t *data, size_t data_length, uint8_t *rows, size_t rows_length, uint8_t *out, size_t out_length,
                   uint64_t v[ISDB_NUMBERS]);
+
+/* Takes packets that lie one behind the other in input (7Fh, kind, length, data of at most most bytes), each as isdb_push does, into what the
+ * earlier ones left of rows and out, until the call ends. v: at (so many bytes of input were taken), packets (so many packets), records,
+ * bytes (handed out by all of them together), halt, number. halt says why the call ended, and what stands at at:
+ *
+ *     0 ISDB_HALT_END      nothing
+ *     1 ISDB_HALT_SHORT    what may be the start of a packet, and is not a whole one
+ *     2 ISDB_HALT_BAD      no packet: another first byte, or more than most bytes of data
+ *     3 ISDB_HALT_FULL     a packet for which lines has no room
+ *     4 ISDB_HALT_REFUSED  a packet that is turned down, with number 5 to 10; number is 0 else
+ *
+ * lines has 16 bytes for each packet that was taken: how many records and how many bytes of data it handed out, 8 bytes each, high byte first.
+ * A record's data start counts from where the data of its packet begin. What lies beyond in rows, out and lines keeps its bytes; a packet that
+ * is not taken changes nothing. After a 3, and after a 4 with number 10 where packets is not 0, the host uses what was handed out and calls
+ * again from at. The session is looked at once for all packets where its counts have room for them. Code: 0. */
+uint8_t isdb_push_all(uint8_t *state, size_t state_length, uint64_t others[ISDB_OTHERS], uint8_t *objects, size_t objects_length,
+                      uint8_t *messages, size_t messages_length, uint8_t *tables, size_t tables_length, const uint8_t *input,
+                      size_t input_length, size_t most, uint8_t *rows, size_t rows_length, uint8_t *out, size_t out_length,
+                      uint8_t *lines, size_t lines_length, uint64_t v[ISDB_NUMBERS]);
 
 /* ---- Readings: they change nothing but v, and answer 5 where the lent bytes hold no session ---- */
 

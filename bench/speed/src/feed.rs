@@ -40,6 +40,12 @@ impl Feed {
         }
     }
 
+    /// The packets one behind the other, as a recording has them.
+    pub fn framed(&self) -> Vec<u8> {
+        let header = |s: &Step| [0x7F, s.kind, (s.packet.data.len() >> 8) as u8, s.packet.data.len() as u8];
+        self.0.iter().flat_map(|s| header(s).into_iter().chain(s.packet.data.iter().copied())).collect()
+    }
+
     pub fn bytes(&self) -> usize {
         self.0.iter().map(|s| s.packet.data.len()).sum()
     }

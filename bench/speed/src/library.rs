@@ -6,8 +6,12 @@ pub type Numbers = [u64; 16];
 
 pub const LIMITS: [u64; 8] = [64, 32, 512, 131_072, 65_536, 4_096, u32::MAX as u64, 0];
 const STATE: usize = 13_144;
-const ROWS: usize = 36 * 64;
-const OUT: usize = 131_072;
+const ROWS: usize = 36 * 512;
+const OUT: usize = 524_288;
+const LINES: usize = 16 * 512;
+
+/// A host reads so much at once.
+const WINDOW: usize = 65_536;
 
 unsafe extern "C" {
     fn isdb_open(
@@ -41,6 +45,27 @@ unsafe extern "C" {
         out_len: usize,
         v: *mut u64,
     ) -> u8;
+    fn isdb_push_all(
+        state: *mut u8,
+        state_len: usize,
+        others: *mut u64,
+        objects: *mut u8,
+        objects_len: usize,
+        messages: *mut u8,
+        messages_len: usize,
+        tables: *mut u8,
+        tables_len: usize,
+        input: *const u8,
+        input_len: usize,
+        most: usize,
+        rows: *mut u8,
+        rows_len: usize,
+        out: *mut u8,
+        out_len: usize,
+        lines: *mut u8,
+        lines_len: usize,
+        v: *mut u64,
+    ) -> u8;
     fn isdb_crc32(b: *const u8, b_len: usize) -> u32;
 }
 
@@ -57,6 +82,7 @@ pub struct Library {
     pub tables: Vec<u8>,
     pub rows: Vec<u8>,
     pub out: Vec<u8>,
+    lines: Vec<u8>,
     pub v: Numbers,
 }
 
@@ -106,6 +132,7 @@ impl Library {
             tables: vec![0; (sections + controls + 2) * table],
             rows: vec![0; ROWS],
             out: vec![0; OUT],
+            lines: vec![0; LINES],
             v: [0; 16],
         };
         assert_eq!(l.opened(), 0, "the code of isdb_open");
@@ -129,6 +156,45 @@ impl Library {
                 t.len(),
             )
         }
+    }
+
+    /// Pushes packets that lie one behind the other, a window at a time; how many were taken.
+    #[inline]
+    pub fn push_all(&mut self, input: &[u8]) -> u64 {
+        let (mut at, mut packets) = (0, 0);
+        while at < input.len() {
+            let window = &input[at..input.len().min(at + WINDOW)];
+            // SAFETY: the library writes within the buffers' lengths; none of them overlap.
+            unsafe {
+                isdb_push_all(
+                    self.state.as_mut_ptr(),
+                    self.state.len(),
+                    self.others.as_mut_ptr(),
+                    self.objects.as_mut_ptr(),
+                    self.objects.len(),
+                    self.messages.as_mut_ptr(),
+                    self.messages.len(),
+                    self.tables.as_mut_ptr(),
+                    self.tables.len(),
+                    window.as_ptr(),
+                    window.len(),
+                    65_535,
+                    self.rows.as_mut_ptr(),
+                    self.rows.len(),
+                    self.out.as_mut_ptr(),
+                    self.out.len(),
+                    self.lines.as_mut_ptr(),
+                    self.lines.len(),
+                    self.v.as_mut_ptr(),
+                )
+            };
+            black_box((&self.rows, &self.out, &self.lines, &self.v));
+            if self.v[1] == 0 {
+                return packets;
+            }
+            (at, packets) = (at + self.v[0] as usize, packets + self.v[1]);
+        }
+        packets
     }
 
     /// The code of a push; records and data are in `rows` and `out`, how many of them in `v`.

@@ -1,4 +1,4 @@
-//! The proved library's `isdb_push` beside the Rust's `Decoder::push`, in one process, on the same packets. Writes a table; ends with 1
+//! The proved library's `isdb_push` and `isdb_push_all` beside the Rust's `Decoder::push`, in one process, on the same packets. Writes a table; ends with 1
 //! where the two do not answer the same. Usage: speed [ROUNDS [WORDS]]; with WORDS only the rows that have them in their name.
 mod both;
 mod cases;
@@ -13,8 +13,8 @@ use measure::Times;
 use std::process::ExitCode;
 
 const HEAD: &str = "\
-| what | bytes | Rust, ns | library, ns | Rust, MB/s | library, MB/s | Rust / library |
-|---|--:|--:|--:|--:|--:|--:|";
+| what | bytes | Rust, ns | push, ns | push_all, ns | Rust, MB/s | push_all, MB/s | Rust / push | Rust / push_all |
+|---|--:|--:|--:|--:|--:|--:|--:|--:|";
 
 /// One decimal below 1,000, none from there on, and a comma before every three digits.
 fn shown(x: f64) -> String {
@@ -33,8 +33,10 @@ fn shown(x: f64) -> String {
 
 fn row(t: &Times) {
     let rate = |ns: f64| shown(t.bytes * 1e3 / ns);
+    let or_none = |f: &dyn Fn(f64) -> String| t.many.map_or("-".into(), f);
     let (bytes, rust, library, times) = (format!("{:.0}", t.bytes), shown(t.rust), shown(t.library), t.rust / t.library);
-    println!("| {} | {bytes} | {rust} | {library} | {} | {} | {times:.2} |", t.name, rate(t.rust), rate(t.library));
+    let (many, many_rate, many_times) = (or_none(&shown), or_none(&rate), or_none(&|ns| format!("{:.2}", t.rust / ns)));
+    println!("| {} | {bytes} | {rust} | {library} | {many} | {} | {many_rate} | {times:.2} | {many_times} |", t.name, rate(t.rust));
 }
 
 fn all(rounds: usize, words: &str) -> Result<(), String> {

@@ -6,24 +6,26 @@ use crate::{crc, library};
 use std::hint::black_box;
 use std::time::Instant;
 
-/// A row of the table: nanoseconds for so many bytes.
+/// A row of the table: nanoseconds for so many bytes, of the Rust, of a call a packet, and of a call for many packets where there is one.
 pub struct Times {
     pub name: String,
     pub bytes: f64,
     pub rust: f64,
     pub library: f64,
+    pub many: Option<f64>,
 }
 
 const TURN: usize = 20;
 
-/// The best of `rounds` for each of two sides, each in turns.
-fn best_of(rounds: usize, mut one: impl FnMut() -> f64, mut other: impl FnMut() -> f64) -> (f64, f64) {
-    let (mut a, mut b) = (f64::MAX, f64::MAX);
+/// The best of `rounds` for each side, in turns.
+fn best_of<const N: usize>(rounds: usize, mut sides: [&mut dyn FnMut() -> f64; N]) -> [f64; N] {
+    let mut best = [f64::MAX; N];
     for _ in 0..rounds.div_ceil(TURN) {
-        a = (0..TURN).fold(a, |best, _| best.min(one()));
-        b = (0..TURN).fold(b, |best, _| best.min(other()));
+        for (side, best) in sides.iter_mut().zip(&mut best) {
+            *best = (0..TURN).fold(*best, |b, _| b.min(side()));
+        }
     }
-    (a, b)
+    best
 }
 
 /// Nanoseconds a packet for a pass over a feed, whose numbers then go on outside of that time.
@@ -35,24 +37,42 @@ fn pass(feed: &mut Feed, push: impl FnMut(&Step)) -> f64 {
     t * 1e9 / feed.0.len() as f64
 }
 
-/// Compares both sides on two passes of a case, takes the times, and compares again what they know.
+/// Nanoseconds a packet for a pass over a feed's packets one behind the other; they are put so, and their numbers go on, outside of that time.
+fn pass_all(feed: &mut Feed, push_all: impl FnOnce(&[u8])) -> f64 {
+    let input = feed.framed();
+    let start = Instant::now();
+    push_all(&input);
+    let t = start.elapsed().as_secs_f64();
+    feed.advance();
+    t * 1e9 / feed.0.len() as f64
+}
+
+/// Compares both sides on two passes of a case, takes the times, and compares again what they know; so for many packets in a call, on a
+/// session of its own.
 pub fn case(c: Case, rounds: usize) -> Result<Times, String> {
     let Case { name, mut before, mut feed, pass: expected } = c;
-    let mut both = Both::open();
+    let (mut both, mut second) = (Both::open(), Both::open());
+    second.pass(&mut before.clone())?;
+    second.pass(&mut feed.clone())?;
     both.pass(&mut before)?;
     both.pass(&mut feed)?;
+    second.pass(&mut feed.clone())?;
     same("records, tables and version changes of a pass, and those of the case", both.pass(&mut feed)?, expected)?;
     both.same_known()?;
     both.all_good()?;
-    let bytes = feed.bytes() as f64 / feed.0.len() as f64;
-    let (mut of_rust, mut of_library) = (feed.clone(), feed);
-    let (Both { library, rust }, mut codes) = (&mut both, 0);
+    let (packets, bytes) = (feed.0.len() as u64, feed.bytes() as f64 / feed.0.len() as f64);
+    let (mut of_rust, mut of_many, mut of_library) = (feed.clone(), feed.clone(), feed);
+    let (Both { library, rust }, many, mut codes, mut missing) = (&mut both, &mut second.library, 0, 0);
     let mut on_rust = || pass(&mut of_rust, |s| rust.push(s));
     let mut on_library = || pass(&mut of_library, |s| codes |= library.push(s));
-    let (rust, library) = best_of(rounds, &mut on_rust, &mut on_library);
+    let mut on_many = || pass_all(&mut of_many, |input| missing |= packets - many.push_all(input));
+    let [rust, library, many] = best_of(rounds, [&mut on_rust, &mut on_library, &mut on_many]);
     same("the codes of all pushes, or'ed", codes, 0)?;
+    same("packets that a call for many did not take", missing, 0)?;
     both.same_known()?;
-    Ok(Times { name, bytes, rust, library })
+    std::mem::swap(&mut second.library, &mut both.library);
+    both.same_known()?;
+    Ok(Times { name, bytes, rust, library, many: Some(many) })
 }
 
 /// Nanoseconds a call. Each call starts where the last one's result says, so that they stand one behind the other.
@@ -80,6 +100,6 @@ pub fn crc_alone(n: usize, rounds: usize) -> Result<Times, String> {
     for at in 0..8 {
         same("a CRC", library::crc32(&b[at..at + n]), crc::by_bytes(&b[at..at + n]))?;
     }
-    let (rust, library) = best_of(rounds, || crc_time(crc::by_bytes, &b, n), || crc_time(library::crc32, &b, n));
-    Ok(Times { name: crc_name(n), bytes: n as f64, rust, library })
+    let [rust, library] = best_of(rounds, [&mut || crc_time(crc::by_bytes, &b, n), &mut || crc_time(library::crc32, &b, n)]);
+    Ok(Times { name: crc_name(n), bytes: n as f64, rust, library, many: None })
 }

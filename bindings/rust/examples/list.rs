@@ -1,5 +1,5 @@
 //! Lists the media ids of a recording of TLV packets on standard input, with their counts, as feedlist does.
-use isdb::{Limits, Session};
+use isdb::{Halt, Limits, Session};
 use std::io::{self, Read};
 
 const LIMITS: Limits = Limits {
@@ -13,42 +13,35 @@ const LIMITS: Limits = Limits {
     pass_scrambled: false,
 };
 
-/// The next packet: its kind and data. None where the input ends; an error of kind `UnexpectedEof` within a packet, of kind
-/// `InvalidData` at another first byte than 7Fh.
-fn packet<'a>(input: &mut impl Read, data: &'a mut [u8; 65_535]) -> io::Result<Option<(u8, &'a [u8])>> {
-    let mut header = [0; 4];
-    if input.read(&mut header[..1])? == 0 {
-        return Ok(None);
-    }
-    if header[0] != 0x7F {
-        return Err(io::ErrorKind::InvalidData.into());
-    }
-    input.read_exact(&mut header[1..])?;
-    let length = u16::from_be_bytes([header[2], header[3]]).into();
-    input.read_exact(&mut data[..length])?;
-    Ok(Some((header[1], &data[..length])))
-}
-
-/// How reading ended.
-fn push_all(session: &mut Session, input: &mut impl Read) -> String {
-    let mut data = [0; 65_535];
-    let mut offset = 0;
+/// How reading ended. A window on the input is filled, its packets are taken, and what is left of it goes to the front.
+fn push_all(session: &mut Session, input: &mut impl Read) -> io::Result<String> {
+    let mut window = vec![0; 131_072];
+    let (mut held, mut offset) = (0, 0);
     loop {
-        match packet(input, &mut data) {
-            Ok(None) => return "clean".into(),
-            Ok(Some((kind, data))) => match session.push(kind, data) {
-                // Here a host would use the records: their media id, their data.
-                Ok(_records) => offset += 4 + data.len(),
-                Err(refused) => return format!("refused {}", refused.number()),
-            },
-            Err(_) => return format!("bad {offset}"),
+        let more = input.read(&mut window[held..])?;
+        if more == 0 {
+            return Ok(if held == 0 { "clean".into() } else { format!("bad {offset}") });
         }
+        let (end, mut at) = (held + more, 0);
+        loop {
+            let pushes = session.push_all(&window[at..end], 65_535);
+            at += pushes.taken;
+            match pushes.halt {
+                Halt::End | Halt::Short => break,
+                Halt::Full => {}
+                Halt::Bad => return Ok(format!("bad {}", offset + at)),
+                Halt::Refused(refused) => return Ok(format!("refused {}", refused.number())),
+            }
+            // Here a host would use the records of each packet: `for records in pushes { .. }`.
+        }
+        window.copy_within(at..end, 0);
+        (held, offset) = (end - at, offset + at);
     }
 }
 
-fn main() -> Result<(), isdb::Refused> {
+fn main() -> Result<(), Box<dyn std::error::Error>> {
     let mut session = Session::open(LIMITS)?;
-    let end = push_all(&mut session, &mut io::stdin().lock());
+    let end = push_all(&mut session, &mut io::stdin().lock())?;
     println!("id packets lost scrambled mfus dropped held malformed");
     for id in session.media_ids() {
         let Some(m) = session.media(id) else { continue };

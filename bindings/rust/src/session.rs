@@ -1,10 +1,14 @@
+use crate::pushes::LINE_LENGTH;
 use crate::record::RECORD_LENGTH;
 use crate::sys::{self, Numbers};
-use crate::{Asset, CarriedAsset, Control, Counters, Held, Key, Limits, Media, MfuHeader, Records, Refused};
+use crate::{Asset, CarriedAsset, Control, Counters, Halt, Held, Key, Limits, Media, MfuHeader, Pushes, Records, Refused};
 use std::{fmt, iter, ops::RangeInclusive};
 
 /// A unit takes at least 6 bytes of a packet, so that no packet completes more.
 const MOST_RECORDS: usize = 10_918;
+
+/// How many packets one call takes at most.
+const MOST_PACKETS: usize = 1_024;
 
 /// A session: its memory, and outputs that are long enough for every packet.
 #[derive(Clone)]
@@ -16,6 +20,7 @@ pub struct Session {
     tables: Vec<u8>,
     rows: Vec<u8>,
     out: Vec<u8>,
+    lines: Vec<u8>,
 }
 
 impl fmt::Debug for Session {
@@ -89,6 +94,7 @@ impl Session {
             tables: bytes(need.tables),
             rows: vec![0; MOST_RECORDS * RECORD_LENGTH],
             out: bytes(limits.mfu_area.max(65_535)),
+            lines: vec![0; MOST_PACKETS * LINE_LENGTH],
         };
         // SAFETY: each pointer leads to a buffer with its length, and they do not overlap.
         let code = unsafe {
@@ -140,6 +146,45 @@ impl Session {
         match code {
             0 => Ok(Records::new(&self.rows[..v[0] as usize * RECORD_LENGTH], &self.out[..v[1] as usize])),
             number => Err(Refused(number)),
+        }
+    }
+
+    /// Takes the packets of an input: each the byte 7Fh, its kind, a length of 2 bytes (high byte first), and so many data, at most `most`. It is
+    /// as if each were pushed, and faster. Hands out packet by packet what they completed, and says how much of the input was taken and why it
+    /// ended.
+    pub fn push_all(&mut self, input: &[u8], most: usize) -> Pushes<'_> {
+        let mut v = [0; 16];
+        // SAFETY: each pointer leads to a buffer with its length; they do not overlap, since the session is borrowed as mutable.
+        unsafe {
+            sys::isdb_push_all(
+                self.state.as_mut_ptr(),
+                self.state.len(),
+                &mut self.others,
+                self.objects.as_mut_ptr(),
+                self.objects.len(),
+                self.messages.as_mut_ptr(),
+                self.messages.len(),
+                self.tables.as_mut_ptr(),
+                self.tables.len(),
+                input.as_ptr(),
+                input.len(),
+                most,
+                self.rows.as_mut_ptr(),
+                self.rows.len(),
+                self.out.as_mut_ptr(),
+                self.out.len(),
+                self.lines.as_mut_ptr(),
+                self.lines.len(),
+                &mut v,
+            )
+        };
+        let [at, packets, records, bytes, code, number, ..] = v;
+        Pushes {
+            taken: at as usize,
+            halt: Halt::of(code, number, packets),
+            lines: self.lines[..packets as usize * LINE_LENGTH].chunks_exact(LINE_LENGTH),
+            rows: &self.rows[..records as usize * RECORD_LENGTH],
+            out: &self.out[..bytes as usize],
         }
     }
 

@@ -57,6 +57,28 @@ extern "C" {
         tables_length: usize,
     ) -> u8;
 
+    pub(crate) fn isdb_push_all(
+        state: *mut c_uchar,
+        state_length: usize,
+        others: &mut [u64; 256],
+        objects: *mut c_uchar,
+        objects_length: usize,
+        messages: *mut c_uchar,
+        messages_length: usize,
+        tables: *mut c_uchar,
+        tables_length: usize,
+        input: *const c_uchar,
+        input_length: usize,
+        most: usize,
+        rows: *mut c_uchar,
+        rows_length: usize,
+        out: *mut c_uchar,
+        out_length: usize,
+        lines: *mut c_uchar,
+        lines_length: usize,
+        v: &mut Numbers,
+    ) -> u8;
+
     pub(crate) fn isdb_push(
         state: *mut c_uchar,
         state_length: usize,

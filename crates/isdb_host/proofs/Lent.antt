@@ -9,12 +9,14 @@ use Rattle.isdb_mmt.specs.Decoder.Packet.{Bytes}
 use Rattle.isdb_mmt.specs.Memory.Session.{Session}
 use Rattle.isdb_mmt.specs.Memory.Opening.{Opened}
 use Rattle.isdb_mmt.specs.Pushes.Push.{Input, Pushed}
+use Rattle.isdb_mmt.specs.Pushes.PushAll.{AllPushed}
 use Rattle.isdb_mmt.specs.Pushes.Records.{noHeader, headerOr}
 use Rattle.isdb_mmt.specs.declared.decoder.limits.Limits.{Limits}
+use Rattle.isdb_mmt.specs.declared.decoder.many.Pushes.{Pushes}
 use Rattle.isdb_mmt.specs.declared.mpu.MaybeMfu.{MaybeMfu}
 use Rattle.isdb_mmt.specs.declared.mpu.MaybeMfu.the-variants.{None as noMfu}
 use Rattle.isdb_host.specs.Values.{codeOf, Replied}
-use Rattle.isdb_host.specs.Session.{pushSaid, HostPushed}
+use Rattle.isdb_host.specs.Session.{pushSaid, HostPushed, allSaid, HostPushedAll}
 use Rattle.isdb_host.proofs.Numbers.{replied-as}
 
 pub header-absent : (m : MaybeMfu) → m ≡ noMfu → noHeader ≡ headerOr m
@@ -33,3 +35,9 @@ pub host-pushed : {s s′ : Session} {x : Input} {n r records bytes : ℕ} {rows
 host-pushed {n = n} {r = r} {records = records} {bytes = bytes} p a =
     let same : r ≡ n = a .number ∙ push-code n records bytes in
     record { records = records; bytes = bytes; pushed = rw same p; replied = replied-as a (ap (λ k. pushSaid k records bytes) same) }
+
+-- a call for many packets, with its answer
+pub host-pushed-all : {s s′ : Session} {input rows out lines rows′ out′ lines′ : Bytes} {most r : ℕ} {a : Pushes} {v w : List ℕ}
+    → AllPushed s input most rows out lines a s′ rows′ out′ lines′ → Replied (allSaid a) r v w
+    → HostPushedAll s input most rows out lines r s′ rows′ out′ lines′ v w
+host-pushed-all {a = a} p q = record { pushes = a; pushed = p; replied = q }

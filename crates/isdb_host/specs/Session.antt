@@ -7,7 +7,11 @@ use Rattle.isdb_tlv.specs.Guards.{if_then_else_, _=?_}
 use Rattle.isdb_mmt.specs.Decoder.Packet.{Bytes}
 use Rattle.isdb_mmt.specs.Memory.Session.{Session}
 use Rattle.isdb_mmt.specs.Pushes.Push.{Input, Pushed}
+use Rattle.isdb_mmt.specs.Pushes.PushAll.{AllPushed}
 use Rattle.isdb_mmt.specs.Pushes.Records.{headerOr}
+use Rattle.isdb_mmt.specs.declared.decoder.many.Pushes.{Pushes}
+use Rattle.isdb_mmt.specs.declared.decoder.many.Halt.{Halt}
+use Rattle.isdb_mmt.specs.declared.decoder.many.Halt.the-variants.{End, Short, Bad, Full, Refused}
 use Rattle.isdb_mmt.specs.declared.decoder.limits.Limits.{Limits}
 use Rattle.isdb_mmt.specs.declared.decoder.limits.Need.{Need}
 use Rattle.isdb_mmt.specs.declared.decoder.limits.Need.the-variants.{Bytes as needBytes, Refused as needRefused}
@@ -67,6 +71,41 @@ pub record HostPushed (s : Session) (x : Input) (r : ℕ) (s′ : Session) (rows
   pub bytes : ℕ
   pub pushed : Pushed s x r records bytes s′ rows′ out′
   pub replied : Replied (pushSaid r records bytes) r v w
+
+-- ---- many packets
+
+-- why it ended, and the number where a packet was turned down
+abbrev pub haltCode : Halt → ℕ
+haltCode End = 0
+haltCode Short = 1
+haltCode Bad = 2
+haltCode Full = 3
+haltCode (Refused n) = 4
+
+abbrev pub haltNumber : Halt → ℕ
+haltNumber End = 0
+haltNumber Short = 0
+haltNumber Bad = 0
+haltNumber Full = 0
+haltNumber (Refused n) = n
+
+-- the place in the input, packets, records and data bytes, and why it ended
+abbrev pub allSaid : Pushes → Reply
+allSaid a =
+    says
+    (a .progress .at
+    ∷ a .progress .packets
+    ∷ a .progress .records
+    ∷ a .progress .bytes
+    ∷ haltCode (a .halt)
+    ∷ haltNumber (a .halt)
+    ∷ [])
+
+-- a call that returned `r`: what the library's call does, and the sixteen lent numbers before and after, `v` and `w`
+pub record HostPushedAll (s : Session) (input : Bytes) (most : ℕ) (rows out lines : Bytes) (r : ℕ) (s′ : Session) (rows′ out′ lines′ : Bytes) (v w : List ℕ) : Type 0 where
+  pub pushes : Pushes
+  pub pushed : AllPushed s input most rows out lines pushes s′ rows′ out′ lines′
+  pub replied : Replied (allSaid pushes) r v w
 
 -- ---- readings
 

@@ -6,7 +6,7 @@ ghost use Rattle.isdb_mmt.specs.Memory.Opening.{lent, Opened};
 ghost use Rattle.isdb_mmt.specs.Pushes.Push.{input};
 ghost use Rattle.isdb_mmt.specs.Answers.Readings.{countersRead, timeRead, countRead, nextMediaRead, nextControlRead, nextKeyRead, mediaRead, heldRead, controlRead, sectionRead, mptRead, pltRead, totRead, assetRead};
 ghost use Rattle.isdb_host.specs.Values.{Reply, Replied};
-ghost use Rattle.isdb_host.specs.Session.{limitsFrom, neededSaid, pushSaid, HostPushed, countersSaid, timeSaid, countSaid, nameSaid, mediaNumbers, mediaSaid, heldNumbers, heldSaid, controlNumbers, controlSaid, tableSaid, assetNumbers, assetSaid};
+ghost use Rattle.isdb_host.specs.Session.{limitsFrom, neededSaid, pushSaid, HostPushed, haltCode, haltNumber, allSaid, HostPushedAll, countersSaid, timeSaid, countSaid, nameSaid, mediaNumbers, mediaSaid, heldNumbers, heldSaid, controlNumbers, controlSaid, tableSaid, assetNumbers, assetSaid};
 use crate::fields;
 use crate::values;
 use isdb_mmt::decoder;
@@ -15,6 +15,8 @@ use isdb_mmt::decoder::kept;
 use isdb_mmt::decoder::limits;
 use isdb_mmt::decoder::limits::Limits;
 use isdb_mmt::decoder::limits::Need;
+use isdb_mmt::decoder::many::Halt;
+use isdb_mmt::decoder::many::Pushes;
 use isdb_mmt::decoder::readings;
 use isdb_mmt::decoder::readings::AssetReading;
 use isdb_mmt::decoder::readings::CarriedAsset;
@@ -126,6 +128,83 @@ pub extern "C" fn isdb_push(
         out,
     );
     push_said(a, v)
+}
+
+fn halt_code(h: Halt) -> u64
+    ensures { λ r. ⌜ r ≡ haltCode h ⌝ }
+{
+    match h {
+        Halt::End => 0,
+        Halt::Short => 1,
+        Halt::Bad => 2,
+        Halt::Full => 3,
+        Halt::Refused(n) => 4,
+    }
+}
+
+fn halt_number(h: Halt) -> u64
+    ensures { λ r. ⌜ r ≡ haltNumber h ⌝ }
+{
+    match h {
+        Halt::End => 0,
+        Halt::Short => 0,
+        Halt::Bad => 0,
+        Halt::Full => 0,
+        Halt::Refused(n) => n as u64,
+    }
+}
+
+fn all_said(a: Pushes, v: &mut [u64]) -> u8
+    requires { ⌜ length (now v) ≡ 16 ⌝ }
+    ensures { λ q. ⌜ Replied (allSaid a) q (now (v .entry)) (now (v .exit)) ⌝ }
+{
+    let x = a.progress;
+    let h = a.halt;
+    let code = halt_code(h);
+    let number = halt_number(h);
+    values::says(
+        v,
+        &[
+            x.at as u64,
+            x.packets as u64,
+            x.records as u64,
+            x.bytes as u64,
+            code,
+            number,
+        ],
+    )
+}
+
+// Takes packets that lie one behind the other in the input, and hands out records, their data, and a line for each packet.
+#[no_mangle]
+pub extern "C" fn isdb_push_all(
+    state: &mut [u8],
+    others: &mut [u64; 256],
+    objects: &mut [u8],
+    messages: &mut [u8],
+    tables: &mut [u8],
+    input: &[u8],
+    most: usize,
+    rows: &mut [u8],
+    out: &mut [u8],
+    lines: &mut [u8],
+    v: &mut [u64; 16],
+) -> u8
+    ensures { λ r. ⌜ HostPushedAll (lent (now (state .entry)) (now (others .entry)) (now (objects .entry)) (now (messages .entry)) (now (tables .entry))) (now (input .entry)) most (now (rows .entry)) (now (out .entry)) (now (lines .entry)) r (lent (now (state .exit)) (now (others .exit)) (now (objects .exit)) (now (messages .exit)) (now (tables .exit))) (now (rows .exit)) (now (out .exit)) (now (lines .exit)) (now (v .entry)) (now (v .exit)) ⌝ }
+{
+    let a = decoder::push_all(
+        state,
+        others,
+        objects,
+        messages,
+        tables,
+        input,
+        most,
+        rows,
+        out,
+        lines,
+    );
+    all_said(a, v)
 }
 
 fn counters_said(r: CountersReading, v: &mut [u64]) -> u8
