@@ -1,43 +1,171 @@
--- A window's packets one after the other, up to where its recording stops. Assumes nothing.
-use Prim.Native.Nat.{ℕ, _≤_, _<_}
-use mathlib.Core.Path.{_≡_, refl, sym, _∙_}
+-- A window's packets, call by call, up to where its recording stops. Assumes nothing.
+use Prim.Native.Nat.{ℕ, _+_, _-_, _≤_, _<_}
+use mathlib.Core.Path.{_≡_, refl, sym, ap, subst, _∙_}
+use mathlib.Core.Bool.{true, false}
+use mathlib.Core.List.{List, [], _∷_}
 use native.Mathlib.Omega.{arith}
-use mathlib.Core.List.{List}
-use lib.ListN.{length}
-use borrow.Author.Tests.{le-leb, lt-leb}
-use Rattle.isdb_tlv.specs.Cut.{cutAt, recordingFrom, recordingOf}
+use lib.ListN.{length, take, drop, length-drop}
+use lib.Seq.{length-take-le}
+use lib.Dec.{leb}
+use mir.Val.{Fits}
+use mir.Syntax.{w64}
+use borrow.Author.Tests.{le-leb, lt-leb, leb-true, leb-false}
+use Rattle.isdb_tlv.specs.Guards.{_<?_, _=?_}
+use Rattle.isdb_tlv.specs.Cut.{TlvPacket, cutAt, recordingFrom, recordingOf}
 use Rattle.isdb_tlv.specs.declared.cut.Cut.{Cut}
 use Rattle.isdb_tlv.specs.declared.cut.Cut.the-variants.{Packet, End as endHere, Short as shortHere, Bad as badHere}
-use Rattle.isdb_tlv.proofs.Cutting.{end-behind, end-bad, end-short, end-clean, end-here, over-end}
+use Rattle.isdb_tlv.proofs.Guards.{either}
+use Rattle.isdb_tlv.proofs.Cutting.{recording-at, packet-lies, cut-drop, end-behind, end-bad, end-short, end-clean, end-here, over-end}
+use Rattle.isdb_mmt.specs.Decoder.Packet.{Bytes}
+use Rattle.isdb_mmt.specs.Memory.Session.{Session}
+use Rattle.isdb_mmt.specs.Pushes.Push.{asks, replyOf}
+use Rattle.isdb_mmt.specs.Pushes.PushAll.{lineSize, nothingTaken, Run, runOf, inputAt, onward, Ran, ran, haltAt, pushedEach, AllPushed}
+use Rattle.isdb_mmt.specs.declared.decoder.many.Progress.{Progress}
+use Rattle.isdb_mmt.specs.declared.decoder.many.Pushes.{Pushes}
+use Rattle.isdb_mmt.specs.declared.decoder.many.Halt.{Halt}
+use Rattle.isdb_mmt.specs.declared.decoder.many.Halt.the-variants.{End, Short, Bad as badHalt, Full, Refused as refusedHalt}
 use Rattle.feedlist.specs.declared.Passed.the-variants.{More, Bad}
 use Rattle.feedlist.specs.Pass.{mostBytes, StopsAt}
+
+-- two different answers are not one
+differ : {A : Type 0} → _≡_ {A = ℕ} 0 1 → A
+differ e = absurd (omega arith)
+
+abbrev emptyNot : List TlvPacket → ℕ
+emptyNot [] = 0
+emptyNot (p ∷ ps) = 1
+
+abbrev tailOf : List TlvPacket → List TlvPacket
+tailOf [] = []
+tailOf (p ∷ ps) = ps
+
+abbrev headLength : List TlvPacket → ℕ
+headLength [] = 0
+headLength (p ∷ ps) = length (p .bytes)
+
+-- what ends a call at a place, where it is not turned down there
+abbrev HaltedBy : Halt → Cut → Type 0
+HaltedBy End k = k ≡ endHere
+HaltedBy Short k = k ≡ shortHere
+HaltedBy badHalt k = k ≡ badHere
+HaltedBy Full k = Unit {0}
+HaltedBy (refusedHalt n) k = Unit {0}
+
+-- a call on the window from `base` on: it goes ahead, stays inside, and passes whole packets alone
+record Reached (w : Bytes) (base most : ℕ) (c : Run) (r : Ran) : Type 0 where
+  ahead : c .progress .at ≤ r .run .progress .at
+  taken : c .progress .packets < r .run .progress .packets → c .progress .at < r .run .progress .at
+  inside : c .progress .at ≤ length (drop base w) → r .run .progress .at ≤ length (drop base w)
+  end : recordingFrom w most (base + c .progress .at) .end ≡ recordingFrom w most (base + r .run .progress .at) .end
+  halt : HaltedBy (r .halt) (cutAt (drop base w) most (r .run .progress .at))
+
+module _ (w : Bytes) (base most : ℕ) where
+  abbrev input : Bytes
+  input = drop base w
+
+  stays : (c : Run) (h : Halt) → HaltedBy h (cutAt input most (c .progress .at)) → Reached w base most c (ran c h)
+  stays c h e = record { ahead = omega arith; taken = λ l. absurd (omega (arith, l)); inside = λ l. l; end = refl; halt = e }
+
+  reached : (ps : List TlvPacket) (c : Run) → recordingFrom input most (c .progress .at) .packets ≡ ps → (k : Cut) → k ≡ cutAt input most (c .progress .at)
+      → Reached w base most c (pushedEach input most c ps)
+  unfolding pushedEach
+  reached [] c e endHere ek = stays c (haltAt (cutAt input most (c .progress .at))) (rw (← ek) refl)
+  reached [] c e shortHere ek = stays c (haltAt (cutAt input most (c .progress .at))) (rw (← ek) refl)
+  reached [] c e badHere ek = stays c (haltAt (cutAt input most (c .progress .at))) (rw (← ek) refl)
+  reached [] c e (Packet kind start n next) ek =
+      differ (sym (ap emptyNot (sym (rw (recording-at input most (c .progress .at), ← ek) refl) ∙ e)))
+  reached (p ∷ ps) c e endHere ek = differ (ap emptyNot (sym (rw (recording-at input most (c .progress .at), ← ek) refl) ∙ e))
+  reached (p ∷ ps) c e shortHere ek = differ (ap emptyNot (sym (rw (recording-at input most (c .progress .at), ← ek) refl) ∙ e))
+  reached (p ∷ ps) c e badHere ek = differ (ap emptyNot (sym (rw (recording-at input most (c .progress .at), ← ek) refl) ∙ e))
+  reached (p ∷ ps) c e (Packet kind start n next) ek =
+      let at = c .progress .at in
+      let q : TlvPacket = record { kind = kind; bytes = take n (drop start input) } in
+      let f : q ∷ recordingFrom input most next .packets ≡ p ∷ ps = sym (rw (recording-at input most at, ← ek) refl) ∙ e in
+      let l = packet-lies input most at (sym ek) in
+      let n′ : length (q .bytes) ≡ n = length-take-le n (drop start input) (omega (arith, length-drop start input, l .behind-bytes, l .inside)) in
+      let m : length (q .bytes) ≡ length (p .bytes) = ap headLength f in
+      let here : at + 4 + length (p .bytes) ≡ next = omega (arith, n′, m, l .behind-header, l .behind-bytes) in
+      let d : cutAt w most (base + at) ≡ Packet kind (base + start) n (base + next) = cut-drop w base most at ∙ rw (← ek) refl in
+      let y = replyOf (c .session) (inputAt c p) in
+      either (length (c .lines) <? lineSize * c .progress .packets + lineSize)
+      (λ t. rw t (stays c Full tt))
+      (λ t. either (asks (c .session) (inputAt c p) =? 0)
+      (λ z.
+      let go = reached ps (onward c p y) (rw here (sym (ap tailOf f) ∙ refl)) (cutAt input most (at + 4 + length (p .bytes))) refl in
+      rw (t, z)
+      (record {
+        ahead = omega (arith, go .ahead);
+        taken = λ _. omega (arith, go .ahead);
+        inside = λ _. go .inside (rw here (l .inside));
+        end = end-behind w most (base + at) _ refl kind (base + start) n (base + next) d ∙ (rw (← here) (go .end));
+        halt = go .halt;
+      }))
+      (λ z. rw (t, z) (stays c (refusedHalt (asks (c .session) (inputAt c p))) tt)))
 
 pub pass-start : (w : List ℕ) → recordingOf w mostBytes .end ≡ recordingFrom w mostBytes 0 .end
 unfolding recordingOf
 pass-start w = refl
 
-module _ (w : List ℕ) (i : ℕ) (inv : recordingOf w mostBytes .end ≡ recordingFrom w mostBytes i .end) where
-  pub stops-over : length w ≤ i → StopsAt w (More i)
-  stops-over h =
+-- what is known before each call: the place is inside, and the packets in front of it are whole
+pub record Passing (w : Bytes) (at : ℕ) : Type 0 where
+  pub inside : at ≤ length w
+  pub end : recordingOf w mostBytes .end ≡ recordingFrom w mostBytes at .end
+
+pub passing-first : (w : Bytes) → Passing w 0
+passing-first w = record { inside = omega arith; end = pass-start w }
+
+module _ (w : Bytes) (at : ℕ) (h : Passing w at) (b : Bytes) (eb : b ≡ drop at w) (s : Session) (rows out lines : Bytes) (a : Pushes) (s′ : Session) (rows′ out′ lines′ : Bytes)
+    (q : AllPushed s b mostBytes rows out lines a s′ rows′ out′ lines′) where
+  came : Reached w at mostBytes (runOf s rows out lines nothingTaken) (ran (runOf s′ rows′ out′ lines′ (a .progress)) (a .halt))
+  unfolding recordingOf
+  came =
+      subst (Reached w at mostBytes (runOf s rows out lines nothingTaken)) (sym ((rw eb at q) .one-by-one))
+      (reached w at mostBytes (recordingFrom (drop at w) mostBytes 0 .packets) (runOf s rows out lines nothingTaken) refl (cutAt (drop at w) mostBytes 0) refl)
+
+  now-inside : at + a .progress .at ≤ length w
+  now-inside = omega (arith, came .inside (omega arith), length-drop at w, h .inside)
+
+  now-end : recordingOf w mostBytes .end ≡ recordingFrom w mostBytes (at + a .progress .at) .end
+  now-end = let z : at + 0 ≡ at = omega arith in h .end ∙ (rw z at (came .end))
+
+  pub place-fits : length w < 18446744073709551616 → Fits w64 (at + a .progress .at)
+  place-fits l = record { fits = omega (arith, now-inside, l) }
+
+  here : (k : Cut) → cutAt (drop at w) mostBytes (a .progress .at) ≡ k → (k ≡ endHere) ⊎ ((k ≡ shortHere) ⊎ (k ≡ badHere))
+      → cutAt w mostBytes (at + a .progress .at) ≡ k
+  here k e (inl f) = cut-drop w at mostBytes (a .progress .at) ∙ rw (e, f) refl
+  here k e (inr (inl f)) = cut-drop w at mostBytes (a .progress .at) ∙ rw (e, f) refl
+  here k e (inr (inr f)) = cut-drop w at mostBytes (a .progress .at) ∙ rw (e, f) refl
+
+  pub stops-end : a .halt ≡ End → StopsAt w (More (at + a .progress .at))
+  stops-end e =
+      let i = at + a .progress .at in
+      let k : cutAt w mostBytes i ≡ endHere = here endHere (rw e at (came .halt)) (inl refl) in
+      let l : length w ≤ i = end-here w mostBytes i _ refl k in
       record {
-        end = rw (le-leb (length w) i h) (inv ∙ end-clean w mostBytes i h);
-        going = λ b. let z : _≡_ {A = ℕ} 0 1 = cc (over-end w mostBytes i h) in absurd (omega arith);
+        end = rw (le-leb (length w) i l) (now-end ∙ end-clean w mostBytes i l);
+        going = λ b. differ (cc k);
       }
 
-  module _ (c : Cut) (e : c ≡ cutAt w mostBytes i) where
-    pub pass-turn : (kind start n next : ℕ) → c ≡ Packet kind start n next
-        → recordingOf w mostBytes .end ≡ recordingFrom w mostBytes next .end
-    pass-turn kind start n next d = inv ∙ end-behind w mostBytes i c e kind start n next d
+  pub stops-short : a .halt ≡ Short → StopsAt w (More (at + a .progress .at))
+  stops-short e =
+      let i = at + a .progress .at in
+      let k : cutAt w mostBytes i ≡ shortHere = here shortHere (rw e at (came .halt)) (inr (inl refl)) in
+      let l : i < length w = either (leb (length w) i) (λ t. differ (cc (k, over-end w mostBytes i (leb-true _ _ t)))) (λ f. leb-false _ _ f) in
+      record {
+        end = rw (lt-leb (length w) i l) (now-end ∙ end-short w mostBytes i _ refl k);
+        going = λ b. differ (cc k);
+      }
 
-    pub stops-bad : c ≡ badHere → StopsAt w (Bad i)
-    stops-bad d = record { end = inv ∙ end-bad w mostBytes i c e d; closed = sym e ∙ d }
+  pub stops-bad : a .halt ≡ badHalt → StopsAt w (Bad (at + a .progress .at))
+  stops-bad e =
+      let i = at + a .progress .at in
+      let k : cutAt w mostBytes i ≡ badHere = here badHere (rw e at (came .halt)) (inr (inr refl)) in
+      record { end = now-end ∙ end-bad w mostBytes i _ refl k; closed = k }
 
-    pub stops-short : i < length w → c ≡ shortHere → StopsAt w (More i)
-    stops-short h d =
-        record {
-          end = rw (lt-leb (length w) i h) (inv ∙ end-short w mostBytes i c e d);
-          going = λ b. let z : _≡_ {A = ℕ} 0 1 = cc in absurd (omega arith);
-        }
+  module _ (more : 0 < a .progress .packets) where
+    pub pass-less : length w - (at + a .progress .at) < length w - at
+    pass-less = omega (arith, came .taken more, now-inside)
 
-    pub stops-end : c ≡ endHere → StopsAt w (More i)
-    stops-end d = stops-over (end-here w mostBytes i c e d)
+    pub pass-on : Passing w (at + a .progress .at)
+    pass-on = record { inside = now-inside; end = now-end }

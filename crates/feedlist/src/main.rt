@@ -1,12 +1,14 @@
-// Lists the media ids of a recording: standard input as TLV packets, pushed into a session one by one.
+// Lists the media ids of a recording: standard input as TLV packets, pushed into a session.
+ghost use mathlib.Core.Path.{_≡_};
+ghost use mathlib.Core.Bool.{false};
+ghost use Prim.Native.Nat.{_<_};
 ghost use Rattle.feedlist.specs.Pass.{StopsAt};
 use isdb_mmt::decoder;
 use isdb_mmt::decoder::limits::Limits;
+use isdb_mmt::decoder::many::Halt;
 use isdb_text::listing;
 use isdb_text::window;
 use isdb_tlv::bytes;
-use isdb_tlv::cut;
-use isdb_tlv::cut::Cut;
 use isdb_tlv::cut::Stop;
 
 // The most data of a packet.
@@ -32,7 +34,17 @@ fn limits() -> Limits {
     }
 }
 
-// Pushes the packets of a window, one after the other.
+// Whether a packet that is turned down ends the reading: one that found no room behind others finds it when they are let go.
+fn stops(number: u8, packets: usize) -> bool
+    ensures { λ r. ⌜ (r ≡ false → 0 < packets) ⌝ }
+{
+    if packets == 0 {
+        return true;
+    }
+    number != 10
+}
+
+// Pushes the packets of a window. Where the outputs are full, what they hold is let go, and the rest of the window follows.
 fn pass(
     state: &mut [u8; 13144],
     others: &mut [u64; 256],
@@ -42,41 +54,37 @@ fn pass(
     window: &[u8],
     rows: &mut [u8; 36864],
     data: &mut [u8; 16384],
+    lines: &mut [u8; 16384],
 ) -> Passed
     ensures { λ r. ⌜ StopsAt (now (window .entry)) r ⌝ }
 {
     let mut at: usize = 0;
-    while at < window.len() {
-        match cut::cut_at(window, MOST, at) {
-            Cut::Packet {
-                kind,
-                start,
-                length,
-                next,
-            } => {
-                let packet = bytes::part(window, start, length);
-                let a = decoder::push(
-                    state,
-                    others,
-                    objects,
-                    messages,
-                    tables,
-                    kind,
-                    packet,
-                    rows,
-                    data,
-                );
-                if a.number != 0 {
-                    return Passed::Refused(a.number);
+    loop {
+        let rest = bytes::rest(window, at);
+        let a = decoder::push_all(
+            state, others, objects, messages, tables, rest, MOST, rows, data, lines,
+        );
+        let x = a.progress;
+        let h = a.halt;
+        let next = at + x.at;
+        match h {
+            Halt::End => return Passed::More(next),
+            Halt::Short => return Passed::More(next),
+            Halt::Bad => return Passed::Bad(next),
+            Halt::Full => {
+                if x.packets == 0 {
+                    return Passed::Refused(10);
                 }
                 at = next;
             }
-            Cut::Bad => return Passed::Bad(at),
-            Cut::Short => return Passed::More(at),
-            Cut::End => return Passed::More(at),
+            Halt::Refused(n) => {
+                if stops(n, x.packets) {
+                    return Passed::Refused(n);
+                }
+                at = next;
+            }
         }
     }
-    Passed::More(at)
 }
 
 fn read_all(
@@ -88,6 +96,7 @@ fn read_all(
     window: &mut [u8; 65536],
     rows: &mut [u8; 36864],
     data: &mut [u8; 16384],
+    lines: &mut [u8; 16384],
 ) -> Stop {
     let mut base: u64 = 0;
     let mut n: usize = 0;
@@ -109,6 +118,7 @@ fn read_all(
             bytes::part(window, 0, m),
             rows,
             data,
+            lines,
         ) {
             Passed::More(at) => {
                 n = window::to_front(window, at, m);
@@ -145,6 +155,7 @@ fn main() {
     let mut window = [0u8; 65536];
     let mut rows = [0u8; 36864];
     let mut data = [0u8; 16384];
+    let mut lines = [0u8; 16384];
     decoder::open(
         limits(),
         &mut state,
@@ -162,6 +173,7 @@ fn main() {
         &mut window,
         &mut rows,
         &mut data,
+        &mut lines,
     );
     report(&state, &others, &objects, &messages, &tables, stop);
 }

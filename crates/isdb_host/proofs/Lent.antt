@@ -1,7 +1,7 @@
 -- Laws of the calls on a session. Assumes nothing.
 use Prim.Native.Nat.{ℕ}
 use mathlib.Core.Path.{_≡_, refl, sym, _∙_, ap}
-use mathlib.Core.List.{List}
+use mathlib.Core.List.{List, [], _∷_}
 use lib.Dec.{eqb}
 use borrow.Author.Tests.{eqb-true}
 use Rattle.isdb_tlv.proofs.Guards.{either}
@@ -15,8 +15,8 @@ use Rattle.isdb_mmt.specs.declared.decoder.limits.Limits.{Limits}
 use Rattle.isdb_mmt.specs.declared.decoder.many.Pushes.{Pushes}
 use Rattle.isdb_mmt.specs.declared.mpu.MaybeMfu.{MaybeMfu}
 use Rattle.isdb_mmt.specs.declared.mpu.MaybeMfu.the-variants.{None as noMfu}
-use Rattle.isdb_host.specs.Values.{codeOf, Replied}
-use Rattle.isdb_host.specs.Session.{pushSaid, HostPushed, allSaid, HostPushedAll}
+use Rattle.isdb_host.specs.Values.{says, codeOf, Replied}
+use Rattle.isdb_host.specs.Session.{pushSaid, HostPushed, haltCode, haltNumber, allSaid, HostPushedAll}
 use Rattle.isdb_host.proofs.Numbers.{replied-as}
 
 pub header-absent : (m : MaybeMfu) → m ≡ noMfu → noHeader ≡ headerOr m
@@ -35,6 +35,12 @@ pub host-pushed : {s s′ : Session} {x : Input} {n r records bytes : ℕ} {rows
 host-pushed {n = n} {r = r} {records = records} {bytes = bytes} p a =
     let same : r ≡ n = a .number ∙ push-code n records bytes in
     record { records = records; bytes = bytes; pushed = rw same p; replied = replied-as a (ap (λ k. pushSaid k records bytes) same) }
+
+-- the numbers of a call for many packets
+pub all-replied : (a : Pushes) (code number : ℕ) → code ≡ haltCode (a .halt) → number ≡ haltNumber (a .halt) → (r : ℕ) (v w : List ℕ)
+    → Replied (says (a .progress .at ∷ a .progress .packets ∷ a .progress .records ∷ a .progress .bytes ∷ code ∷ number ∷ [])) r v w
+    → Replied (allSaid a) r v w
+all-replied a code number e f r v w h = rw (e, f) at h
 
 -- a call for many packets, with its answer
 pub host-pushed-all : {s s′ : Session} {input rows out lines rows′ out′ lines′ : Bytes} {most r : ℕ} {a : Pushes} {v w : List ℕ}
