@@ -1,21 +1,22 @@
 -- A window's packets, call by call, up to where its recording stops. Assumes nothing.
-use Prim.Native.Nat.{ℕ, _+_, _-_, _≤_, _<_}
+use Prim.Native.Nat.{ℕ, zero, suc, _+_, _-_, _*_, _≤_, _<_}
 use mathlib.Core.Path.{_≡_, refl, sym, ap, subst, _∙_}
-use mathlib.Core.Bool.{true, false}
+use mathlib.Core.Bool.{Bool, true, false, not}
 use mathlib.Core.List.{List, [], _∷_}
 use native.Mathlib.Omega.{arith}
 use lib.ListN.{length, take, drop, length-drop}
 use lib.Seq.{length-take-le}
-use lib.Dec.{leb}
+use lib.Dec.{T, leb, eqb}
 use mir.Val.{Fits}
 use mir.Syntax.{w64}
-use borrow.Author.Tests.{le-leb, lt-leb, leb-true, leb-false}
+use borrow.Author.Tests.{le-leb, lt-leb, leb-true, leb-false, eq-eqb, ne-eqb}
 use Rattle.isdb_tlv.specs.Guards.{_<?_, _=?_}
-use Rattle.isdb_tlv.specs.Cut.{TlvPacket, cutAt, recordingFrom, recordingOf}
+use Rattle.isdb_tlv.specs.Walk.{turn}
+use Rattle.isdb_tlv.specs.Cut.{TlvPacket, Recording, item, cutAt, recordingFrom, recordingOf}
 use Rattle.isdb_tlv.specs.declared.cut.Cut.{Cut}
 use Rattle.isdb_tlv.specs.declared.cut.Cut.the-variants.{Packet, End as endHere, Short as shortHere, Bad as badHere}
 use Rattle.isdb_tlv.proofs.Guards.{either}
-use Rattle.isdb_tlv.proofs.Cutting.{recording-at, packet-lies, cut-drop, end-behind, end-bad, end-short, end-clean, end-here, over-end}
+use Rattle.isdb_tlv.proofs.Cutting.{recording-at, packet-lies, moved, cut-drop, end-behind, end-bad, end-short, end-clean, end-here, over-end}
 use Rattle.isdb_mmt.specs.Decoder.Packet.{Bytes}
 use Rattle.isdb_mmt.specs.Memory.Session.{Session}
 use Rattle.isdb_mmt.specs.Pushes.Push.{asks, replyOf}
@@ -25,11 +26,28 @@ use Rattle.isdb_mmt.specs.declared.decoder.many.Pushes.{Pushes}
 use Rattle.isdb_mmt.specs.declared.decoder.many.Halt.{Halt}
 use Rattle.isdb_mmt.specs.declared.decoder.many.Halt.the-variants.{End, Short, Bad as badHalt, Full, Refused as refusedHalt}
 use Rattle.feedlist.specs.declared.Passed.the-variants.{More, Bad}
-use Rattle.feedlist.specs.Pass.{mostBytes, StopsAt}
+use Rattle.feedlist.specs.Pass.{mostBytes, endsReading, StopsAt}
 
 -- two different answers are not one
 differ : {A : Type 0} → _≡_ {A = ℕ} 0 1 → A
 differ e = absurd (omega arith)
+
+goes-on : (n packets : ℕ) → endsReading n packets ≡ false → 0 < packets
+unfolding endsReading
+goes-on n zero e = absurd (subst T e tt)
+goes-on n (suc packets) e = omega arith
+
+pub ends-none : (n packets : ℕ) → packets ≡ 0 → true ≡ endsReading n packets
+unfolding endsReading
+ends-none n packets e = rw (eq-eqb packets 0 e)
+
+pub ends-some : (n packets : ℕ) → (packets ≡ 0 → ⊥) → (r : Bool) → r ≡ not (eqb n 10) → r ≡ endsReading n packets
+unfolding endsReading
+ends-some n packets h r e = rw (ne-eqb packets 0 h) e
+
+above-none : (n : ℕ) → (n ≡ 0 → ⊥) → 0 < n
+above-none zero h = absurd (h refl)
+above-none (suc n) h = omega arith
 
 abbrev emptyNot : List TlvPacket → ℕ
 emptyNot [] = 0
@@ -63,6 +81,12 @@ module _ (w : Bytes) (base most : ℕ) where
   abbrev input : Bytes
   input = drop base w
 
+  packets-at : (at : ℕ) (k : Cut) → k ≡ cutAt input most at
+      → recordingFrom input most at .packets ≡ turn (recordingFrom input most) (item input at k) .packets
+  packets-at at k e =
+      let r : recordingFrom input most at ≡ turn (recordingFrom input most) (item input at k) = rw e (recording-at input most at) in
+      ap (λ (x : Recording). x .packets) r
+
   stays : (c : Run) (h : Halt) → HaltedBy h (cutAt input most (c .progress .at)) → Reached w base most c (ran c h)
   stays c h e = record { ahead = omega arith; taken = λ l. absurd (omega (arith, l)); inside = λ l. l; end = refl; halt = e }
 
@@ -73,14 +97,14 @@ module _ (w : Bytes) (base most : ℕ) where
   reached [] c e shortHere ek = stays c (haltAt (cutAt input most (c .progress .at))) (rw (← ek) refl)
   reached [] c e badHere ek = stays c (haltAt (cutAt input most (c .progress .at))) (rw (← ek) refl)
   reached [] c e (Packet kind start n next) ek =
-      differ (sym (ap emptyNot (sym (rw (recording-at input most (c .progress .at), ← ek) refl) ∙ e)))
-  reached (p ∷ ps) c e endHere ek = differ (ap emptyNot (sym (rw (recording-at input most (c .progress .at), ← ek) refl) ∙ e))
-  reached (p ∷ ps) c e shortHere ek = differ (ap emptyNot (sym (rw (recording-at input most (c .progress .at), ← ek) refl) ∙ e))
-  reached (p ∷ ps) c e badHere ek = differ (ap emptyNot (sym (rw (recording-at input most (c .progress .at), ← ek) refl) ∙ e))
+      differ (ap emptyNot (sym e ∙ packets-at (c .progress .at) (Packet kind start n next) ek))
+  reached (p ∷ ps) c e endHere ek = differ (ap emptyNot (sym (packets-at (c .progress .at) endHere ek) ∙ e))
+  reached (p ∷ ps) c e shortHere ek = differ (ap emptyNot (sym (packets-at (c .progress .at) shortHere ek) ∙ e))
+  reached (p ∷ ps) c e badHere ek = differ (ap emptyNot (sym (packets-at (c .progress .at) badHere ek) ∙ e))
   reached (p ∷ ps) c e (Packet kind start n next) ek =
       let at = c .progress .at in
       let q : TlvPacket = record { kind = kind; bytes = take n (drop start input) } in
-      let f : q ∷ recordingFrom input most next .packets ≡ p ∷ ps = sym (rw (recording-at input most at, ← ek) refl) ∙ e in
+      let f : q ∷ recordingFrom input most next .packets ≡ p ∷ ps = sym (packets-at at (Packet kind start n next) ek) ∙ e in
       let l = packet-lies input most at (sym ek) in
       let n′ : length (q .bytes) ≡ n = length-take-le n (drop start input) (omega (arith, length-drop start input, l .behind-bytes, l .inside)) in
       let m : length (q .bytes) ≡ length (p .bytes) = ap headLength f in
@@ -91,7 +115,7 @@ module _ (w : Bytes) (base most : ℕ) where
       (λ t. rw t (stays c Full tt))
       (λ t. either (asks (c .session) (inputAt c p) =? 0)
       (λ z.
-      let go = reached ps (onward c p y) (rw here (sym (ap tailOf f) ∙ refl)) (cutAt input most (at + 4 + length (p .bytes))) refl in
+      let go = reached ps (onward c p y) (rw here (ap tailOf f)) (cutAt input most (at + 4 + length (p .bytes))) refl in
       rw (t, z)
       (record {
         ahead = omega (arith, go .ahead);
@@ -108,11 +132,12 @@ pass-start w = refl
 
 -- what is known before each call: the place is inside, and the packets in front of it are whole
 pub record Passing (w : Bytes) (at : ℕ) : Type 0 where
+  pub long : length w < 18446744073709551616
   pub inside : at ≤ length w
   pub end : recordingOf w mostBytes .end ≡ recordingFrom w mostBytes at .end
 
-pub passing-first : (w : Bytes) → Passing w 0
-passing-first w = record { inside = omega arith; end = pass-start w }
+pub passing-first : (w : Bytes) → length w < 18446744073709551616 → Passing w 0
+passing-first w l = record { long = l; inside = omega arith; end = pass-start w }
 
 module _ (w : Bytes) (at : ℕ) (h : Passing w at) (b : Bytes) (eb : b ≡ drop at w) (s : Session) (rows out lines : Bytes) (a : Pushes) (s′ : Session) (rows′ out′ lines′ : Bytes)
     (q : AllPushed s b mostBytes rows out lines a s′ rows′ out′ lines′) where
@@ -128,19 +153,16 @@ module _ (w : Bytes) (at : ℕ) (h : Passing w at) (b : Bytes) (eb : b ≡ drop 
   now-end : recordingOf w mostBytes .end ≡ recordingFrom w mostBytes (at + a .progress .at) .end
   now-end = let z : at + 0 ≡ at = omega arith in h .end ∙ (rw z at (came .end))
 
-  pub place-fits : length w < 18446744073709551616 → Fits w64 (at + a .progress .at)
-  place-fits l = record { fits = omega (arith, now-inside, l) }
+  pub place-fits : Fits w64 (at + a .progress .at)
+  place-fits = record { fits = omega (arith, now-inside, h .long) }
 
-  here : (k : Cut) → cutAt (drop at w) mostBytes (a .progress .at) ≡ k → (k ≡ endHere) ⊎ ((k ≡ shortHere) ⊎ (k ≡ badHere))
-      → cutAt w mostBytes (at + a .progress .at) ≡ k
-  here k e (inl f) = cut-drop w at mostBytes (a .progress .at) ∙ rw (e, f) refl
-  here k e (inr (inl f)) = cut-drop w at mostBytes (a .progress .at) ∙ rw (e, f) refl
-  here k e (inr (inr f)) = cut-drop w at mostBytes (a .progress .at) ∙ rw (e, f) refl
+  here : (k : Cut) → moved at k ≡ k → cutAt (drop at w) mostBytes (a .progress .at) ≡ k → cutAt w mostBytes (at + a .progress .at) ≡ k
+  here k m e = cut-drop w at mostBytes (a .progress .at) ∙ ap (moved at) e ∙ m
 
   pub stops-end : a .halt ≡ End → StopsAt w (More (at + a .progress .at))
   stops-end e =
       let i = at + a .progress .at in
-      let k : cutAt w mostBytes i ≡ endHere = here endHere (rw e at (came .halt)) (inl refl) in
+      let k : cutAt w mostBytes i ≡ endHere = here endHere refl (rw e at (came .halt)) in
       let l : length w ≤ i = end-here w mostBytes i _ refl k in
       record {
         end = rw (le-leb (length w) i l) (now-end ∙ end-clean w mostBytes i l);
@@ -150,7 +172,7 @@ module _ (w : Bytes) (at : ℕ) (h : Passing w at) (b : Bytes) (eb : b ≡ drop 
   pub stops-short : a .halt ≡ Short → StopsAt w (More (at + a .progress .at))
   stops-short e =
       let i = at + a .progress .at in
-      let k : cutAt w mostBytes i ≡ shortHere = here shortHere (rw e at (came .halt)) (inr (inl refl)) in
+      let k : cutAt w mostBytes i ≡ shortHere = here shortHere refl (rw e at (came .halt)) in
       let l : i < length w = either (leb (length w) i) (λ t. differ (cc (k, over-end w mostBytes i (leb-true _ _ t)))) (λ f. leb-false _ _ f) in
       record {
         end = rw (lt-leb (length w) i l) (now-end ∙ end-short w mostBytes i _ refl k);
@@ -160,12 +182,27 @@ module _ (w : Bytes) (at : ℕ) (h : Passing w at) (b : Bytes) (eb : b ≡ drop 
   pub stops-bad : a .halt ≡ badHalt → StopsAt w (Bad (at + a .progress .at))
   stops-bad e =
       let i = at + a .progress .at in
-      let k : cutAt w mostBytes i ≡ badHere = here badHere (rw e at (came .halt)) (inr (inr refl)) in
+      let k : cutAt w mostBytes i ≡ badHere = here badHere refl (rw e at (came .halt)) in
       record { end = now-end ∙ end-bad w mostBytes i _ refl k; closed = k }
 
   module _ (more : 0 < a .progress .packets) where
-    pub pass-less : length w - (at + a .progress .at) < length w - at
-    pass-less = omega (arith, came .taken more, now-inside)
+    less : length w - (at + a .progress .at) < length w - at
+    less = omega (arith, came .taken more, now-inside)
 
-    pub pass-on : Passing w (at + a .progress .at)
-    pass-on = record { inside = now-inside; end = now-end }
+    on : Passing w (at + a .progress .at)
+    on = record { long = h .long; inside = now-inside; end = now-end }
+
+  -- the outputs are full, or a packet that is turned down has others in front of it
+  module _ (some : a .progress .packets ≡ 0 → ⊥) where
+    pub full-less : length w - (at + a .progress .at) < length w - at
+    full-less = less (above-none (a .progress .packets) some)
+
+    pub full-on : Passing w (at + a .progress .at)
+    full-on = on (above-none (a .progress .packets) some)
+
+  module _ (n : ℕ) (r : Bool) (g : r ≡ endsReading n (a .progress .packets)) (f : r ≡ false) where
+    pub refused-less : length w - (at + a .progress .at) < length w - at
+    refused-less = less (goes-on n (a .progress .packets) (sym g ∙ f))
+
+    pub refused-on : Passing w (at + a .progress .at)
+    refused-on = on (goes-on n (a .progress .packets) (sym g ∙ f))

@@ -3,7 +3,8 @@ use Prim.Native.Nat.{ℕ}
 use mathlib.Core.Path.{_≡_}
 use mathlib.Core.List.{List}
 use lib.ListN.{length}
-use Rattle.isdb_tlv.specs.Guards.{if_then_else_, _≤?_}
+use mathlib.Core.Bool.{Bool, true, not}
+use Rattle.isdb_tlv.specs.Guards.{if_then_else_, _≤?_, _=?_}
 use Rattle.isdb_tlv.specs.Cut.{cutAt, recordingOf}
 use Rattle.isdb_tlv.specs.declared.cut.Cut.the-variants.{Bad as badHere}
 use Rattle.isdb_tlv.specs.declared.cut.Stop.the-variants.{Clean, Bad as badAt}
@@ -23,6 +24,11 @@ pub record Rest (w : List ℕ) (at : ℕ) : Type 0 where
 pub record Wrong (w : List ℕ) (at : ℕ) : Type 0 where
   pub end : recordingOf w mostBytes .end ≡ badAt at
   pub closed : cutAt w mostBytes at ≡ badHere
+
+-- whether a packet that is turned down with this number ends the reading, where so many packets of the same call were taken before it: one
+-- that found no room in the outputs behind others finds it in the next call
+unfoldable pub endsReading : ℕ → ℕ → Bool
+endsReading number packets = if packets =? 0 then true else not (number =? 10)
 
 -- what an answer says of the window; of a packet that is turned down it says the number alone
 abbrev pub StopsAt : List ℕ → Passed → Type 0

@@ -1,8 +1,8 @@
 // Lists the media ids of a recording: standard input as TLV packets, pushed into a session.
 ghost use mathlib.Core.Path.{_≡_};
-ghost use mathlib.Core.Bool.{false};
 ghost use Prim.Native.Nat.{_<_};
-ghost use Rattle.feedlist.specs.Pass.{StopsAt};
+ghost use lib.ListN.{length};
+ghost use Rattle.feedlist.specs.Pass.{endsReading, StopsAt};
 use isdb_mmt::decoder;
 use isdb_mmt::decoder::limits::Limits;
 use isdb_mmt::decoder::many::Halt;
@@ -34,9 +34,16 @@ fn limits() -> Limits {
     }
 }
 
+// A slice has fewer than 2^64 bytes, which a definition over lists does not know.
+fn measured(s: &[u8])
+    ensures { λ r. ⌜ length (now (s .entry)) < 18446744073709551616 ⌝ }
+{
+    s.len();
+}
+
 // Whether a packet that is turned down ends the reading: one that found no room behind others finds it when they are let go.
 fn stops(number: u8, packets: usize) -> bool
-    ensures { λ r. ⌜ (r ≡ false → 0 < packets) ⌝ }
+    ensures { λ r. ⌜ r ≡ endsReading number packets ⌝ }
 {
     if packets == 0 {
         return true;
@@ -58,11 +65,21 @@ fn pass(
 ) -> Passed
     ensures { λ r. ⌜ StopsAt (now (window .entry)) r ⌝ }
 {
+    measured(window);
     let mut at: usize = 0;
     loop {
         let rest = bytes::rest(window, at);
         let a = decoder::push_all(
-            state, others, objects, messages, tables, rest, MOST, rows, data, lines,
+            state,
+            others,
+            objects,
+            messages,
+            tables,
+            rest,
+            MOST,
+            rows,
+            data,
+            lines,
         );
         let x = a.progress;
         let h = a.halt;
