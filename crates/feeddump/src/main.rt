@@ -1,10 +1,8 @@
-// Lists everything that a recording holds: standard input as TLV packets, pushed into a session.
+// Lists everything that a recording holds: standard input as TLV packets, pushed into a session one by one.
 mod tables;
 
 use isdb_mmt::decoder;
 use isdb_mmt::decoder::limits::Limits;
-use isdb_mmt::decoder::many::Halt;
-use isdb_mmt::decoder::records::Answer;
 use isdb_text::dump_session;
 use isdb_text::window;
 use isdb_tlv::bytes;
@@ -23,16 +21,6 @@ struct Passed {
     packets: u64,
     text: usize,
     bad: bool,
-}
-
-// Answers of a call that are not written yet: how many, the number of the packet behind them, and where the next one's line, rows and data
-// start.
-struct Stock {
-    left: u64,
-    number: u8,
-    line: u64,
-    row: u64,
-    start: u64,
 }
 
 fn limits() -> Limits {
@@ -63,7 +51,13 @@ fn make_room(text: &[u8; 65536], at: usize) -> usize {
 }
 
 // The lines of so many records, of which there are at most 4,096.
-fn mfu_lines(text: &mut [u8; 65536], at: usize, rows: &[u8], data: &[u8], records: u64) -> usize {
+fn mfu_lines(
+    text: &mut [u8; 65536],
+    at: usize,
+    rows: &[u8; 147456],
+    data: &[u8; 262144],
+    records: u64,
+) -> usize {
     let mut p = at;
     let mut i: usize = 0;
     while i < 4096 {
@@ -77,19 +71,8 @@ fn mfu_lines(text: &mut [u8; 65536], at: usize, rows: &[u8], data: &[u8], record
     p
 }
 
-fn halt_number(h: Halt) -> u8 {
-    match h {
-        Halt::End => 0,
-        Halt::Short => 0,
-        Halt::Bad => 0,
-        Halt::Full => 10,
-        Halt::Refused(n) => n,
-    }
-}
-
-// Where no answer is left, pushes as many packets as the outputs have room for.
-fn push_more(
-    s: Stock,
+// Pushes a packet and writes what it gave.
+fn take_packet(
     state: &mut [u8; 13144],
     others: &mut [u64; 256],
     objects: &mut [u8; 2097152],
@@ -97,91 +80,29 @@ fn push_more(
     tables: &mut [u8; 1196032],
     rows: &mut [u8; 147456],
     data: &mut [u8; 262144],
-    lines: &mut [u8; 65536],
-    rest: &[u8],
-) -> Stock {
-    if s.left != 0 {
-        return s;
-    }
-    let a = decoder::push_all(
+    text: &mut [u8; 65536],
+    at: usize,
+    number: u64,
+    kind: u8,
+    packet: &[u8],
+) -> usize {
+    let a = decoder::push(
         state,
         others,
         objects,
         messages,
         tables,
-        rest,
-        MOST,
+        kind,
+        packet,
         rows,
         data,
-        lines,
     );
-    let x = a.progress;
-    let h = a.halt;
-    Stock {
-        left: x.packets as u64,
-        number: halt_number(h),
-        line: 0,
-        row: 0,
-        start: 0,
-    }
-}
-
-// The answer to the next packet; where none is left it is the one that was turned down.
-fn answer(lines: &[u8; 65536], s: Stock) -> Answer {
-    if s.left == 0 {
-        return Answer {
-            number: s.number,
-            records: 0,
-            bytes: 0,
-        };
-    }
-    let line = bytes::part(lines, s.line as usize, 16);
-    Answer {
-        number: 0,
-        records: bytes::get_u64(line, 0),
-        bytes: bytes::get_u64(line, 8),
-    }
-}
-
-// The bytes of so many rows, of which there are at most 4,096.
-fn row_bytes(records: u64) -> u64 {
-    if 4096 < records {
-        return 0;
-    }
-    records * 36
-}
-
-// What is left behind that packet.
-fn used(s: Stock, a: Answer) -> Stock {
-    if s.left == 0 {
-        return s;
-    }
-    Stock {
-        left: s.left - 1,
-        number: s.number,
-        line: std::num::wrapping_add_u64(s.line, 16),
-        row: std::num::wrapping_add_u64(s.row, row_bytes(a.records)),
-        start: std::num::wrapping_add_u64(s.start, a.bytes),
-    }
-}
-
-// The lines of a packet and of what it gave.
-fn packet_lines(
-    text: &mut [u8; 65536],
-    at: usize,
-    number: u64,
-    kind: u8,
-    length: usize,
-    a: Answer,
-    rows: &[u8],
-    data: &[u8],
-) -> usize {
     let p = make_room(text, at);
-    let q = dump_session::packet_line(text, p, number, kind, length as u64, a);
+    let q = dump_session::packet_line(text, p, number, kind, packet.len() as u64, a);
     mfu_lines(text, q, rows, data, a.records)
 }
 
-// Takes the packets of a window, and writes the lines of each.
+// Takes the packets of a window, one after the other.
 fn pass(
     state: &mut [u8; 13144],
     others: &mut [u64; 256],
@@ -190,7 +111,6 @@ fn pass(
     tables: &mut [u8; 1196032],
     rows: &mut [u8; 147456],
     data: &mut [u8; 262144],
-    lines: &mut [u8; 65536],
     text: &mut [u8; 65536],
     window: &[u8],
     packets: u64,
@@ -199,13 +119,6 @@ fn pass(
     let mut at: usize = 0;
     let mut n = packets;
     let mut p = place;
-    let mut s = Stock {
-        left: 0,
-        number: 0,
-        line: 0,
-        row: 0,
-        start: 0,
-    };
     while at < window.len() {
         match cut::cut_at(window, MOST, at) {
             Cut::Packet {
@@ -214,9 +127,8 @@ fn pass(
                 length,
                 next,
             } => {
-                let rest = bytes::rest(window, at);
-                s = push_more(
-                    s,
+                let packet = bytes::part(window, start, length);
+                p = take_packet(
                     state,
                     others,
                     objects,
@@ -224,14 +136,12 @@ fn pass(
                     tables,
                     rows,
                     data,
-                    lines,
-                    rest,
+                    text,
+                    p,
+                    n,
+                    kind,
+                    packet,
                 );
-                let a = answer(lines, s);
-                let given = bytes::rest(rows, s.row as usize);
-                let behind = bytes::rest(data, s.start as usize);
-                p = packet_lines(text, p, n, kind, length, a, given, behind);
-                s = used(s, a);
                 n = std::num::wrapping_add_u64(n, 1);
                 at = next;
             }
@@ -270,7 +180,6 @@ fn read_all(
     tables: &mut [u8; 1196032],
     rows: &mut [u8; 147456],
     data: &mut [u8; 262144],
-    lines: &mut [u8; 65536],
     text: &mut [u8; 65536],
     window: &mut [u8; 131072],
 ) -> usize {
@@ -293,7 +202,6 @@ fn read_all(
             tables,
             rows,
             data,
-            lines,
             text,
             w,
             packets,
@@ -345,7 +253,6 @@ fn main() {
     let mut tables = [0u8; 1196032];
     let mut rows = [0u8; 147456];
     let mut data = [0u8; 262144];
-    let mut lines = [0u8; 65536];
     let mut text = [0u8; 65536];
     let mut window = [0u8; 131072];
     open_session(&mut state, &mut others, &objects, &messages, &tables);
@@ -357,7 +264,6 @@ fn main() {
         &mut tables,
         &mut rows,
         &mut data,
-        &mut lines,
         &mut text,
         &mut window,
     );

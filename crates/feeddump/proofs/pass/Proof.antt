@@ -1,22 +1,18 @@
-use mathlib.Core.Path.{sym, _∙_}
-use native.Mathlib.Omega.{arith}
 use Prim.Native.Nat.{_-_}
 use lib.ListN.{length}
-use Rattle.isdb_tlv.proofs.Cutting.{packet-lies}
+use Rattle.isdb_tlv.proofs.Cutting.{packet-less}
 use borrow.Author.Needs.{needs}
 use Rattle.feeddump.proofs.pass.Statement.{statement}
 use Rattle.feeddump.proofs.pass.Tie as tie
 
 abbrev Inv-loop : tie.InvT-loop
-Inv-loop _ _ _ _ _ _ _ _ _ _ _ _ _ _ _ _ _ _ _ _ _ _ _ _ _ _ _ _ _ = Unit {0}
+Inv-loop _ _ _ _ _ _ _ _ _ _ _ _ _ _ _ _ _ _ _ _ _ _ _ _ _ = Unit {0}
 
 abbrev μ-loop : tie.MeasureT-loop
-μ-loop _ _ _ _ _ _ _ _ _ window _ _ _ _ _ _ _ _ _ _ _ _ _ _ _ at _ _ _ = length window - at
+μ-loop _ _ _ _ _ _ _ _ window _ _ _ _ _ _ _ _ _ _ _ _ _ at _ _ = length window - at
 
 loop-less : tie.Need-loop-less Inv-loop μ-loop
-loop-less c =
-    let l = packet-lies _ _ _ (sym (c .before .before .before .before .before .before .before .before .before .before .before .before .before .before .before .before .before .before .before .before .before .before .before .before .before .cut-at .ensures) ∙ (c .before .before .before .before .before .before .before .before .before .before .before .before .before .before .before .before .before .before .before .before .before .before .before .kind .given .1)) in
-    omega (arith, l .behind-header, l .behind-bytes, l .inside)
+loop-less c = search (needs, packet-less)
 
 pub pass-spec : {M : Type 1} → statement M
 pass-spec =
@@ -27,11 +23,6 @@ pass-spec =
     (λ c. search needs)
     (λ c κs. search needs)
     (λ c. search needs)
-    (λ c κs. search needs)
-    (λ c κs. search needs)
-    (λ c κs. search needs)
-    (λ c κs. search needs)
-    (λ c κs. search needs)
     (λ c κs. search needs)
     (λ c κs. search needs)
     (λ c κs. search needs)
