@@ -80,6 +80,10 @@ pub mod RoomTest
 pub mod Said
 pub mod Calls
 pub mod PushAll
+pub mod LeftAlone
+pub mod PlainTests
+pub mod PlainStores
+pub mod PlainPushes
 pub mod Useless
 pub mod Outs
 pub mod PlaceFits

@@ -13,6 +13,7 @@ use crate::decoder::layout::STATE_SIZE;
 use crate::decoder::limits::Lengths;
 use crate::decoder::limits::Limits;
 use crate::decoder::many::Pushes;
+use crate::decoder::plain::Plain;
 use crate::decoder::records::Answer;
 
 mod check;
@@ -30,6 +31,7 @@ pub mod many;
 mod media;
 mod messages;
 mod place;
+mod plain;
 mod push_control;
 mod push_media;
 mod push_message;
@@ -168,6 +170,97 @@ pub(crate) fn push_in(
     take::take(state, others, objects, messages, tables, kind, b, rows, out)
 }
 
+// The same for one of many: where question 5 is known to be answered yes, the packet that is met most is tried first. `push_in` and
+// `plain::push_plain` have two callers each, which keeps the compiler from laying all that any packet needs into the loop of `push_all`.
+pub(crate) fn push_tried(
+    state: &mut [u8],
+    others: &mut [u64],
+    objects: &mut [u8],
+    messages: &mut [u8],
+    tables: &mut [u8],
+    kind: u8,
+    b: &[u8],
+    rows: &mut [u8],
+    out: &mut [u8],
+    known: bool,
+) -> Answer
+    requires { ⌜ MayBeKnown known (lent (now state) (now others) (now objects) (now messages) (now tables)) ⌝ }
+    ensures { λ r. ⌜ Pushed (lent (now (state .entry)) (now (others .entry)) (now (objects .entry)) (now (messages .entry)) (now (tables .entry))) (input kind (now (b .entry)) (now (rows .entry)) (now (out .entry))) (r .number) (r .records) (r .bytes) (lent (now (state .exit)) (now (others .exit)) (now (objects .exit)) (now (messages .exit)) (now (tables .exit))) (now (rows .exit)) (now (out .exit)) ⌝ }
+{
+    if !known {
+        return push_in(
+            state,
+            others,
+            objects,
+            messages,
+            tables,
+            kind,
+            b,
+            rows,
+            out,
+            known,
+        );
+    }
+    place::octets(state);
+    place::octets(objects);
+    place::octets(messages);
+    place::octets(tables);
+    match plain::push_plain(state, others, objects, messages, tables, kind, b, rows, out) {
+        Plain::Yes(n) => records::accepted(1, n as u64),
+        Plain::No => push_in(
+            state,
+            others,
+            objects,
+            messages,
+            tables,
+            kind,
+            b,
+            rows,
+            out,
+            true,
+        ),
+    }
+}
+
+// The same where nothing is known: the packet that is met most is tried first.
+fn push_asked(
+    state: &mut [u8],
+    others: &mut [u64],
+    objects: &mut [u8],
+    messages: &mut [u8],
+    tables: &mut [u8],
+    kind: u8,
+    b: &[u8],
+    rows: &mut [u8],
+    out: &mut [u8],
+) -> Answer
+    requires { ⌜ length (now others) ≡ tableIds ⌝ }
+    ensures { λ r. ⌜ Pushed (lent (now (state .entry)) (now (others .entry)) (now (objects .entry)) (now (messages .entry)) (now (tables .entry))) (input kind (now (b .entry)) (now (rows .entry)) (now (out .entry))) (r .number) (r .records) (r .bytes) (lent (now (state .exit)) (now (others .exit)) (now (objects .exit)) (now (messages .exit)) (now (tables .exit))) (now (rows .exit)) (now (out .exit)) ⌝ }
+{
+    if !holds_session(state, others, objects, messages, tables, false) {
+        return records::refused(5);
+    }
+    place::octets(state);
+    place::octets(objects);
+    place::octets(messages);
+    place::octets(tables);
+    match plain::push_plain(state, others, objects, messages, tables, kind, b, rows, out) {
+        Plain::Yes(n) => records::accepted(1, n as u64),
+        Plain::No => push_in(
+            state,
+            others,
+            objects,
+            messages,
+            tables,
+            kind,
+            b,
+            rows,
+            out,
+            true,
+        ),
+    }
+}
+
 // Takes a packet of a kind byte and its data. It answers 0 and how many records and data bytes it handed out, or the number of the
 // first question that is answered no, with nothing changed and nothing handed out. Records are rows of 36 bytes one behind the
 // other from the start of `rows`, their data lie one behind the other from the start of `out`; bytes beyond stay.
@@ -184,18 +277,7 @@ pub fn push(
 ) -> Answer
     ensures { λ r. ⌜ Pushed (lent (now (state .entry)) (now (others .entry)) (now (objects .entry)) (now (messages .entry)) (now (tables .entry))) (input kind (now (b .entry)) (now (rows .entry)) (now (out .entry))) (r .number) (r .records) (r .bytes) (lent (now (state .exit)) (now (others .exit)) (now (objects .exit)) (now (messages .exit)) (now (tables .exit))) (now (rows .exit)) (now (out .exit)) ⌝ }
 {
-    push_in(
-        state,
-        others,
-        objects,
-        messages,
-        tables,
-        kind,
-        b,
-        rows,
-        out,
-        false,
-    )
+    push_asked(state, others, objects, messages, tables, kind, b, rows, out)
 }
 
 // Takes packets that lie one behind the other in the input (0x7F, kind, length, data), with at most so many data each, until the input

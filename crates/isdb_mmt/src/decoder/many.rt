@@ -109,7 +109,7 @@ fn push_behind(
     requires { ⌜ CanPushBehind known (lent (now state) (now others) (now objects) (now messages) (now tables)) first (now rows) start (now out) ⌝ }
     ensures { λ r. ⌜ PushedBehind (lent (now (state .entry)) (now (others .entry)) (now (objects .entry)) (now (messages .entry)) (now (tables .entry))) (input kind (now (b .entry)) (drop first (now (rows .entry))) (drop start (now (out .entry)))) first (now (rows .entry)) start (now (out .entry)) r (lent (now (state .exit)) (now (others .exit)) (now (objects .exit)) (now (messages .exit)) (now (tables .exit))) (now (rows .exit)) (now (out .exit)) ⌝ }
 {
-    decoder::push_in(
+    decoder::push_tried(
         state,
         others,
         objects,
