@@ -80,6 +80,7 @@ pub mod RoomTest
 pub mod Said
 pub mod Calls
 pub mod PushAll
+pub mod PushAllCalls
 pub mod Useless
 pub mod Outs
 pub mod PlaceFits
