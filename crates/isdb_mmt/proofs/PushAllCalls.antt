@@ -6,7 +6,7 @@ use mathlib.Core.List.{List, [], _∷_, _++_, append-assoc}
 use native.Mathlib.Omega.{arith}
 use lib.ListN.{length, take, drop, length-append, take-append-drop}
 use lib.Dec.{eqb, ltb}
-use lib.Seq.{length-take-le, take-append-add, drop-append-add}
+use lib.Seq.{length-take-le, take-append-add, drop-append-add, drop-append-seam, take-at, drop-at}
 use borrow.Author.Tests.{eqb-true, eq-eqb}
 use Rattle.isdb_tlv.specs.Cut.{TlvPacket, Recording, ends, item, cutAt, recordingFrom, recordingOf}
 use Rattle.isdb_tlv.specs.Walk.{run, turn}
@@ -18,20 +18,25 @@ use Rattle.isdb_mmt.specs.Decoder.Packet.{Bytes}
 use Rattle.isdb_mmt.specs.Decoder.Model.{gives}
 use Rattle.isdb_mmt.specs.Decoder.Needs.{dataOf, needs}
 use Rattle.isdb_mmt.specs.Memory.Session.{Session}
+use Rattle.isdb_mmt.specs.Decoder.Objects.{Rec}
+use Rattle.isdb_mmt.specs.Memory.Lent.{over}
 use Rattle.isdb_mmt.specs.Memory.View.{view}
 use Rattle.isdb_mmt.specs.Memory.Opening.{openedSession}
-use Rattle.isdb_mmt.specs.Memory.Octets.{Octets}
-use Rattle.isdb_mmt.specs.Pushes.Records.{rowSize, rowsFrom, dataFrom}
+use Rattle.isdb_mmt.specs.Memory.Octets.{Octets, Lent}
+use Rattle.isdb_mmt.specs.Pushes.Records.{rowSize, rowsFrom, dataFrom, readRows}
 use Rattle.isdb_mmt.specs.Pushes.Push.{Input, packetOf, asks, Reply, replyOf}
 use Rattle.isdb_mmt.specs.Pushes.PushAll.{lineSize, Run, Ran, ran, inputAt, onward, haltAt, pushedEach}
-use Rattle.isdb_mmt.specs.Theorems.Calls.{Call, push, read, after, pushes, accepted, AllBytes, decoder}
-use Rattle.isdb_mmt.specs.Theorems.PushAllCalls.{Batch, startOf, packetsIn, endOf, callsOver, callsOf, allRows, allData, allLines, recordCount, dataCount, refusals, refusal, PushAllIsPushes, AnyCall, one, many, afterAny, flat, AnyBytes, Demand3WithMany}
+use Rattle.isdb_mmt.specs.Theorems.Calls.{Call, push, read, after, pushes, accepted, handed, AllBytes, decoder}
+use Rattle.isdb_mmt.specs.Theorems.PushAllCalls.{Batch, startOf, packetsIn, endOf, callsOver, callsOf, allRows, allData, allLines, recordCount, dataCount, refusals, refusal, PushAllIsPushes, readEach, RecordsHanded, AnyCall, one, many, afterAny, flat, AnyBytes, Demand3WithMany}
 use Rattle.isdb_mmt.specs.declared.decoder.many.Halt.{Halt}
 use Rattle.isdb_mmt.specs.declared.decoder.many.Halt.the-variants.{Full, Refused}
 use Rattle.isdb_mmt.proofs.Brief.{octets-take, octets-drop}
 use Rattle.isdb_mmt.proofs.Lent.{length-over}
 use Rattle.isdb_mmt.proofs.RecordRows.{length-rows, length-data}
-use Rattle.isdb_mmt.proofs.SoundStays.{leaves-same}
+use Rattle.isdb_mmt.proofs.SoundStays.{leaves-taken, leaves-same}
+use Rattle.isdb_mmt.proofs.Checks.{sound-session}
+use Rattle.isdb_mmt.proofs.SoundFits.{rows-read}
+use Rattle.isdb_mmt.proofs.Accepted.{push-lent}
 use Rattle.isdb_mmt.proofs.PacketLeaves.{taken}
 use Rattle.isdb_mmt.proofs.Calls.{reply-number, demand-3}
 
@@ -234,6 +239,67 @@ calls-bytes c (p ∷ ps) o =
     either (eqb (asks (c .session) (inputAt c p)) 0)
     (λ t. rw (f, t) (o .0, calls-bytes (onward c p (replyOf (c .session) (inputAt c p))) ps (o .1)))
     (λ n. rw (f, n) (o .0, tt)))
+
+-- ---- the records are read back off the buffers that the call leaves
+
+-- a write to the start, before the same bytes and any others
+over-own : (a r : Bytes) → over 0 a (a ++ r) ≡ a ++ r
+unfolding over
+over-own a r = ap (λ (z : Bytes). a ++ z) (drop-append-seam a r)
+
+take-own : (a l : Bytes) (n : ℕ) → length a ≡ n → take n (over 0 a l) ≡ a
+unfolding over
+take-own a l n e = take-at a (drop (length a) l) n e
+
+module _ (s : Session) (h : Lent s) (x : Input) (o : Octets (x .bytes)) (e : asks s x ≡ 0) (r q : Bytes) where
+  reads-front :
+      readRows (replyOf s x .records) (take (rowSize * replyOf s x .records) (replyOf s x .rows) ++ r) (take (replyOf s x .bytes) (replyOf s x .out) ++ q)
+      ≡ readRows (replyOf s x .records) (replyOf s x .rows) (replyOf s x .out)
+  unfolding replyOf needs
+  reads-front =
+      let rs = gives (view s) (packetOf x) in
+      let a = rowsFrom 0 rs in
+      let d = dataFrom rs in
+      let t = taken s x e in
+      let back = rows-read s (sound-session s (t .session)) h (x .kind) (x .bytes) (t .short) o (t .fits .object) in
+      let ea = take-own a (x .rows) (rowSize * length rs) (length-rows 0 rs) in
+      let ed = take-own d (x .out) (dataOf rs) (length-data rs) in
+      rw (eq-eqb (asks s x) 0 e)
+      ((λ i. readRows (length rs) (ea i ++ r) (ed i ++ q)) ∙ (λ i. readRows (length rs) (sym (over-own a r) i) (sym (over-own d q) i))
+      ∙ back (a ++ r) (d ++ q) ∙ sym (back (x .rows) (x .out)))
+
+each-read : (c : Run) (ps : List TlvPacket) → Lent (c .session) → EachBytes ps → (r q : Bytes)
+    → readEach (allRows r (pushes decoder (c .session) (callsOver c ps))) (allData q (pushes decoder (c .session) (callsOver c ps)))
+    (pushes decoder (c .session) (callsOver c ps))
+    ≡ handed (pushes decoder (c .session) (callsOver c ps))
+unfolding callsOver pushes allRows allData readEach handed
+each-read c [] h o r q = refl
+each-read c (p ∷ ps) h o r q =
+    let s = c .session in
+    let x = inputAt c p in
+    either (ltb (length (c .lines)) (lineSize * c .progress .packets + lineSize)) (λ t. rw t)
+    (λ f.
+    either (eqb (asks s x) 0)
+    (λ t.
+    let z = eqb-true (asks s x) 0 t in
+    let y = replyOf s x in
+    let c′ = onward c p y in
+    let es = pushes decoder (c′ .session) (callsOver c′ ps) in
+    let w = reply-within s x z in
+    let l : Lent (c′ .session) = rw (leaves-taken s x t) (push-lent s h x (o .0) z) in
+    let r′ = allRows (drop (rowSize * y .records) (y .rows)) es in
+    let q′ = allData (drop (y .bytes) (y .out)) es in
+    let er = drop-at (take (rowSize * y .records) (y .rows)) r′ (rowSize * y .records) (length-take-le (rowSize * y .records) (y .rows) (w .0)) in
+    let eq = drop-at (take (y .bytes) (y .out)) q′ (y .bytes) (length-take-le (y .bytes) (y .out) (w .1)) in
+    rw (f, t)
+    ((λ i. reads-front s h x (o .0) z r′ q′ i ++ readEach (er i) (eq i) es)
+    ∙ ap (λ (v : List Rec). readRows (y .records) (y .rows) (y .out) ++ v) (each-read c′ ps l (o .1) (drop (rowSize * y .records) (y .rows)) (drop (y .bytes) (y .out)))))
+    (λ n. rw (f, n, refused-reply c p n)))
+
+pub records-handed : RecordsHanded
+records-handed s b h o a s′ rows′ out′ lines′ q =
+    let w = push-all-is-pushes s b a s′ rows′ out′ lines′ q in
+    rw (w .rowsAre, w .dataAre) (each-read (startOf s b) (packetsIn b) h (recording-bytes (b .input) (b .most) o) (b .rows) (b .out))
 
 -- ---- lists of calls of every sort
 

@@ -7,15 +7,16 @@ use Rattle.isdb_tlv.specs.Guards.{if_then_else_, _<?_, _=?_}
 use Rattle.isdb_tlv.specs.Fields.{puts}
 use Rattle.isdb_tlv.specs.Cut.{TlvPacket, recordingOf}
 use Rattle.isdb_mmt.specs.Decoder.Packet.{Bytes}
+use Rattle.isdb_mmt.specs.Decoder.Objects.{Rec}
 use Rattle.isdb_mmt.specs.Memory.Limits.{asked}
 use Rattle.isdb_mmt.specs.Memory.Session.{Session}
 use Rattle.isdb_mmt.specs.Memory.Check.{lengthsOf}
 use Rattle.isdb_mmt.specs.Memory.Opening.{openedSession}
 use Rattle.isdb_mmt.specs.Memory.Octets.{Octets, Lent}
-use Rattle.isdb_mmt.specs.Pushes.Records.{rowSize}
+use Rattle.isdb_mmt.specs.Pushes.Records.{rowSize, readRows}
 use Rattle.isdb_mmt.specs.Pushes.Push.{Input, asks, Reply, replyOf}
 use Rattle.isdb_mmt.specs.Pushes.PushAll.{lineSize, lineFields, Run, runOf, nothingTaken, inputAt, onward, Ran, pushedEach, AllPushed}
-use Rattle.isdb_mmt.specs.Theorems.Calls.{Call, push, after, pushes, accepted, AllBytes, decoder, After}
+use Rattle.isdb_mmt.specs.Theorems.Calls.{Call, push, after, pushes, accepted, handed, AllBytes, decoder, After}
 use Rattle.isdb_mmt.specs.declared.decoder.limits.Limits.{Limits}
 use Rattle.isdb_mmt.specs.declared.decoder.many.Pushes.{Pushes}
 use Rattle.isdb_mmt.specs.declared.decoder.many.Halt.{Halt}
@@ -105,6 +106,17 @@ abbrev pub PushAllIsPushes : Type 0
 PushAllIsPushes = (s : Session) (b : Batch) (a : Pushes) (s′ : Session) (rows′ out′ lines′ : Bytes)
     → AllPushed s (b .input) (b .most) (b .rows) (b .out) (b .lines) a s′ rows′ out′ lines′
     → PushesGive s b (callsOf s b) (pushes decoder s (callsOf s b)) a s′ rows′ out′ lines′
+
+-- what is read off the rows and data that it leaves: of each packet its records, behind those of the packets before it
+unfoldable pub readEach : Bytes → Bytes → List (Input × Reply) → List Rec
+readEach rows out [] = []
+readEach rows out (e ∷ es) = readRows (e .1 .records) rows out ++ readEach (drop (rowSize * e .1 .records) rows) (drop (e .1 .bytes) out) es
+
+-- they are the records of which demand 3 speaks
+abbrev pub RecordsHanded : Type 0
+RecordsHanded = (s : Session) (b : Batch) → Lent s → Octets (b .input) → (a : Pushes) (s′ : Session) (rows′ out′ lines′ : Bytes)
+    → AllPushed s (b .input) (b .most) (b .rows) (b .out) (b .lines) a s′ rows′ out′ lines′
+    → readEach rows′ out′ (pushes decoder s (callsOf s b)) ≡ handed (pushes decoder s (callsOf s b))
 
 -- ---- calls of every sort
 
