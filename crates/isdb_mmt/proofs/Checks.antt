@@ -67,29 +67,28 @@ module _ (f : ℕ → Bool) (n i at : ℕ) (p : List ℕ) (y : Bool) (inv : y �
   unfolding every countsFrom
   stored-end h = let e : n - i ≡ 0 = omega arith in sym (inv ∙ rw e)
 
--- the high half of a count decides, but for 2^53
+-- the high half of a count decides, but for 2^53, and none is above the sum of some
 module _ (p : List ℕ) (bytes : (k : ℕ) → Fits w8 (getD p k 0)) where
-  high-fits : (at : ℕ) → be 4 p at * 4294967296 < mostCount → countFits (be 8 p at) ≡ true
+  high-fits : (at : ℕ) → be 4 p at < 2097152 → countFits (be 8 p at) ≡ true
   high-fits at h = le-leb (be 8 p at) mostCount (omega (arith, be-add 4 4 at p, be-lt p bytes 4 (at + 4)))
 
-  module _ (n i at bits : ℕ) (y : Bool) (inv : bits * 4294967296 < mostCount → y ≡ every countFits (countsFrom (n - i) at p)) where
+  module _ (n i at sum : ℕ) (y : Bool) (inv : sum < 2097152 → y ≡ every countFits (countsFrom (n - i) at p)) where
     pub high-next :
         i < n
         → (v : ℕ)
         → v ≡ be 4 p at
-        → bitOr bits v * 4294967296 < mostCount
+        → sum + v < 2097152
         → y ≡ every countFits (countsFrom (n - (i + 1)) (at + 8) p)
     high-next h v ev e =
-        let o = or-low bits v in
         stored-fits countFits n i at p y (inv (omega arith)) h (be 8 p at) true refl (sym (high-fits at (rw (← ev) (omega arith)))) refl
 
 pub high-end :
-    (p : List ℕ) (n i at bits : ℕ) (y : Bool)
-    → (bits * 4294967296 < mostCount → y ≡ every countFits (countsFrom (n - i) at p))
+    (p : List ℕ) (n i at sum : ℕ) (y : Bool)
+    → (sum < 2097152 → y ≡ every countFits (countsFrom (n - i) at p))
     → n ≤ i
-    → bits * 4294967296 < mostCount
+    → sum < 2097152
     → y ≡ true
-high-end p n i at bits y inv h e = sym (stored-end countFits n i at p y (inv e) h)
+high-end p n i at sum y inv h e = sym (stored-end countFits n i at p y (inv e) h)
 
 -- a media place: its length, and its counts
 module _ (l : Limits) (p : List ℕ) (h r : Bool) (n : ℕ) (eh : h ≡ flag p heldPlace) (en : n ≡ be 4 p (objectPlace + 25))
@@ -285,8 +284,8 @@ module _ (l : List ℕ) (i bits : ℕ) (y : Bool) (inv : bits ≤ mostCount → 
       let o = or-low bits (getD l i 0) in
       count-fits countFits l i y (inv (omega arith)) h true (sym (le-leb (getD l i 0) mostCount (omega arith))) refl
 
-  pub all-low : length l ≤ i → bits ≤ mostCount → y ≡ true
-  all-low h e = sym (counts-end countFits l i y (inv e) h)
+  pub all-low : (n : ℕ) → length l ≡ n → n ≤ i → bits ≤ mostCount → y ≡ true
+  all-low n d h e = sym (counts-end countFits l i y (inv e) (omega arith))
 
 -- ---- and back: what an answer yes says
 

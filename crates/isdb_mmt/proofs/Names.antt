@@ -165,7 +165,7 @@ not-one zero h f = refl
 not-one (suc zero) h f = absurd (f refl)
 not-one (suc (suc n)) h f = absurd (omega arith)
 
--- the mark of a cell: a bit of one of 512 words
+-- the mark of a cell: a bit of one of some words
 abbrev markIn : List ℕ → ℕ → ℕ
 markIn marks c = getD marks (c / 64) 0 / 2 ^ (c % 64) % 2
 
@@ -195,9 +195,9 @@ module _ (marks : List ℕ) (c : ℕ) (h : c / 64 < length marks) where
       (λ y. eqb-false (z / 64) (c / 64) q (ap (λ n. n / 64) y), rw o at e))
 
 -- the marks of some names, none of which stands twice: each has its cell marked
-pub record Marked (names marks : List ℕ) : Type 0 where
-  pub long : length marks ≡ 512
-  pub covers : (x : ℕ) → among x names ≡ true → markIn marks (cellOf x) ≡ 0 → ⊥
+pub record Marked (cell : ℕ → ℕ) (words : ℕ) (names marks : List ℕ) : Type 0 where
+  pub long : length marks ≡ words
+  pub covers : (x : ℕ) → among x names ≡ true → markIn marks (cell x) ≡ 0 → ⊥
   pub apart : distinct names ≡ true
 
 -- the name behind `i` others
@@ -213,26 +213,15 @@ module _ (n : ℕ) (l : List ℕ) (size at i x p : ℕ) (ep : p ≡ at + i * siz
   pub apart-next : among x (namesFrom i size at l) ≡ false → distinct (namesFrom i size at l) ≡ true → distinct (namesFrom (i + 1) size at l) ≡ true
   apart-next a d = rw (add-one i, names-snoc l size i at, ← ep, ← ex) (distinct-snoc x (namesFrom i size at l) d a)
 
-  module _ (b : Bool) (eb : b ≡ among x (namesFrom i size at l)) where
-    pub pair-twice : i < n → b ≡ true → false ≡ distinct (namesFrom n size at l)
-    pair-twice h t = found-twice h (sym eb ∙ t)
-
-    pub pair-next : b ≡ false → distinct (namesFrom i size at l) ≡ true → distinct (namesFrom (i + 1) size at l) ≡ true
-    pair-next t d = apart-next (sym eb ∙ t) d
-
-pub none-apart : (l : List ℕ) (size at : ℕ) → distinct (namesFrom 0 size at l) ≡ true
-unfolding namesFrom distinct
-none-apart l size at = refl
-
 pub all-pairs : (l : List ℕ) (size n at i : ℕ) → distinct (namesFrom i size at l) ≡ true → i ≤ n → n ≤ i → true ≡ distinct (namesFrom n size at l)
 all-pairs l size n at i d h m = let e : n ≡ i = omega arith in rw e (sym d)
 
-module _ (l : List ℕ) (size n at i : ℕ) where
-  pub none-marked : (marks : List ℕ) → i ≡ 0 → length marks ≡ 512 → Marked (namesFrom i size at l) marks
+module _ (cell : ℕ → ℕ) (words : ℕ) (l : List ℕ) (size n at i : ℕ) where
+  pub none-marked : (marks : List ℕ) → i ≡ 0 → length marks ≡ words → Marked cell words (namesFrom i size at l) marks
   unfolding namesFrom among distinct
   none-marked marks e h = rw e (record { long = h; covers = λ x a. true-not-false false a refl; apart = refl })
 
-  module _ (marks : List ℕ) (k : Marked (namesFrom i size at l) marks) (x p : ℕ) (ep : p ≡ at + i * size) (ex : x ≡ be 4 l p) (c : ℕ) (ec : c ≡ cellOf x) (b : Bool) (eb : b ≡ amongMarked (markIn marks c) x (namesFrom i size at l)) where
+  module _ (marks : List ℕ) (k : Marked cell words (namesFrom i size at l) marks) (x p : ℕ) (ep : p ≡ at + i * size) (ex : x ≡ be 4 l p) (c : ℕ) (ec : c ≡ cell x) (b : Bool) (eb : b ≡ amongMarked (markIn marks c) x (namesFrom i size at l)) where
     pub located-twice : i < n → b ≡ true → false ≡ distinct (namesFrom n size at l)
     located-twice h t =
         found-twice n l size at i x p ep ex h
@@ -244,8 +233,8 @@ module _ (l : List ℕ) (size n at i : ℕ) where
         (λ a. true-not-false true refl (rw (eb, ne-eqb (markIn marks c) 0 (rw ec (k .covers x a)), a) at t))
         (λ o. o)
 
-    pub mark-next : b ≡ false → c < 32768 → (w : ℕ) → w ≡ withBit (getD marks (c / 64) 0) (c % 64 % 64)
-        → Marked (namesFrom (i + 1) size at l) (set marks (c / 64) w)
+    pub mark-next : b ≡ false → c < words * 64 → (w : ℕ) → w ≡ withBit (getD marks (c / 64) 0) (c % 64 % 64)
+        → Marked cell words (namesFrom (i + 1) size at l) (set marks (c / 64) w)
     mark-next t lc w ew =
         let h : c / 64 < length marks = omega (arith, k .long) in
         let r : c % 64 % 64 ≡ c % 64 = omega arith in
@@ -256,11 +245,42 @@ module _ (l : List ℕ) (size n at i : ℕ) where
           long = length-set marks (c / 64) (withBit (getD marks (c / 64) 0) (c % 64)) ∙ k .long;
           covers =
               λ z a e.
-              let m = marked marks c h (cellOf z) e in
-              ⊎-elim (λ y. k .covers z y (m .1)) (λ y. m .0 (ap cellOf (sym y) ∙ sym ec))
+              let m = marked marks c h (cell z) e in
+              ⊎-elim (λ y. k .covers z y (m .1)) (λ y. m .0 (ap cell (sym y) ∙ sym ec))
               (among-snoc z x (namesFrom i size at l) (rw s at a));
           apart = d;
         })
 
-pub all-apart : (l : List ℕ) (size n at i : ℕ) (marks : List ℕ) → Marked (namesFrom i size at l) marks → i ≤ n → n ≤ i → true ≡ distinct (namesFrom n size at l)
-all-apart l size n at i marks k h m = all-pairs l size n at i (k .apart) h m
+pub all-apart : (cell : ℕ → ℕ) (words : ℕ) (l : List ℕ) (size n at i : ℕ) (marks : List ℕ) → Marked cell words (namesFrom i size at l) marks → i ≤ n → n ≤ i
+    → true ≡ distinct (namesFrom n size at l)
+all-apart cell words l size n at i marks k h m = all-pairs l size n at i (k .apart) h m
+
+-- marks in one word
+abbrev pub fewCell : ℕ → ℕ
+fewCell x = cellOf x % 64
+
+module _ (l : List ℕ) (size n at i w : ℕ) (k : Marked fewCell 1 (namesFrom i size at l) (w ∷ [])) (x p : ℕ) (ep : p ≡ at + i * size) (ex : x ≡ be 4 l p) (c : ℕ)
+    (ec : c ≡ cellOf x) (b : Bool) (eb : b ≡ amongMarked (w / 2 ^ (c % 64) % 2) x (namesFrom i size at l)) where
+  first : c % 64 / 64 ≡ 0
+  first = omega arith
+
+  own : c % 64 % 64 ≡ c % 64
+  own = omega arith
+
+  in-word : b ≡ amongMarked (markIn (w ∷ []) (c % 64)) x (namesFrom i size at l)
+  in-word = rw (first, own) eb
+
+  pub few-twice : i < n → b ≡ true → false ≡ distinct (namesFrom n size at l)
+  few-twice = located-twice fewCell 1 l size n at i (w ∷ []) k x p ep ex (c % 64) (ap (λ m. m % 64) ec) b in-word
+
+  pub few-next : b ≡ false → (v : ℕ) → v ≡ withBit w (c % 64 % 64) → Marked fewCell 1 (namesFrom (i + 1) size at l) (v ∷ [])
+  few-next t v ev =
+      rw first at
+      (mark-next fewCell 1 l size n at i (w ∷ []) k x p ep ex (c % 64) (ap (λ m. m % 64) ec) b in-word t (omega arith) v (rw (first, own) ev))
+
+-- fewer than two names
+pub short-apart : (l : List ℕ) (size n at : ℕ) → n < 2 → true ≡ distinct (namesFrom n size at l)
+unfolding namesFrom among distinct
+short-apart l size zero at h = refl
+short-apart l size (suc zero) at h = refl
+short-apart l size (suc (suc n)) at h = absurd (omega arith)

@@ -1,3 +1,4 @@
 pub mod Calls
 pub mod Room
 pub mod Useless
+pub mod PushAllCalls

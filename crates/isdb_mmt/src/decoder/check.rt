@@ -5,7 +5,7 @@ ghost use mathlib.Core.List.{map};
 ghost use Prim.Native.Nat.{_+_, _*_, _≤_, _<_};
 ghost use lib.ListN.{length};
 ghost use Rattle.isdb_tlv.specs.Guards.{if_then_else_, _<?_};
-ghost use Rattle.isdb_mmt.specs.Memory.Layout.{mostMediaIds, mostControlIds, mostSections, mostCount, mediaPlaces, mediaSize, controlPlaces, controlSize, sectionPlaces, sectionSize, stateSize};
+ghost use Rattle.isdb_mmt.specs.Memory.Layout.{tableIds, mostMediaIds, mostControlIds, mostSections, mostCount, mediaPlaces, mediaSize, controlPlaces, controlSize, sectionPlaces, sectionSize, stateSize};
 ghost use Rattle.isdb_mmt.specs.Memory.Lent.{placesFrom, every};
 ghost use Rattle.isdb_mmt.specs.Memory.Session.{limitsOf, usedOf, mediaPlaceOf, controlPlaceOf, sectionPlaceOf};
 ghost use Rattle.isdb_mmt.specs.Memory.Check.{atMost, countFits, countsFrom, lengthFits, mediaSound, controlSound, sectionSound, usedSound, latestSound, headSound, placesSound, namesSound, soundIn, PlacesThere};
@@ -36,20 +36,21 @@ fn length_fits(there: bool, n: u32, area: u64) -> bool
     true
 }
 
-// The high halves or'ed of n counts that lie one behind the other from at on.
-fn high_halves(p: &[u8], at: usize, n: usize) -> u32
-    requires { ⌜ at + n * 8 ≤ length (now p) ⌝ }
-    ensures { λ r. ⌜ (r * 4294967296 < mostCount → every countFits (countsFrom n at (now (p .entry))) ≡ true) ⌝ }
+// The sum of the high halves of n counts that lie one behind the other from at on. Of halves that are or'ed instead, the compiler reads each
+// byte by itself.
+fn high_halves(p: &[u8], at: usize, n: usize) -> u64
+    requires { ⌜ (n ≤ 12) × (at + n * 8 ≤ length (now p)) ⌝ }
+    ensures { λ r. ⌜ (r < 2097152 → every countFits (countsFrom n at (now (p .entry))) ≡ true) ⌝ }
 {
-    let mut bits = 0u32;
+    let mut sum = 0u64;
     let mut i = 0;
     let mut q = at;
     while i < n {
-        bits = bits | place::word(p, q);
+        sum += place::word(p, q) as u64;
         q += 8;
         i += 1;
     }
-    bits
+    sum
 }
 
 pub(crate) fn each_count_fits(p: &[u8], at: usize, n: usize, most: u64) -> bool
@@ -68,24 +69,25 @@ pub(crate) fn each_count_fits(p: &[u8], at: usize, n: usize, most: u64) -> bool
     true
 }
 
-// No count is above all of them or'ed, so one test is enough for counts below 2^53.
+// No high half is above their sum, so one test is enough for counts below 2^53: 2^21 times 2^32.
 fn counts_fit(p: &[u8], at: usize, n: usize) -> bool
-    requires { ⌜ at + n * 8 ≤ length (now p) ⌝ }
+    requires { ⌜ (n ≤ 12) × (at + n * 8 ≤ length (now p)) ⌝ }
     ensures { λ r. ⌜ r ≡ every countFits (countsFrom n at (now (p .entry))) ⌝ }
 {
-    if high_halves(p, at, n) as u64 * 4294967296 < layout::MOST_COUNT {
+    if high_halves(p, at, n) < 2097152 {
         return true;
     }
     each_count_fits(p, at, n, layout::MOST_COUNT)
 }
 
-// No branch in the loop, so that it runs on several counts at once.
+// No branch in the loop, and so many turns always, so that it runs on many counts at once.
 fn all_bits(others: &[u64]) -> u64
+    requires { ⌜ length (now others) ≡ tableIds ⌝ }
     ensures { λ r. ⌜ (r ≤ mostCount → every countFits (now (others .entry)) ≡ true) ⌝ }
 {
     let mut bits = 0u64;
     let mut i = 0;
-    while i < others.len() {
+    while i < 256 {
         bits = bits | others[i];
         i += 1;
     }
@@ -108,8 +110,10 @@ pub(crate) fn each_fits(others: &[u64], most: u64) -> bool
 fn others_fit(others: &[u64]) -> bool
     ensures { λ r. ⌜ r ≡ every countFits (now (others .entry)) ⌝ }
 {
-    if all_bits(others) <= layout::MOST_COUNT {
-        return true;
+    if others.len() == 256 {
+        if all_bits(others) <= layout::MOST_COUNT {
+            return true;
+        }
     }
     each_fits(others, layout::MOST_COUNT)
 }
@@ -226,7 +230,7 @@ fn head_fits(h: &[u8], l: Limits, u: Used, others: &[u64], lent: Lengths) -> boo
     if !used_fit(l, u) {
         return false;
     }
-    if !latest_fits(l, head::load_latest(h)) {
+    if !latest_fits(l, head::latest_there(h)) {
         return false;
     }
     if !counts_fit(h, layout::COUNTERS, 12) {
@@ -285,8 +289,8 @@ pub(crate) fn ready(s: &[u8], others: &[u64], lent: Lengths) -> bool
         return false;
     }
     let h = &s[..layout::MEDIA_PLACES];
-    let l = head::load_limits(h);
-    let u = head::load_used(h);
+    let l = head::limits_there(h);
+    let u = head::used_there(h);
     if !head_fits(h, l, u, others, lent) {
         return false;
     }

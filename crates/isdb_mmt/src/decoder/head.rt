@@ -5,7 +5,7 @@ ghost use Prim.Native.Nat.{_≤_};
 ghost use lib.ListN.{length};
 ghost use Rattle.isdb_tlv.specs.Fields.{written};
 ghost use Rattle.isdb_mmt.specs.Memory.Lent.{over};
-ghost use Rattle.isdb_mmt.specs.Memory.Layout.{usedPlace, latestPlace, timePlace, countersPlace, stateSize};
+ghost use Rattle.isdb_mmt.specs.Memory.Layout.{usedPlace, latestPlace, timePlace, countersPlace, mediaPlaces, stateSize};
 ghost use Rattle.isdb_mmt.specs.Memory.Session.{limitsOf, limitsFields, usedOf, usedFields, latestOf, latestFields, timeOf, timeFields, countersFields};
 use crate::decoder::counts;
 use crate::decoder::counts::Counters;
@@ -14,6 +14,8 @@ use crate::decoder::layout::TIME;
 use crate::decoder::layout::USED;
 use crate::decoder::limits::Limits;
 use crate::decoder::place::flag;
+use crate::decoder::place::long;
+use crate::decoder::place::word;
 use isdb_tlv::bytes;
 
 // How many places of each sort are in use. They are taken in order.
@@ -48,6 +50,23 @@ pub(crate) fn load_limits(s: &[u8]) -> Limits
         message_area: bytes::get_u64(s, 32),
         table_area: bytes::get_u64(s, 40),
         packets: bytes::get_u64(s, 48),
+        pass_scrambled: flag(s, 56),
+    }
+}
+
+// The same of a head that is there, read without a test of each place: question 5 is asked at every call.
+pub(crate) fn limits_there(s: &[u8]) -> Limits
+    requires { ⌜ length (now s) ≡ mediaPlaces ⌝ }
+    ensures { λ r. ⌜ r ≡ limitsOf (now (s .entry)) ⌝ }
+{
+    Limits {
+        media_ids: long(s, 0),
+        control_ids: long(s, 8),
+        sections: long(s, 16),
+        mfu_area: long(s, 24),
+        message_area: long(s, 32),
+        table_area: long(s, 40),
+        packets: long(s, 48),
         pass_scrambled: flag(s, 56),
     }
 }
@@ -102,6 +121,18 @@ pub(crate) fn load_used(s: &[u8]) -> Used
     }
 }
 
+// The same of a head that is there.
+pub(crate) fn used_there(s: &[u8]) -> Used
+    requires { ⌜ length (now s) ≡ mediaPlaces ⌝ }
+    ensures { λ r. ⌜ r ≡ usedOf (now (s .entry)) ⌝ }
+{
+    Used {
+        media_ids: word(s, USED),
+        control_ids: word(s, USED + 4),
+        sections: word(s, USED + 8),
+    }
+}
+
 // The same for a media packet, which uses one of them.
 pub(crate) fn media_used(s: &[u8]) -> Used
     ensures { λ r. ⌜ r ≡ usedOf (now (s .entry)) ⌝ }
@@ -136,6 +167,19 @@ pub(crate) fn load_latest(s: &[u8]) -> Latest
         plt_length: bytes::get_u32(s, LATEST + 1),
         tot: flag(s, LATEST + 5),
         tot_length: bytes::get_u32(s, LATEST + 6),
+    }
+}
+
+// The same of a head that is there.
+pub(crate) fn latest_there(s: &[u8]) -> Latest
+    requires { ⌜ length (now s) ≡ mediaPlaces ⌝ }
+    ensures { λ r. ⌜ r ≡ latestOf (now (s .entry)) ⌝ }
+{
+    Latest {
+        plt: flag(s, LATEST),
+        plt_length: word(s, LATEST + 1),
+        tot: flag(s, LATEST + 5),
+        tot_length: word(s, LATEST + 6),
     }
 }
 

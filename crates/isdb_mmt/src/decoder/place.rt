@@ -82,6 +82,23 @@ pub(crate) fn word(s: &[u8], p: usize) -> u32
     bytes::get_u32(&s[p..end], 0)
 }
 
+fn wide(x: u8) -> u64
+    ensures { λ r. ⌜ (r ≡ x) × (r < 256) ⌝ }
+{
+    x as u64
+}
+
+// The number in 8 bytes that are there: a balanced sum, which the compiler makes one load of wherever it stands.
+pub(crate) fn long(s: &[u8], p: usize) -> u64
+    requires { ⌜ p + 8 ≤ length (now s) ⌝ }
+    ensures { λ r. ⌜ r ≡ be 8 (now (s .entry)) p ⌝ }
+{
+    ((wide(s[p]) * 72057594037927936 + wide(s[p + 1]) * 281474976710656)
+        + (wide(s[p + 2]) * 1099511627776 + wide(s[p + 3]) * 4294967296))
+        + ((wide(s[p + 4]) * 16777216 + wide(s[p + 5]) * 65536)
+            + (wide(s[p + 6]) * 256 + wide(s[p + 7])))
+}
+
 // Whether x is one of n names.
 fn has_name(s: &[u8], at: usize, size: usize, n: usize, x: u32) -> bool
     requires { ⌜ (4 ≤ size) × (at + n * size ≤ length (now s)) ⌝ }
@@ -142,30 +159,37 @@ fn marked_apart(s: &[u8], at: usize, size: usize, n: usize) -> bool
     no_name_twice(s, at, size, n, &mut marks)
 }
 
-// Each name compared with all earlier ones.
-fn pairs_apart(s: &[u8], at: usize, size: usize, n: usize) -> bool
+// The same of a few names, with 64 marks in one number.
+fn few_apart(s: &[u8], at: usize, size: usize, n: usize) -> bool
     requires { ⌜ (4 ≤ size) × (at + n * size ≤ length (now s)) ⌝ }
     ensures { λ r. ⌜ r ≡ distinct (namesFrom n size at (now (s .entry))) ⌝ }
 {
+    let mut marks = 0u64;
     let mut i = 0;
     let mut p = at;
     while i < n {
-        if has_name(s, at, size, i, word(s, p)) {
+        let x = word(s, p);
+        let b = (cell(x) % 64) as u8;
+        if is_among(s, at, size, i, x, (marks >> b) % 2) {
             return false;
         }
+        marks = bytes::with_bit(marks, b);
         p += size;
         i += 1;
     }
     true
 }
 
-// Whether no name stands twice. A few names are compared before marks would be cleared.
+// Whether no name stands twice. For a few names no 512 words of marks are cleared.
 pub(crate) fn names_apart(s: &[u8], at: usize, size: usize, n: usize) -> bool
     requires { ⌜ (4 ≤ size) × (at + n * size ≤ length (now s)) ⌝ }
     ensures { λ r. ⌜ r ≡ distinct (namesFrom n size at (now (s .entry))) ⌝ }
 {
-    if n <= 12 {
-        return pairs_apart(s, at, size, n);
+    if n < 2 {
+        return true;
+    }
+    if n <= 16 {
+        return few_apart(s, at, size, n);
     }
     marked_apart(s, at, size, n)
 }

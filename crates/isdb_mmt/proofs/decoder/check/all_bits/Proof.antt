@@ -22,7 +22,7 @@ loop-again : tie.Need-loop-again Inv-loop μ-loop
 loop-again c = search (needs, low-bits)
 
 returns : tie.Need-returns Inv-loop μ-loop
-returns c = search (needs, all-low)
+returns c = all-low _ _ _ _ (c .before .loop .inv) _ (c .before .before .pre) (c .loop-test .left)
 
 pub all-bits-spec : {M : Type 1} → statement M
 all-bits-spec =

@@ -9,4 +9,4 @@ returns c = sym (c .before .high-halves .ensures (c .if1 .taken))
 pub counts-fit-spec : {M : Type 1} → statement M
 counts-fit-spec =
     tie.close
-    (tie.spec (λ c κs. search needs) (λ c. search needs) (λ c. search needs) returns (λ c κs. search needs) (λ c. search needs))
+    (tie.spec (λ c κs. search needs) returns (λ c κs. search needs) (λ c. search needs))

@@ -12,6 +12,12 @@ returns c = search (needs, too-short)
 slice-aggregate-h : tie.Need-slice-aggregate-h
 slice-aggregate-h c = sym (length-take-le mediaPlaces (c .before .before .before .before .args .s .now) (search needs))
 
+limits-there-requires : tie.Need-limits-there-requires
+limits-there-requires c κs = search (needs, front-length)
+
+used-there-requires : tie.Need-used-there-requires
+used-there-requires c κs = search (needs, front-length)
+
 head-fits-requires : tie.Need-head-fits-requires
 head-fits-requires c κs = (search (needs, front-length), (search needs, search needs))
 
@@ -36,8 +42,8 @@ ready-spec =
     (tie.spec
     returns
     slice-aggregate-h
-    (λ c κs. search needs)
-    (λ c κs. search needs)
+    limits-there-requires
+    used-there-requires
     head-fits-requires
     returns-2
     places-fit-requires
