@@ -19,3 +19,4 @@ pub mod MediaCommit
 pub mod FragmentPush
 pub mod WholeMessage
 pub mod PushAll
+pub mod PushAllSteps
