@@ -1,20 +1,23 @@
--- Units of an MPU payload, messages of a control payload, tables of a message.
+-- Units of an MPU payload, messages of a control payload, tables of a message; flags, and what may be absent.
 use Prim.Native.Nat.{ℕ}
 use mathlib.Core.Path.{_≡_, refl}
 use mathlib.Core.Bool.{true, false}
 use mathlib.Core.List.{_++_}
-use lib.ListN.{replicate}
-use Rattle.isdb_tlv.specs.Fields.{bytesOf}
+use lib.ListN.{getD, replicate}
+use Rattle.isdb_tlv.specs.Fields.{bytesOf, written}
 use Rattle.isdb_tlv.specs.Bytes.{be}
 use Rattle.isdb_mmt.specs.Formats.Part.{partAt}
-use Rattle.isdb_mmt.specs.Formats.Mpu.{fragmentCode, fragmentType, indicatorCode, indicator, completesOf, payloadHeader, declaredOf, unitIn, unitAt, unitStep, unitsFrom, unitsOf, counted, follows, lostFrom}
+use Rattle.isdb_mmt.specs.Formats.Maybe.{flagOf, givenU16, numberU16, hasU32, givenU32, numberU32}
+use Rattle.isdb_mmt.specs.Formats.Mpu.{fragmentCode, fragmentType, indicatorCode, indicator, completesOf, payloadHeader, declaredOf, hasHeader, headerOr, unitIn, unitAt, unitStep, unitsFrom, unitsOf, counted, follows, lostFrom}
 use Rattle.isdb_mmt.specs.Formats.Message.{divisionOf, fragmentOf, aggregatedAt, paTables, contentOf, tableAt}
+use Rattle.isdb_mmt.specs.Pushes.Records.{heldFields}
+use Rattle.isdb_mmt.specs.declared.maybe.MaybeU16.the-variants.{Some as someU16}
 use Rattle.isdb_mmt.specs.declared.maybe.MaybeU32.the-variants.{Some as someU32}
 use Rattle.isdb_mmt.specs.declared.mpu.FragmentType.the-variants.{Mfu, Reserved}
 use Rattle.isdb_mmt.specs.declared.mpu.FragmentationIndicator.the-variants.{Complete, Head, Middle, Last}
 use Rattle.isdb_mmt.specs.declared.mpu.PayloadHeader.{PayloadHeader}
 use Rattle.isdb_mmt.specs.declared.mpu.MaybeHeader.the-variants.{Some}
-use Rattle.isdb_mmt.specs.declared.mpu.MaybeMfu.the-variants.{None as noMfu}
+use Rattle.isdb_mmt.specs.declared.mpu.MaybeMfu.the-variants.{None as noMfu, Some as someMfu}
 use Rattle.isdb_mmt.specs.declared.mpu.UnitStep.the-variants.{Unit as unit}
 use Rattle.isdb_mmt.specs.declared.mpu.UnitCount.the-variants.{Malformed as notWhole}
 use Rattle.isdb_mmt.specs.declared.message.Division.the-variants.{Last as last}
@@ -57,6 +60,72 @@ completes-last = refl
 -- wrong: false => true (a unit begins and so ends)
 pub completes-head : completesOf Head ≡ false
 completes-head = refl
+
+-- maybe::flag
+-- wrong: 1 => 0 (no)
+-- wrong: 1 => 255 (every bit)
+pub flag-yes : flagOf true ≡ 1
+flag-yes = refl
+
+-- maybe::number_at: behind the end of a list
+-- wrong: 0 => 9 (the last one)
+-- wrong: 0 => 7 (from the front again)
+pub number-behind : getD (bytesOf 2 0x0709) 2 0 ≡ 0
+unfolding bytesOf
+number-behind = refl
+
+-- MaybeU16::given
+-- wrong: 1 => 0 (0 taken for absent)
+pub u16-given : givenU16 (someU16 0) ≡ 1
+u16-given = refl
+
+-- MaybeU16::or_zero
+-- wrong: 7 => 1 (whether it is there)
+-- wrong: 7 => 0 (none)
+pub u16-number : numberU16 (someU16 7) ≡ 7
+u16-number = refl
+
+-- MaybeU32::is_some
+-- wrong: true => false (0 taken for absent)
+pub u32-is-some : hasU32 (someU32 0) ≡ true
+u32-is-some = refl
+
+-- MaybeU32::given
+-- wrong: 1 => 0 (0 taken for absent)
+pub u32-given : givenU32 (someU32 0) ≡ 1
+u32-given = refl
+
+-- MaybeU32::or_zero
+-- wrong: 7 => 1 (whether it is there)
+-- wrong: 7 => 0 (none)
+pub u32-number : numberU32 (someU32 7) ≡ 7
+u32-number = refl
+
+-- MaybeMfu::is_some
+-- wrong: false => true (a header of zeros)
+pub header-absent : hasHeader noMfu ≡ false
+header-absent = refl
+
+-- MaybeMfu::or_zero
+-- wrong: 8 => 9 (the next field's)
+-- wrong: 8 => 0 (none)
+pub header-there :
+    headerOr
+    (someMfu (record { «movie_fragment_sequence_number» = 5; «sample_number» = 6; offset = 7; priority = 8; «dependency_counter» = 9 }))
+    .priority
+    ≡ 8
+header-there = refl
+
+-- records::held_row: an item that begins with a random access point
+-- wrong: 0x0102090000000003 => 0x0102010000000003 (no item id said)
+-- wrong: 0x0000000500000000 => 0x0000000000000000 (no item id)
+pub held-row :
+    written
+    (heldFields 0x0102
+    (record { «mpu_sequence_number» = 3; rap = true; mfu = noMfu; «item_id» = someU32 5; bytes = partAt 64 2 }))
+    ≡ bytesOf 8 0x0102090000000003 ++ (replicate 16 0 ++ (bytesOf 8 0x0000000500000000 ++ bytesOf 4 2))
+unfolding bytesOf
+held-row = refl
 
 -- a whole unit of untimed data, of the MPU `n`
 abbrev header : ℕ → PayloadHeader

@@ -17,11 +17,11 @@ use Rattle.isdb_tlv.specs.declared.cut.Cut.{Cut}
 use Rattle.isdb_tlv.specs.declared.cut.Cut.the-variants.{Packet, End as endHere, Short as shortHere, Bad as badHere}
 use Rattle.isdb_tlv.proofs.Guards.{either}
 use Rattle.isdb_tlv.proofs.Cutting.{recording-at, packet-lies, moved, cut-drop, end-behind, end-bad, end-short, end-clean, end-here, over-end}
+use Rattle.isdb_mmt.specs.Formats.Part.{countOfUsize}
 use Rattle.isdb_mmt.specs.Decoder.Packet.{Bytes}
 use Rattle.isdb_mmt.specs.Memory.Session.{Session}
 use Rattle.isdb_mmt.specs.Pushes.Push.{asks, replyOf}
-use Rattle.isdb_mmt.specs.Pushes.PushAll.{lineSize, nothingTaken, Run, runOf, inputAt, onward, Ran, ran, haltAt, pushedEach, AllPushed}
-use Rattle.isdb_mmt.specs.declared.decoder.many.Progress.{Progress}
+use Rattle.isdb_mmt.specs.Pushes.PushAll.{lineSize, nothingTaken, Run, runOf, inputAt, afterPacket, Ran, ran, haltAt, pushedEach, AllPushed}
 use Rattle.isdb_mmt.specs.declared.decoder.many.Pushes.{Pushes}
 use Rattle.isdb_mmt.specs.declared.decoder.many.Halt.{Halt}
 use Rattle.isdb_mmt.specs.declared.decoder.many.Halt.the-variants.{End, Short, Bad as badHalt, Full, Refused as refusedHalt}
@@ -115,7 +115,7 @@ module _ (w : Bytes) (base most : ℕ) where
       (λ t. rw t (stays c Full tt))
       (λ t. either (asks (c .session) (inputAt c p) =? 0)
       (λ z.
-      let go = reached ps (onward c p y) (rw here (ap tailOf f)) (cutAt input most (at + 4 + length (p .bytes))) refl in
+      let go = reached ps (afterPacket c p y) (rw here (ap tailOf f)) (cutAt input most (at + 4 + length (p .bytes))) refl in
       rw (t, z)
       (record {
         ahead = omega (arith, go .ahead);
@@ -132,11 +132,11 @@ pass-start w = refl
 
 -- what is known before each call: the place is inside, and the packets in front of it are whole
 pub record Passing (w : Bytes) (at : ℕ) : Type 0 where
-  pub long : length w < 18446744073709551616
+  pub long : length w < countOfUsize
   pub inside : at ≤ length w
   pub end : recordingOf w mostBytes .end ≡ recordingFrom w mostBytes at .end
 
-pub passing-first : (w : Bytes) → length w < 18446744073709551616 → Passing w 0
+pub passing-first : (w : Bytes) → length w < countOfUsize → Passing w 0
 passing-first w l = record { long = l; inside = omega arith; end = pass-start w }
 
 module _ (w : Bytes) (at : ℕ) (h : Passing w at) (b : Bytes) (eb : b ≡ drop at w) (s : Session) (rows out lines : Bytes) (a : Pushes) (s′ : Session) (rows′ out′ lines′ : Bytes)

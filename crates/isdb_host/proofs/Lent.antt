@@ -10,17 +10,11 @@ use Rattle.isdb_mmt.specs.Memory.Session.{Session}
 use Rattle.isdb_mmt.specs.Memory.Opening.{Opened}
 use Rattle.isdb_mmt.specs.Pushes.Push.{Input, Pushed}
 use Rattle.isdb_mmt.specs.Pushes.PushAll.{AllPushed}
-use Rattle.isdb_mmt.specs.Pushes.Records.{noHeader, headerOr}
 use Rattle.isdb_mmt.specs.declared.decoder.limits.Limits.{Limits}
 use Rattle.isdb_mmt.specs.declared.decoder.many.Pushes.{Pushes}
-use Rattle.isdb_mmt.specs.declared.mpu.MaybeMfu.{MaybeMfu}
-use Rattle.isdb_mmt.specs.declared.mpu.MaybeMfu.the-variants.{None as noMfu}
 use Rattle.isdb_host.specs.Values.{says, codeOf, Replied}
 use Rattle.isdb_host.specs.Session.{pushSaid, HostPushed, haltCode, haltNumber, allSaid, HostPushedAll}
 use Rattle.isdb_host.proofs.Numbers.{replied-as}
-
-pub header-absent : (m : MaybeMfu) → m ≡ noMfu → noHeader ≡ headerOr m
-header-absent m e = rw e
 
 -- an opening with limits by their equal
 pub opened-as : {l k : Limits} {s s′ : Session} {r : ℕ} → Opened l s r s′ → k ≡ l → Opened k s r s′

@@ -36,7 +36,8 @@ use Rattle.isdb_mmt.specs.declared.timestamp.AccessUnit.{AccessUnit}
 use Rattle.isdb_mmt.specs.declared.timestamp.AccessUnitStep.{AccessUnitStep}
 use Rattle.isdb_mmt.specs.declared.timestamp.AccessUnitStep.the-variants.{End as noUnit, Unit as oneUnit}
 use Rattle.isdb_host.specs.Values.{Reply, says, nothing, malformed}
-use Rattle.isdb_host.specs.Fields.{flagOf, givenU16, numberU16, givenU32, numberU32, addressHigh, addressLow}
+use Rattle.isdb_mmt.specs.Formats.Maybe.{flagOf, givenU16, numberU16, givenU32, numberU32}
+use Rattle.isdb_host.specs.Fields.{addressHigh, addressLow}
 use Rattle.isdb_host.specs.Tables.{placed}
 
 -- ---- locations

@@ -1,12 +1,5 @@
 -- Fields as numbers.
 use Prim.Native.Nat.{ℕ}
-use mathlib.Core.Bool.{Bool, true, false}
-use Rattle.isdb_mmt.specs.declared.maybe.MaybeU16.{MaybeU16}
-use Rattle.isdb_mmt.specs.declared.maybe.MaybeU16.the-variants.{None as noU16, Some as someU16}
-use Rattle.isdb_mmt.specs.declared.maybe.MaybeU32.{MaybeU32}
-use Rattle.isdb_mmt.specs.declared.maybe.MaybeU32.the-variants.{None as noU32, Some as someU32}
-use Rattle.isdb_mmt.specs.declared.mpu.MaybeMfu.{MaybeMfu}
-use Rattle.isdb_mmt.specs.declared.mpu.MaybeMfu.the-variants.{None as noMfu, Some as someMfu}
 use Rattle.isdb_mmt.specs.declared.decoder.readings.MaybeRange.{MaybeRange}
 use Rattle.isdb_mmt.specs.declared.decoder.readings.MaybeRange.the-variants.{None as noRange, Some as someRange}
 use Rattle.isdb_mmt.specs.declared.table.section.SectionError.{SectionError}
@@ -14,31 +7,6 @@ use Rattle.isdb_mmt.specs.declared.table.section.SectionError.the-variants.{Tru
 use Rattle.isdb_tlv.specs.declared.ip.Address.{Address}
 use Rattle.isdb_tlv.specs.declared.ip.Address.the-variants.{V4, V6}
 use Rattle.isdb_host.specs.Values.{codeOf, malformed, truncated, badCrc}
-
-abbrev pub flagOf : Bool → ℕ
-flagOf false = 0
-flagOf true = 1
-
--- whether a number is there, and the number, 0 where it is not
-abbrev pub givenU16 : MaybeU16 → ℕ
-givenU16 noU16 = 0
-givenU16 (someU16 x) = 1
-
-abbrev pub numberU16 : MaybeU16 → ℕ
-numberU16 noU16 = 0
-numberU16 (someU16 x) = x
-
-abbrev pub givenU32 : MaybeU32 → ℕ
-givenU32 noU32 = 0
-givenU32 (someU32 x) = 1
-
-abbrev pub numberU32 : MaybeU32 → ℕ
-numberU32 noU32 = 0
-numberU32 (someU32 x) = x
-
-abbrev pub givenHeader : MaybeMfu → ℕ
-givenHeader noMfu = 0
-givenHeader (someMfu h) = 1
 
 -- MPU numbers: whether there are any, the first and the last
 abbrev pub givenRange : MaybeRange → ℕ

@@ -8,7 +8,7 @@ use Rattle.isdb_mmt.specs.Decoder.Packet.{Bytes}
 use Rattle.isdb_mmt.specs.Memory.Session.{Session}
 use Rattle.isdb_mmt.specs.Pushes.Push.{Input, Pushed}
 use Rattle.isdb_mmt.specs.Pushes.PushAll.{AllPushed}
-use Rattle.isdb_mmt.specs.Pushes.Records.{headerOr}
+use Rattle.isdb_mmt.specs.Formats.Mpu.{hasHeader, headerOr}
 use Rattle.isdb_mmt.specs.declared.decoder.many.Pushes.{Pushes}
 use Rattle.isdb_mmt.specs.declared.decoder.many.Halt.{Halt}
 use Rattle.isdb_mmt.specs.declared.decoder.many.Halt.the-variants.{End, Short, Bad, Full, Refused}
@@ -38,7 +38,8 @@ use Rattle.isdb_mmt.specs.declared.decoder.readings.CarriedAsset.{CarriedAsset}
 use Rattle.isdb_mmt.specs.declared.decoder.readings.AssetReading.{AssetReading}
 use Rattle.isdb_mmt.specs.declared.decoder.readings.AssetReading.the-variants.{Refused as assetRefused, Nothing as noAsset, Asset as theAsset}
 use Rattle.isdb_host.specs.Values.{Reply, says, code, nothing, noId, Replied}
-use Rattle.isdb_host.specs.Fields.{flagOf, givenU16, numberU16, givenU32, numberU32, givenHeader, givenRange, firstMpu, lastMpu}
+use Rattle.isdb_mmt.specs.Formats.Maybe.{flagOf, givenU16, numberU16, givenU32, numberU32}
+use Rattle.isdb_host.specs.Fields.{givenRange, firstMpu, lastMpu}
 
 -- the limits that eight numbers say; scrambled payloads are passed on where the last is not 0
 unfoldable pub limitsFrom : List ℕ → Limits
@@ -176,7 +177,7 @@ abbrev pub heldNumbers : HeldObject → List ℕ
 heldNumbers o =
     o .«mpu_sequence_number»
     ∷ flagOf (o .rap)
-    ∷ givenHeader (o .mfu)
+    ∷ flagOf (hasHeader (o .mfu))
     ∷ headerOr (o .mfu) .«movie_fragment_sequence_number»
     ∷ headerOr (o .mfu) .«sample_number»
     ∷ headerOr (o .mfu) .offset

@@ -44,7 +44,8 @@ use Rattle.isdb_mmt.specs.declared.table.tot.TotResult.{TotResult}
 use Rattle.isdb_mmt.specs.declared.table.tot.TotResult.the-variants.{Ok as okTot, Err as noTot}
 use Rattle.isdb_mmt.specs.declared.table.tot.TotParsed.{TotParsed}
 use Rattle.isdb_host.specs.Values.{Reply, says, code, nothing, malformed}
-use Rattle.isdb_host.specs.Fields.{flagOf, givenU16, numberU16, wideAddress, addressHigh, addressLow, reasonOf}
+use Rattle.isdb_mmt.specs.Formats.Maybe.{flagOf, givenU16, numberU16}
+use Rattle.isdb_host.specs.Fields.{wideAddress, addressHigh, addressLow, reasonOf}
 
 -- a part by its place: start and length
 abbrev pub placed : Part → List ℕ → List ℕ

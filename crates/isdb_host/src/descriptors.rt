@@ -23,6 +23,7 @@ use isdb_mmt::desc::Step;
 use isdb_mmt::location::Located;
 use isdb_mmt::location::Location;
 use isdb_mmt::location::MaybeLocation;
+use isdb_mmt::maybe;
 use isdb_mmt::maybe::MaybeU16;
 use isdb_mmt::maybe::MaybeU32;
 use isdb_mmt::maybe::MaybeU64;
@@ -253,11 +254,11 @@ fn says_extended(v: &mut [u64], e: Extended) -> u8
     let offset = e.default_pts_offset;
     let numbers = [
         2,
-        fields::given_u32(timescale),
-        fields::number_u32(timescale),
-        fields::given_u16(offset),
-        fields::number_u16(offset),
-        fields::flag(e.own_pts_offset),
+        timescale.given(),
+        timescale.or_zero() as u64,
+        offset.given(),
+        offset.or_zero() as u64,
+        maybe::flag(e.own_pts_offset),
         e.start as u64,
     ];
     values::says(v, &numbers)
@@ -337,7 +338,7 @@ fn decode_said(r: Descriptor, v: &mut [u64]) -> u8
             profile_idc: p,
             tier: t,
             level_idc: l,
-        } => values::says(v, &[10, p as u64, fields::flag(t), l as u64]),
+        } => values::says(v, &[10, p as u64, maybe::flag(t), l as u64]),
         Descriptor::BroadcasterName(p) => values::says(v, &[11, p.start as u64, p.length as u64]),
     }
 }
@@ -419,8 +420,8 @@ fn says_access_unit(v: &mut [u64], u: AccessUnit, next: usize) -> u8
     let offset = u.pts_offset;
     let numbers = [
         u.dts_pts_offset as u64,
-        fields::given_u16(offset),
-        fields::number_u16(offset),
+        offset.given(),
+        offset.or_zero() as u64,
         next as u64,
     ];
     values::says(v, &numbers)

@@ -32,6 +32,7 @@ use isdb_mmt::decoder::readings::NameReading;
 use isdb_mmt::decoder::readings::TableReading;
 use isdb_mmt::decoder::readings::TimeReading;
 use isdb_mmt::decoder::records::Answer;
+use isdb_mmt::maybe;
 
 // Eight numbers in the order of the limits.
 fn limits_from(x: &[u64; 8]) -> Limits
@@ -387,10 +388,10 @@ fn media_told(m: MediaState, v: &mut [u64]) -> u8
         fields::given_range(range),
         fields::first_mpu(range),
         fields::last_mpu(range),
-        fields::given_u32(sequence),
-        fields::number_u32(sequence),
-        fields::given_u32(held),
-        fields::number_u32(held),
+        sequence.given(),
+        sequence.or_zero() as u64,
+        held.given(),
+        held.or_zero() as u64,
     ];
     values::says(v, &x)
 }
@@ -428,20 +429,20 @@ fn held_told(o: HeldObject, v: &mut [u64]) -> u8
     ensures { λ q. ⌜ Replied (Reply.says (heldNumbers o)) q (now (v .entry)) (now (v .exit)) ⌝ }
 {
     let mfu = o.mfu;
-    let h = fields::header_or(mfu);
+    let h = mfu.or_zero();
     let item = o.item_id;
     let p = o.bytes;
     let x = [
         o.mpu_sequence_number as u64,
-        fields::flag(o.rap),
-        fields::given_header(mfu),
+        maybe::flag(o.rap),
+        maybe::flag(mfu.is_some()),
         h.movie_fragment_sequence_number as u64,
         h.sample_number as u64,
         h.offset as u64,
         h.priority as u64,
         h.dependency_counter as u64,
-        fields::given_u32(item),
-        fields::number_u32(item),
+        item.given(),
+        item.or_zero() as u64,
         p.start as u64,
         p.length as u64,
     ];
@@ -484,10 +485,10 @@ fn control_told(c: ControlState, v: &mut [u64]) -> u8
     let sequence = c.sequence;
     let joined = c.joined;
     let x = [
-        fields::given_u32(sequence),
-        fields::number_u32(sequence),
-        fields::given_u32(joined),
-        fields::number_u32(joined),
+        sequence.given(),
+        sequence.or_zero() as u64,
+        joined.given(),
+        joined.or_zero() as u64,
     ];
     values::says(v, &x)
 }
@@ -610,14 +611,14 @@ fn asset_told(x: CarriedAsset, v: &mut [u64]) -> u8
         x.control_id as u64,
         m.start as u64,
         m.length as u64,
-        fields::given_u16(service),
-        fields::number_u16(service),
+        service.given(),
+        service.or_zero() as u64,
         a.identifier_type as u64,
         a.asset_id_scheme as u64,
         id.start as u64,
         id.length as u64,
         a.asset_type as u64,
-        fields::flag(a.clock_relation),
+        maybe::flag(a.clock_relation),
         a.locations as u64,
         a.locations_start as u64,
         d.start as u64,

@@ -14,6 +14,7 @@ ghost use Rattle.isdb_host.specs.Tables.{headed, mptSaid, assetSaid, plt
 ghost use Rattle.isdb_host.specs.Tables.{eventSaid, serviceSaid, broadcasterSaid, streamSaid, flowSaid};
 use crate::fields;
 use crate::values;
+use isdb_mmt::maybe;
 use isdb_mmt::table::amt;
 use isdb_mmt::table::amt::AmtResult;
 use isdb_mmt::table::amt::AmtStep;
@@ -68,8 +69,8 @@ fn mpt_said(r: MptParsed, t: &[u8], v: &mut [u64]) -> u8
                     d.length as u64,
                     m.assets as u64,
                     m.start as u64,
-                    fields::given_u16(service),
-                    fields::number_u16(service),
+                    service.given(),
+                    service.or_zero() as u64,
                     r.breaks as u64,
                 ],
             )
@@ -104,13 +105,13 @@ fn asset_said(r: AssetStep, t: &[u8], v: &mut [u64]) -> u8
                     id.start as u64,
                     id.length as u64,
                     a.asset_type as u64,
-                    fields::flag(a.clock_relation),
+                    maybe::flag(a.clock_relation),
                     a.locations as u64,
                     a.locations_start as u64,
                     d.start as u64,
                     d.length as u64,
-                    fields::given_u16(packet_id),
-                    fields::number_u16(packet_id),
+                    packet_id.given(),
+                    packet_id.or_zero() as u64,
                     next as u64,
                 ],
             )
@@ -224,19 +225,19 @@ fn says_section(v: &mut [u64], h: SectionHeader, more: &[u64]) -> u8
         h.table_id as u64,
         h.extension as u64,
         h.version as u64,
-        fields::flag(h.current),
+        maybe::flag(h.current),
         h.section_number as u64,
         h.last_section_number as u64,
         body.start as u64,
         body.length as u64,
-        values::number(more, 0),
-        values::number(more, 1),
-        values::number(more, 2),
-        values::number(more, 3),
-        values::number(more, 4),
-        values::number(more, 5),
-        values::number(more, 6),
-        values::number(more, 7),
+        maybe::number_at(more, 0),
+        maybe::number_at(more, 1),
+        maybe::number_at(more, 2),
+        maybe::number_at(more, 3),
+        maybe::number_at(more, 4),
+        maybe::number_at(more, 5),
+        maybe::number_at(more, 6),
+        maybe::number_at(more, 7),
     ];
     values::says(v, &numbers)
 }
@@ -317,7 +318,7 @@ fn bit_said(r: BitParsed, v: &mut [u64]) -> u8
                 v,
                 h,
                 &[
-                    fields::flag(t.broadcast_view_propriety),
+                    maybe::flag(t.broadcast_view_propriety),
                     d.start as u64,
                     d.length as u64,
                     t.broadcasters as u64,
@@ -431,7 +432,7 @@ fn event_said(r: EventStep, v: &mut [u64]) -> u8
                     x.start,
                     x.duration as u64,
                     x.running_status as u64,
-                    fields::flag(x.free_ca),
+                    maybe::flag(x.free_ca),
                     d.start as u64,
                     d.length as u64,
                     next as u64,
@@ -464,10 +465,10 @@ fn service_said(r: SdtStep, v: &mut [u64]) -> u8
                 &[
                     x.service_id as u64,
                     x.eit_user_defined_flags as u64,
-                    fields::flag(x.eit_schedule),
-                    fields::flag(x.eit_present_following),
+                    maybe::flag(x.eit_schedule),
+                    maybe::flag(x.eit_present_following),
                     x.running_status as u64,
-                    fields::flag(x.free_ca),
+                    maybe::flag(x.free_ca),
                     d.start as u64,
                     d.length as u64,
                     next as u64,

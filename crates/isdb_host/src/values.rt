@@ -1,8 +1,9 @@
 // The sixteen numbers of an answer.
 ghost use mathlib.Core.Path.{_≡_};
-ghost use lib.ListN.{length, getD};
+ghost use lib.ListN.{length};
 ghost use Rattle.isdb_host.specs.Values.{Replied};
 ghost use Rattle.isdb_host.specs.Values.{Reply};
+use isdb_mmt::maybe::number_at;
 
 // Codes of a call that found nothing, and of one that was given an id which is not there.
 pub(crate) const NOTHING: u8 = 20;
@@ -16,16 +17,6 @@ pub(crate) const TRUNCATED: u8 = 23;
 
 pub(crate) const BAD_CRC: u8 = 24;
 
-// The number at i; one that is not there counts as 0.
-pub(crate) fn number(values: &[u64], i: usize) -> u64
-    ensures { λ r. ⌜ r ≡ getD (now (values .entry)) i 0 ⌝ }
-{
-    if i < values.len() {
-        return values[i];
-    }
-    0
-}
-
 // Answers these numbers.
 pub(crate) fn says(v: &mut [u64], values: &[u64]) -> u8
     requires { ⌜ length (now v) ≡ 16 ⌝ }
@@ -33,7 +24,7 @@ pub(crate) fn says(v: &mut [u64], values: &[u64]) -> u8
 {
     let mut i = 0;
     while i < v.len() {
-        v[i] = number(values, i);
+        v[i] = number_at(values, i);
         i += 1;
     }
     0

@@ -9,37 +9,61 @@ use mir.Val.{Fits}
 use mir.Syntax.{w32, w64}
 use lib.ListN.{length}
 use borrow.Rule.Slice.PartMut.{putMid}
-use Rattle.isdb_tlv.specs.Fields.{written}
+use Rattle.isdb_tlv.specs.Bytes.{putBe}
+use Rattle.isdb_tlv.specs.Fields.{puts, fourFields, written}
+use Rattle.isdb_mmt.specs.Formats.Maybe.{hasU32, numberU32}
 use Rattle.isdb_mmt.specs.Formats.Part.{partOf}
 use Rattle.isdb_mmt.specs.Decoder.Packet.{Bytes, MpuPacket, payloadUnit}
 use Rattle.isdb_mmt.specs.Decoder.Maps.{isSome}
 use Rattle.isdb_tlv.specs.Walk.{also}
-use Rattle.isdb_mmt.specs.Formats.Mpu.{unitStep, unitsFrom, unitsOf}
+use Rattle.isdb_mmt.specs.Formats.Mpu.{hasHeader, headerOr, unitStep, unitsFrom, unitsOf}
 use Rattle.isdb_mmt.specs.Decoder.Objects.{Rec, Asset, mpuNumber, effectOf, unitEffect, afterUnit, objectOf, deliveredBy, tagged}
 use Rattle.isdb_mmt.specs.Decoder.Needs.{dataOf}
-use Rattle.isdb_mmt.specs.Memory.Lent.{over}
-use Rattle.isdb_mmt.specs.Pushes.Records.{rowFields, rowOf, rowsFrom, dataFrom}
+use Rattle.isdb_mmt.specs.Memory.Lent.{over, flagByte}
+use Rattle.isdb_mmt.specs.Pushes.Records.{rowSize, recordFlags, recordFields, rowFlags, rowFields, heldFields, rowOf, rowsFrom, dataFrom}
 use Rattle.isdb_mmt.specs.Pushes.MediaEffect.{unitObject}
 use Rattle.isdb_mmt.specs.Pushes.MediaCommit.{OneFits, OnePut}
 use Rattle.isdb_mmt.specs.Pushes.Giving.{unitRec, unitRecs, Outputs, Gave}
 use Rattle.isdb_mmt.specs.declared.mpu.FragmentationIndicator.the-variants.{Complete}
+use Rattle.isdb_mmt.specs.declared.mpu.MfuHeader.{MfuHeader}
 use Rattle.isdb_mmt.specs.declared.mpu.PayloadHeader.{PayloadHeader}
 use Rattle.isdb_mmt.specs.declared.mpu.Unit.{Unit as DataUnit}
 use Rattle.isdb_mmt.specs.declared.mpu.UnitStep.{UnitStep}
 use Rattle.isdb_mmt.specs.declared.mpu.UnitStep.the-variants.{End, Malformed as notWhole, Unit as found}
 use Rattle.isdb_mmt.specs.declared.decoder.media.Object.{Object}
+use Rattle.isdb_mmt.specs.declared.decoder.readings.HeldObject.{HeldObject}
 use Rattle.isdb_mmt.proofs.Lent.{length-over, over-next, over-none}
 use Rattle.isdb_mmt.proofs.Names.{true-not-false}
 use Rattle.isdb_mmt.proofs.Units.{units-at, units-also, whole-behind}
-use Rattle.isdb_mmt.proofs.Stored.{sent}
+use Rattle.isdb_mmt.proofs.Stored.{flag-le, filled, sent}
 use Rattle.isdb_mmt.proofs.RecordRows.{length-row, length-rows, length-data}
 use Rattle.isdb_mmt.proofs.MediaEffects.{data-ahead}
 
 -- ---- a row
 
-pub row-sent : (id start : ℕ) (scrambled : Bool) (o : Object) (at : ℕ) (l m : List ℕ) → m ≡ written (rowFields id scrambled o start)
+pub flag-most : (b : Bool) {x : ℕ} → x ≡ flagByte b → x ≤ 1
+flag-most b e = rw e (flag-le b)
+
+module _ (id flags mpu : ℕ) (h : MfuHeader) (item start n : ℕ) (p a b c d : List ℕ) (long : length p ≡ rowSize)
+    (ea : a ≡ puts 0 (fourFields 0x2114 id flags 0 mpu) p)
+    (eb : b ≡ puts 8 (fourFields 0x4441 (h .«movie_fragment_sequence_number») (h .«sample_number») (h .offset) (h .priority)) a)
+    (ec : c ≡ puts 21 (fourFields 0x1244 (h .«dependency_counter») 0 item start) b) (ed : d ≡ puts 32 (fourFields 0x4000 n 0 0 0) c) where
+  last-put : d ≡ putBe 4 32 n c
+  unfolding putBe
+  last-put = ed
+
+  pub fields-put : d ≡ written (recordFields id flags mpu h item start n)
+  fields-put = filled (recordFields id flags mpu h item start n) p long (rw (last-put, ec, eb, ea) refl)
+
+pub row-sent : (id start flags : ℕ) (scrambled : Bool) (o : Object) (at : ℕ) (l m : List ℕ) → flags ≡ rowFlags scrambled o
+    → m ≡ written (recordFields id flags (o .«mpu_sequence_number») (o .header) (o .«item_id») start (o .length))
     → putMid at (at + 36 - at) l m ≡ over at (written (rowFields id scrambled o start)) l
-row-sent id start scrambled o at l m e = sent (rowFields id scrambled o start) at l e
+row-sent id start flags scrambled o at l m f e = sent (rowFields id scrambled o start) at l (rw f at e)
+
+pub held-put : (id : ℕ) (o : HeldObject) (timed item : Bool) (flags : ℕ) (h : MfuHeader) (i : ℕ) (m : List ℕ) → timed ≡ hasHeader (o .mfu)
+    → item ≡ hasU32 (o .«item_id») → flags ≡ recordFlags (o .rap) false timed item → h ≡ headerOr (o .mfu) → i ≡ numberU32 (o .«item_id»)
+    → m ≡ written (recordFields id flags (o .«mpu_sequence_number») h i 0 (o .bytes .length)) → m ≡ written (heldFields id o)
+held-put id o timed item flags h i m et ei ef eh en e = e ∙ rw (ef, et, ei, eh, en) refl
 
 -- ---- one record, its data in two pieces
 

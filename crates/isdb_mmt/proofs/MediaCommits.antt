@@ -23,7 +23,8 @@ use Rattle.isdb_mmt.specs.Decoder.Objects.{Mfu, Asset, Rec, grown, mpuNu
 use Rattle.isdb_mmt.specs.Decoder.Needs.{heldLength, unitsNeed}
 use Rattle.isdb_mmt.specs.Memory.Lent.{part, over}
 use Rattle.isdb_mmt.specs.Memory.View.{given, mfuOf, assetOfPlace}
-use Rattle.isdb_mmt.specs.Pushes.Records.{noHeader, objectFor, rowSize, rowFields, rowOf, rowsFrom, dataFrom}
+use Rattle.isdb_mmt.specs.Formats.Mpu.{noHeader}
+use Rattle.isdb_mmt.specs.Pushes.Records.{objectFor, rowSize, rowFields, rowOf, rowsFrom, dataFrom}
 use Rattle.isdb_mmt.specs.Pushes.MediaPush.{noObject, heldFor, heldOver}
 use Rattle.isdb_mmt.specs.Pushes.MediaEffect.{unitObject, withLength, withEachUnit, unitsEffect}
 use Rattle.isdb_mmt.specs.Pushes.MediaPlace.{gapIn, normalObject, begun, startOf}

@@ -8,7 +8,7 @@ use native.Mathlib.Omega.{arith}
 use native.Mathlib.Nat.{zero-add, mul-le-mul-right, zero-max}
 use lib.ListN.{length, take, drop, replicate, length-replicate, length-drop}
 use lib.Seq.{length-take-le}
-use Rattle.isdb_mmt.specs.Memory.Layout.{mostSections, mostMessageArea, mostTableArea, mostCount, tableIds, sectionPlaces, sectionSize}
+use Rattle.isdb_mmt.specs.Memory.Layout.{mostSections, mostMessageArea, mostCount, tableIds, sectionPlaces, sectionSize}
 use Rattle.isdb_mmt.specs.Decoder.Packet.{Bytes}
 use Rattle.isdb_mmt.specs.Decoder.Maps.{isSome}
 use Rattle.isdb_mmt.specs.Decoder.Reassembly.{PartialMessage, cutOf}

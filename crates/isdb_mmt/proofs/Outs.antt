@@ -38,7 +38,9 @@ use Rattle.isdb_mmt.specs.Decoder.Needs.{heldLength, longestOf, unitArea
 use Rattle.isdb_mmt.specs.Memory.Octets.{Octets}
 use Rattle.isdb_mmt.specs.Memory.Layout.{mostMfuArea}
 use Rattle.isdb_mmt.specs.Memory.Session.{objectFields}
-use Rattle.isdb_mmt.specs.Pushes.Records.{rowFlags, objectFor, headerOr, itemOr, hasHeader, hasItem}
+use Rattle.isdb_mmt.specs.Formats.Maybe.{numberU32, hasU32}
+use Rattle.isdb_mmt.specs.Formats.Mpu.{headerOr, hasHeader}
+use Rattle.isdb_mmt.specs.Pushes.Records.{rowFlags, objectFor}
 use Rattle.isdb_mmt.specs.declared.maybe.MaybeU32.{MaybeU32}
 use Rattle.isdb_mmt.specs.declared.maybe.MaybeU32.the-variants.{None as noU32, Some as someU32}
 use Rattle.isdb_mmt.specs.declared.mpu.FragmentType.{FragmentType}
@@ -233,7 +235,7 @@ header-fits : (o : MaybeMfu) → MfuOk o → HeaderOk (headerOr o)
 header-fits noMfu h = record { fragment = omega arith; sample = omega arith; offset = omega arith; priority = omega arith; dependency = omega arith }
 header-fits (someMfu x) h = h
 
-item-fits : (o : MaybeU32) → ItemOk o → itemOr o < 4294967296
+item-fits : (o : MaybeU32) → ItemOk o → numberU32 o < 4294967296
 item-fits noU32 h = omega arith
 item-fits (someU32 i) h = h
 
@@ -252,7 +254,7 @@ object-fits h o n =
               q .sample,
               (
                 q .offset,
-                (q .priority, (q .dependency, (flag-small (hasItem (h .itemId)), (item-fits (h .itemId) (o .itemId), (n, tt))))),
+                (q .priority, (q .dependency, (flag-small (hasU32 (h .itemId)), (item-fits (h .itemId) (o .itemId), (n, tt))))),
               ),
             ),
           ),
@@ -264,7 +266,7 @@ row-fits : (r : Rec) (at : ℕ) → r .id < 65536 → ObjectOk (r .mfu) → at <
 row-fits r at i o a n =
     let h = header-fits (r .mfu .mfu) (o .mfu) in
     let q : rowFlags (r .scrambled) (objectFor (r .mfu)) < 256 =
-    omega (arith, flag-le (r .mfu .rap), flag-le (r .scrambled), flag-le (hasHeader (r .mfu .mfu)), flag-le (hasItem (r .mfu .itemId))) in (
+    omega (arith, flag-le (r .mfu .rap), flag-le (r .scrambled), flag-le (hasHeader (r .mfu .mfu)), flag-le (hasU32 (r .mfu .itemId))) in (
       i,
       (
         q,

@@ -1,7 +1,7 @@
 -- Many packets in one call: one step, and the steps one after the other. Assumes nothing.
-use Prim.Native.Nat.{ℕ, suc, _+_, _-_, _*_, _≤_, _<_}
+use Prim.Native.Nat.{ℕ, _+_, _-_, _*_, _≤_, _<_}
 use mathlib.Core.Path.{_≡_, refl, sym, ap, subst, _∙_}
-use mathlib.Core.Bool.{Bool, true, false, not}
+use mathlib.Core.Bool.{Bool, true, false}
 use mathlib.Core.List.{List, [], _∷_, _++_, append-nil}
 use native.Mathlib.Omega.{arith}
 use lib.ListN.{length, take, drop, length-drop, drop-of-length-le, take-append-drop}
@@ -15,25 +15,27 @@ use Rattle.isdb_tlv.specs.Fields.{puts, fourFields}
 use Rattle.isdb_tlv.specs.Cut.{TlvPacket, cutAt, recordingFrom, recordingOf}
 use Rattle.isdb_tlv.specs.declared.cut.Cut.{Cut}
 use Rattle.isdb_tlv.specs.declared.cut.Cut.the-variants.{Packet as packetHere, End as endHere, Short as shortHere, Bad as badHere}
-use Rattle.isdb_tlv.proofs.Cutting.{recording-at, Lies, packet-lies, packet-less}
+use Rattle.isdb_tlv.proofs.Cutting.{recording-at, Lies, packet-lies}
 use Rattle.isdb_tlv.proofs.Guards.{either}
+use Rattle.isdb_mmt.specs.Formats.Part.{countOfUsize}
 use Rattle.isdb_mmt.specs.Decoder.Packet.{Bytes}
 use Rattle.isdb_mmt.specs.Memory.Layout.{mostCount, tableIds}
 use Rattle.isdb_mmt.specs.Memory.Session.{Session}
 use Rattle.isdb_mmt.specs.Memory.Check.{lengthsOf, soundIn, sound, roomyCount}
 use Rattle.isdb_mmt.specs.Pushes.Records.{rowSize}
 use Rattle.isdb_mmt.specs.Pushes.Push.{Input, input, asks, Pushed, leavesOf, Reply, replyOf}
-use Rattle.isdb_mmt.specs.Pushes.PushAll.{lineSize, lineFields, headerSize, Run, Ran, ran, haltAt, pushedEach, nothingTaken, pushedFrom, AllPushed, CanGo, mostInput, askedOnce, countOfUsize, Going, TurnedOn, Turned, runOf, inputAt, further, onward, MayBeKnown, CanPushBehind, PushedBehind, HasRest, OnePushed}
+use Rattle.isdb_mmt.specs.Pushes.PushAll.{lineSize, lineFields, headerSize, Run, ran, haltAt, pushedEach, nothingTaken, AllPushed, runOf, inputAt, progressAfter, afterPacket}
+use Rattle.isdb_mmt.specs.Pushes.PushAllSteps.{pushedFrom, ProgressFits, askedOnce, AtTurn, TookPacket, Turned, MayBeKnown, PushedBehind, HasRest, OnePushed}
 use Rattle.isdb_mmt.specs.declared.decoder.records.Answer.{Answer}
 use Rattle.isdb_mmt.specs.declared.decoder.many.Turn.{Turn}
-use Rattle.isdb_mmt.specs.declared.decoder.many.Turn.the-variants.{On, Off}
+use Rattle.isdb_mmt.specs.declared.decoder.many.Turn.the-variants.{Taken, Halted}
 use Rattle.isdb_mmt.specs.declared.decoder.many.Progress.{Progress}
 use Rattle.isdb_mmt.specs.declared.decoder.many.Pushes.{Pushes}
 use Rattle.isdb_mmt.specs.declared.decoder.many.Halt.{Halt}
 use Rattle.isdb_mmt.specs.declared.decoder.many.Halt.the-variants.{End, Short, Bad, Full, Refused}
 use Rattle.isdb_mmt.specs.Decoder.Needs.{needs}
 use Rattle.isdb_mmt.specs.Memory.Octets.{Octets, Lent}
-use Rattle.isdb_mmt.specs.Theorems.Room.{mostAdded, SoundWithin}
+use Rattle.isdb_mmt.specs.Theorems.Room.{mostAdded}
 use Rattle.isdb_mmt.proofs.PacketLeaves.{taken}
 use Rattle.isdb_mmt.proofs.SoundStays.{within-more, leaves-taken, push-stays}
 use Rattle.isdb_mmt.proofs.Accepted.{push-lent}
@@ -107,9 +109,6 @@ module _ (s : Session) (x : Input) (e : asks s x ≡ 0) where
 -- ---- one step
 
 module _ (known : Bool) (c : Run) (p : TlvPacket) (h : HasRest known c) where
-  pub can-push : CanPushBehind known (c .session) (rowSize * c .progress .records) (c .rows) (c .progress .bytes) (c .out)
-  can-push = record { session = h .session; rowsThere = h .rows; outThere = h .out }
-
   module _ (a : Answer) (s′ : Session) (rows′ out′ : Bytes)
       (q : PushedBehind (c .session) (inputAt c p) (rowSize * c .progress .records) (c .rows) (c .progress .bytes) (c .out) a s′ rows′ out′) where
     pub step-taken : a .number ≡ 0 → (lines′ : Bytes) → lines′ ≡ puts (lineSize * c .progress .packets) (lineFields (a .records) (a .bytes)) (c .lines)
@@ -127,7 +126,7 @@ module _ (known : Bool) (c : Run) (p : TlvPacket) (h : HasRest known c) where
                 rows = q .rowsAre i;
                 out = q .dataAre i;
                 lines = l i;
-                progress = further (c .progress) (length (p .bytes)) (q .records i) (q .bytes i);
+                progress = progressAfter (c .progress) (length (p .bytes)) (q .records i) (q .bytes i);
               };
         }
 
@@ -147,11 +146,11 @@ module _ (known : Bool) (c : Run) (p : TlvPacket) (h : HasRest known c) where
 
 -- ---- all steps
 
-pub going-first : (known : Bool) (s : Session) (input : Bytes) (rows out lines : Bytes) → length (s .others) ≡ tableIds → known ≡ askedOnce s (length input)
+pub at-turn-first : (known : Bool) (s : Session) (input : Bytes) (rows out lines : Bytes) → length (s .others) ≡ tableIds → known ≡ askedOnce s (length input)
     → Octets (s .state) → Octets (s .objects) → Octets (s .messages) → Octets (s .tables)
     → length rows < countOfUsize → length out < countOfUsize → length lines < countOfUsize
-    → Going known input (runOf s rows out lines nothingTaken)
-going-first known s input rows out lines h e o1 o2 o3 o4 n1 n2 n3 =
+    → AtTurn known input (runOf s rows out lines nothingTaken)
+at-turn-first known s input rows out lines h e o1 o2 o3 o4 n1 n2 n3 =
     let l : Lent s = record { state = o1; objects = o2; messages = o3; tables = o4 } in
     record {
       others = h;
@@ -168,7 +167,7 @@ going-first known s input rows out lines h e o1 o2 o3 o4 n1 n2 n3 =
           (q .0, within-more roomyCount (roomyCount + 0 * mostAdded) (omega arith) s (q .1));
     }
 
-module _ (known : Bool) (input : Bytes) (most : ℕ) (c : Run) (h : Going known input c) (k : Cut) (ek : k ≡ cutAt input most (c .progress .at)) where
+module _ (known : Bool) (input : Bytes) (most : ℕ) (c : Run) (h : AtTurn known input c) (k : Cut) (ek : k ≡ cutAt input most (c .progress .at)) where
   -- what stands here ends the call
   ends-here : recordingFrom input most (c .progress .at) .packets ≡ [] → (w : Halt) → haltAt k ≡ w → ran c w ≡ pushedFrom input most c
   unfolding pushedEach
@@ -226,14 +225,14 @@ module _ (known : Bool) (input : Bytes) (most : ℕ) (c : Run) (h : Going known 
             place-next : next ≡ c .progress .at + headerSize + length (packet .bytes)
             place-next = omega (arith, packet-length, lies .behind-header, lies .behind-bytes)
 
-            is-onward : now-run ≡ onward c packet (replyOf (c .session) (inputAt c packet))
-            is-onward = rw place-next (q .taken z)
+            after-is : now-run ≡ afterPacket c packet (replyOf (c .session) (inputAt c packet))
+            after-is = rw place-next (q .taken z)
 
             reply-records : a .records ≡ replyOf (c .session) (inputAt c packet) .records
-            reply-records = omega (arith, ap (λ (y : Run). y .progress .records) is-onward)
+            reply-records = omega (arith, ap (λ (y : Run). y .progress .records) after-is)
 
             reply-bytes : a .bytes ≡ replyOf (c .session) (inputAt c packet) .bytes
-            reply-bytes = omega (arith, ap (λ (y : Run). y .progress .bytes) is-onward)
+            reply-bytes = omega (arith, ap (λ (y : Run). y .progress .bytes) after-is)
 
             rows-fit : rowSize * (c .progress .records + a .records) ≤ length (c .rows)
             rows-fit =
@@ -243,8 +242,8 @@ module _ (known : Bool) (input : Bytes) (most : ℕ) (c : Run) (h : Going known 
             out-fits =
                 omega (arith, reply-fits (c .session) (inputAt c packet) asked-none .1, reply-bytes, length-drop (c .progress .bytes) (c .out), h .out)
 
-            can-go : CanGo (c .progress) a
-            can-go =
+            progress-fits : ProgressFits (c .progress) a
+            progress-fits =
                 record {
                   packets = omega (arith, line-fits, h .linesLong);
                   records = omega (arith, rows-fit, h .rowsLong);
@@ -252,15 +251,15 @@ module _ (known : Bool) (input : Bytes) (most : ℕ) (c : Run) (h : Going known 
                 }
 
             session-next : s′ ≡ leavesOf (c .session) (inputAt c packet)
-            session-next = ap (λ (y : Run). y .session) is-onward
+            session-next = ap (λ (y : Run). y .session) after-is
 
             turned-on : Octets (packet .bytes) → length (s′ .others) ≡ length (c .session .others) → length rows′ ≡ length (c .rows)
-                → length out′ ≡ length (c .out) → length lines′ ≡ length (c .lines) → TurnedOn known input most c now-run
+                → length out′ ≡ length (c .out) → length lines′ ≡ length (c .lines) → TookPacket known input most c now-run
             unfolding pushedEach
             turned-on o e1 e2 e3 e4 =
                 let s = c .session in
                 let x = inputAt c packet in
-                let g : Going known input now-run = record {
+                let g : AtTurn known input now-run = record {
                   others = e1 ∙ h .others;
                   lent = rw (session-next, leaves-taken s x (eq-eqb (asks s x) 0 asked-none)) (push-lent s (h .lent) x o asked-none);
                   rows = omega (arith, rows-fit, e2);
@@ -280,14 +279,14 @@ module _ (known : Bool) (input : Bytes) (most : ℕ) (c : Run) (h : Going known 
                       );
                 } in
                 record {
-                  going = g;
-                  same = rw (first-packet, sym ef ∙ ff, eq-eqb (asks s x) 0 asked-none, ← is-onward);
+                  holds = g;
+                  same = rw (first-packet, sym ef ∙ ff, eq-eqb (asks s x) 0 asked-none, ← after-is);
                   ahead = omega (arith, lies .behind-header, lies .behind-bytes, lies .inside);
                 }
 
 -- ---- the same, with the packet's data as the call has them
 
-module _ (known : Bool) (input : Bytes) (c : Run) (h : Going known input c) (full : Bool)
+module _ (known : Bool) (input : Bytes) (c : Run) (h : AtTurn known input c) (full : Bool)
     (ef : full ≡ (length (c .lines) <? lineSize * c .progress .packets + lineSize)) (ff : full ≡ false) where
   pub turn-rest : HasRest known c
   turn-rest =
@@ -304,24 +303,24 @@ module _ (known : Bool) (input : Bytes) (c : Run) (h : Going known input c) (ful
     own-bytes : OnePushed c (record { kind = kind; bytes = take n (drop start input) }) a s′ rows′ out′ lines′
     own-bytes = rw eb at q
 
-    pub turn-refused : (a .number ≡ 0 → ⊥) → Turned known input most c (Off (Refused (a .number))) s′ rows′ out′ lines′
+    pub turn-refused : (a .number ≡ 0 → ⊥) → Turned known input most c (Halted (Refused (a .number))) s′ rows′ out′ lines′
     turn-refused z = halts-refused known input most c h k ek kind start n next d full ef ff a s′ rows′ out′ lines′ own-bytes z
 
     module _ (z : a .number ≡ 0) where
-      pub turn-go : CanGo (c .progress) a
-      turn-go = can-go known input most c h k ek kind start n next d full ef ff a s′ rows′ out′ lines′ own-bytes z
+      pub turn-fits : ProgressFits (c .progress) a
+      turn-fits = progress-fits known input most c h k ek kind start n next d full ef ff a s′ rows′ out′ lines′ own-bytes z
 
-      pub turn-on : Octets b → length (s′ .others) ≡ length (c .session .others) → length rows′ ≡ length (c .rows) → length out′ ≡ length (c .out)
+      pub turn-taken : Octets b → length (s′ .others) ≡ length (c .session .others) → length rows′ ≡ length (c .rows) → length out′ ≡ length (c .out)
           → length lines′ ≡ length (c .lines) → (y : Progress)
           → y ≡ record { at = next; packets = c .progress .packets + 1; records = c .progress .records + a .records; bytes = c .progress .bytes + a .bytes }
-          → Turned known input most c (On y) s′ rows′ out′ lines′
-      turn-on o e1 e2 e3 e4 y ey =
-          subst (λ (w : Progress). TurnedOn known input most c (runOf s′ rows′ out′ lines′ w)) (sym ey)
+          → Turned known input most c (Taken y) s′ rows′ out′ lines′
+      turn-taken o e1 e2 e3 e4 y ey =
+          subst (λ (w : Progress). TookPacket known input most c (runOf s′ rows′ out′ lines′ w)) (sym ey)
           (turned-on known input most c h k ek kind start n next d full ef ff a s′ rows′ out′ lines′ own-bytes z (rw eb at o) e1 e2 e3 e4)
 
 -- the loop: how its turns lead to the whole
 pub record Running (known : Bool) (input : Bytes) (most : ℕ) (c₀ c : Run) : Type 0 where
-  pub going : Going known input c
+  pub holds : AtTurn known input c
   pub same : pushedFrom input most c₀ ≡ pushedFrom input most c
   pub state : length (c .session .state) ≡ length (c₀ .session .state)
   pub others : length (c .session .others) ≡ length (c₀ .session .others)
@@ -332,10 +331,10 @@ pub record Running (known : Bool) (input : Bytes) (most : ℕ) (c₀ c : Run) : 
   pub out : length (c .out) ≡ length (c₀ .out)
   pub lines : length (c .lines) ≡ length (c₀ .lines)
 
-pub running-first : (known : Bool) (input : Bytes) (most : ℕ) (c : Run) → Going known input c → Running known input most c c
+pub running-first : (known : Bool) (input : Bytes) (most : ℕ) (c : Run) → AtTurn known input c → Running known input most c c
 running-first known input most c h =
     record {
-      going = h;
+      holds = h;
       same = refl;
       state = refl;
       others = refl;
@@ -347,25 +346,25 @@ running-first known input most c h =
       lines = refl;
     }
 
-pub turn-can : (known : Bool) (input : Bytes) (most : ℕ) (c₀ c : Run) → Running known input most c₀ c → Going known input c
-turn-can known input most c₀ c h = h .going
+pub turn-can : (known : Bool) (input : Bytes) (most : ℕ) (c₀ c : Run) → Running known input most c₀ c → AtTurn known input c
+turn-can known input most c₀ c h = h .holds
 
 module _ (known : Bool) (input : Bytes) (most : ℕ) (c₀ c : Run) (h : Running known input most c₀ c) (t : Turn) (s′ : Session) (rows′ out′ lines′ : Bytes)
     (q : Turned known input most c t s′ rows′ out′ lines′) where
-  is-on : (y : Progress) → t ≡ On y → TurnedOn known input most c (runOf s′ rows′ out′ lines′ y)
-  is-on y e = rw e at q
+  is-taken : (y : Progress) → t ≡ Taken y → TookPacket known input most c (runOf s′ rows′ out′ lines′ y)
+  is-taken y e = rw e at q
 
-  pub turn-less : (y : Progress) → t ≡ On y → length input - y .at < length input - c .progress .at
-  turn-less y e = is-on y e .ahead
+  pub turn-less : (y : Progress) → t ≡ Taken y → length input - y .at < length input - c .progress .at
+  turn-less y e = is-taken y e .ahead
 
-  pub running-next : (y : Progress) → t ≡ On y → length (s′ .state) ≡ length (c .session .state) → length (s′ .others) ≡ length (c .session .others)
+  pub running-next : (y : Progress) → t ≡ Taken y → length (s′ .state) ≡ length (c .session .state) → length (s′ .others) ≡ length (c .session .others)
       → length (s′ .objects) ≡ length (c .session .objects) → length (s′ .messages) ≡ length (c .session .messages)
       → length (s′ .tables) ≡ length (c .session .tables) → length rows′ ≡ length (c .rows) → length out′ ≡ length (c .out)
       → length lines′ ≡ length (c .lines) → Running known input most c₀ (runOf s′ rows′ out′ lines′ y)
   running-next y e e1 e2 e3 e4 e5 e6 e7 e8 =
-      let d = is-on y e in
+      let d = is-taken y e in
       record {
-        going = d .going;
+        holds = d .holds;
         same = h .same ∙ d .same;
         state = e1 ∙ h .state;
         others = e2 ∙ h .others;
@@ -377,14 +376,14 @@ module _ (known : Bool) (input : Bytes) (most : ℕ) (c₀ c : Run) (h : Running
         lines = e8 ∙ h .lines;
       }
 
-  pub runs-off : (w : Halt) → t ≡ Off w → ran (runOf s′ rows′ out′ lines′ (c .progress)) w ≡ pushedFrom input most c₀
-  runs-off w e = (rw e at q) ∙ sym (h .same)
+  pub runs-halted : (w : Halt) → t ≡ Halted w → ran (runOf s′ rows′ out′ lines′ (c .progress)) w ≡ pushedFrom input most c₀
+  runs-halted w e = (rw e at q) ∙ sym (h .same)
 
 pub ran-all : (known : Bool) (input : Bytes) (most : ℕ) (s : Session) (rows out lines : Bytes) (c : Run)
     (h : Running known input most (runOf s rows out lines nothingTaken) c) (t : Turn) (s′ : Session) (rows′ out′ lines′ : Bytes)
-    → Turned known input most c t s′ rows′ out′ lines′ → (w : Halt) → t ≡ Off w → (a : Pushes) → a ≡ record { progress = c .progress; halt = w }
+    → Turned known input most c t s′ rows′ out′ lines′ → (w : Halt) → t ≡ Halted w → (a : Pushes) → a ≡ record { progress = c .progress; halt = w }
     → AllPushed s input most rows out lines a s′ rows′ out′ lines′
 unfolding recordingOf
 ran-all known input most s rows out lines c h t s′ rows′ out′ lines′ q w e a ea =
     subst (λ (y : Pushes). AllPushed s input most rows out lines y s′ rows′ out′ lines′) (sym ea)
-    (record { one-by-one = runs-off known input most (runOf s rows out lines nothingTaken) c h t s′ rows′ out′ lines′ q w e })
+    (record { one-by-one = runs-halted known input most (runOf s rows out lines nothingTaken) c h t s′ rows′ out′ lines′ q w e })

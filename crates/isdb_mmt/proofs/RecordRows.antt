@@ -13,7 +13,9 @@ use Rattle.isdb_mmt.specs.Memory.Lent.{part, over, flagByte, placesFrom}
 use Rattle.isdb_mmt.specs.Decoder.Objects.{Rec}
 use Rattle.isdb_mmt.specs.Decoder.Needs.{dataOf}
 use Rattle.isdb_mmt.specs.Memory.View.{headerGiven, itemGiven}
-use Rattle.isdb_mmt.specs.Pushes.Records.{objectFor, headerOr, hasHeader, itemOr, hasItem, rowFields, rowOf, rowsFrom, dataFrom, bitOf, readRow, readRows}
+use Rattle.isdb_mmt.specs.Formats.Maybe.{numberU32, hasU32}
+use Rattle.isdb_mmt.specs.Formats.Mpu.{headerOr, hasHeader}
+use Rattle.isdb_mmt.specs.Pushes.Records.{objectFor, rowFields, rowOf, rowsFrom, dataFrom, bitOf, readRow, readRows}
 use Rattle.isdb_mmt.specs.declared.maybe.MaybeU32.{MaybeU32}
 use Rattle.isdb_mmt.specs.declared.maybe.MaybeU32.the-variants.{None as noU32, Some as someU32}
 use Rattle.isdb_mmt.specs.declared.mpu.MaybeMfu.{MaybeMfu}
@@ -44,7 +46,7 @@ pub header-back : (o : MaybeMfu) → headerGiven (hasHeader o) (headerOr o) ≡ 
 header-back noMfu = refl
 header-back (someMfu h) = refl
 
-pub item-back : (o : MaybeU32) → itemGiven (hasItem o) (itemOr o) ≡ o
+pub item-back : (o : MaybeU32) → itemGiven (hasU32 o) (numberU32 o) ≡ o
 item-back noU32 = refl
 item-back (someU32 i) = refl
 

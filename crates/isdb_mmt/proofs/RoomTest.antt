@@ -7,11 +7,11 @@ use lib.ListN.{length}
 use borrow.Author.Tests.{leb-true, le-leb, lt-leb}
 use Rattle.isdb_tlv.specs.Guards.{_≤?_}
 use Rattle.isdb_mmt.specs.Memory.Octets.{Lent}
-use Rattle.isdb_mmt.specs.Memory.Layout.{tableIds, statsPlace, countersPlace, mediaPlaces, mediaSize}
+use Rattle.isdb_mmt.specs.Memory.Layout.{statsPlace, countersPlace, mediaPlaces, mediaSize}
 use Rattle.isdb_mmt.specs.Memory.Lent.{placesFrom, every}
 use Rattle.isdb_mmt.specs.Memory.Session.{Session, usedOf, countersOf, mediaPlaceOf, statsOf}
 use Rattle.isdb_mmt.specs.Memory.Check.{atMost, countsFrom, packetCounts, tableCounts, statsCounts, mediaIn, statsAtMost, countsAtMost, roomyCount, lengthsOf, soundIn, sound, PlacesThere}
-use Rattle.isdb_mmt.specs.Pushes.PushAll.{mostInput, askedOnce}
+use Rattle.isdb_mmt.specs.Pushes.PushAllSteps.{mostInput, askedOnce}
 use Rattle.isdb_mmt.specs.Theorems.Room.{AllAtMost, MediaWithin, CountsWithin, SoundWithin}
 use Rattle.isdb_mmt.specs.declared.decoder.limits.Lengths.{Lengths}
 use Rattle.isdb_mmt.specs.declared.decoder.head.Used.{Used}

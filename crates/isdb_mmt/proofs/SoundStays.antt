@@ -12,10 +12,10 @@ use Rattle.isdb_tlv.proofs.Guards.{either}
 use Rattle.isdb_mmt.specs.Decoder.Model.{State, packetCounted, pushed}
 use Rattle.isdb_mmt.specs.Memory.Lent.{indexed}
 use Rattle.isdb_mmt.specs.Memory.Limits.{asked}
-use Rattle.isdb_mmt.specs.Memory.Layout.{mostCount, mediaPlaces, mediaSize, controlPlaces, controlSize, sectionPlaces, sectionSize}
-use Rattle.isdb_mmt.specs.Memory.Session.{Session, limitsOf, usedOf, countersOf, mediaPlaceOf, controlPlaceOf, sectionPlaceOf}
-use Rattle.isdb_mmt.specs.Memory.Check.{statsCounts, packetCounts, tableCounts, mediaIn, controlsIn, sectionsIn, lengthsOf, sound, Sound}
-use Rattle.isdb_mmt.specs.Memory.View.{assetOfPlace, assetEntry, controlEntry, sectionEntry, viewBy, view}
+use Rattle.isdb_mmt.specs.Memory.Layout.{mostCount}
+use Rattle.isdb_mmt.specs.Memory.Session.{Session, limitsOf, countersOf}
+use Rattle.isdb_mmt.specs.Memory.Check.{statsCounts, packetCounts, tableCounts, mediaIn, lengthsOf, sound, Sound}
+use Rattle.isdb_mmt.specs.Memory.View.{assetOfPlace, assetEntry, viewBy, view}
 use Rattle.isdb_mmt.specs.Memory.Octets.{Octets, Lent}
 use Rattle.isdb_mmt.specs.Pushes.Leaves.{packetLeaves}
 use Rattle.isdb_mmt.specs.Pushes.Push.{Input, packetOf, asksLater, asks, Taken, leavesOf, leavesAll}

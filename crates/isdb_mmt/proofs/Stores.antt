@@ -222,19 +222,19 @@ few-section x k =
     cond-elim P (not (otherVersion k (x .version))) (λ e. few (x .breaks) 0 0 0 0 (omega arith) (omega arith) (omega arith) (omega arith)) (λ e.
     few (x .breaks) 0 _ _ (x .breaks) (omega arith) (one-le (not (x .bodyOk))) (one-le (isSome k)) (omega arith)))
 
-few-adds : (m : Option Bytes) (s : KeptTables) (t : Table) → Few (breaksOf t) (tableIncrements m s t)
+few-increments : (m : Option Bytes) (s : KeptTables) (t : Table) → Few (breaksOf t) (tableIncrements m s t)
 unfolding tableIncrements
-few-adds m s emptyTable = few 0 0 0 0 0 (omega arith) (omega arith) (omega arith) (omega arith)
-few-adds m s (mptTable ok n b) = few n 0 _ _ n (omega arith) (one-le (not ok)) (one-le (ok && changes m b)) (omega arith)
-few-adds m s (pltTable ok b) = few 0 0 _ _ 0 (omega arith) (one-le (not ok)) (one-le (ok && changes (s .plt) b)) (omega arith)
-few-adds m s (totTable ok c n b) = few n _ _ 0 n (one-le c) (one-le (not ok && not c)) (omega arith) (omega arith)
-few-adds m s truncatedSection = few 0 0 1 0 0 (omega arith) (omega arith) (omega arith) (omega arith)
-few-adds m s (aSection x) = few-section x (find (x .key) (s .kept))
-few-adds m s (otherTable id) = few 0 0 0 0 0 (omega arith) (omega arith) (omega arith) (omega arith)
+few-increments m s emptyTable = few 0 0 0 0 0 (omega arith) (omega arith) (omega arith) (omega arith)
+few-increments m s (mptTable ok n b) = few n 0 _ _ n (omega arith) (one-le (not ok)) (one-le (ok && changes m b)) (omega arith)
+few-increments m s (pltTable ok b) = few 0 0 _ _ 0 (omega arith) (one-le (not ok)) (one-le (ok && changes (s .plt) b)) (omega arith)
+few-increments m s (totTable ok c n b) = few n _ _ 0 n (one-le c) (one-le (not ok && not c)) (omega arith) (omega arith)
+few-increments m s truncatedSection = few 0 0 1 0 0 (omega arith) (omega arith) (omega arith) (omega arith)
+few-increments m s (aSection x) = few-section x (find (x .key) (s .kept))
+few-increments m s (otherTable id) = few 0 0 0 0 0 (omega arith) (omega arith) (omega arith) (omega arith)
 
-tabled-fits : (p t b n : ℕ) (c : Counters) (x : Increments) → CountersFit p t b c → Few n x → CountersFit p (t + 1) (b + n) (tableCounted c x)
+table-counted-fits : (p t b n : ℕ) (c : Counters) (x : Increments) → CountersFit p t b c → Few n x → CountersFit p (t + 1) (b + n) (tableCounted c x)
 unfolding tableCounted
-tabled-fits p t b n c x h f =
+table-counted-fits p t b n c x h f =
     record {
       «tlv_packets» = h .«tlv_packets»;
       «ip_errors» = h .«ip_errors»;
@@ -256,7 +256,7 @@ unfolding countedAll
 counted-fit [] p t b m s c h = counters-more p t b p (t + 0) (b + 0) c (omega arith) (omega arith) (omega arith) h
 counted-fit (x ∷ ts) p t b m s c h =
     counters-more p (t + 1 + length ts) (b + breaksOf x + breaksIn ts) p (t + suc (length ts)) (b + (breaksOf x + breaksIn ts)) _ (omega arith) (omega arith) (omega arith)
-    (counted-fit ts p (t + 1) (b + breaksOf x) (mptAfter m x) (stored s x) (tableCounted c (tableIncrements m s x)) (tabled-fits p t b (breaksOf x) c _ h (few-adds m s x)))
+    (counted-fit ts p (t + 1) (b + breaksOf x) (mptAfter m x) (stored s x) (tableCounted c (tableIncrements m s x)) (table-counted-fits p t b (breaksOf x) c _ h (few-increments m s x)))
 
 -- tables leave the count of packets
 pub counted-packets : (ts : List Table) (m : Option Bytes) (s : KeptTables) (c : Counters) → countedAll m s c ts .«tlv_packets» ≡ c .«tlv_packets»

@@ -6,7 +6,7 @@ use mathlib.Core.List.{List}
 use native.Mathlib.Omega.{arith}
 use lib.Dec.{leb}
 use lib.ListN.{length}
-use borrow.Author.Tests.{le-ltb, leb-true, leb-false}
+use borrow.Author.Tests.{le-ltb, leb-false}
 use Rattle.isdb_tlv.proofs.Guards.{either}
 use Rattle.isdb_mmt.proofs.Names.{true-not-false}
 use Rattle.isdb_mmt.specs.Formats.Mpu.{unitAt, unitStep}

@@ -1,4 +1,5 @@
 pub mod Part
+pub mod Maybe
 pub mod Tags
 pub mod TableIds
 pub mod Location

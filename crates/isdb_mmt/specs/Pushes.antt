@@ -20,3 +20,4 @@ pub mod FragmentPush
 pub mod WholeMessage
 pub mod PushAll
 pub mod Plain
+pub mod PushAllSteps

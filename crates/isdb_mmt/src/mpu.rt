@@ -6,7 +6,7 @@ ghost use mathlib.Core.Bool.{false};
 ghost use Prim.Native.Nat.{_≤_};
 ghost use lib.ListN.{length};
 ghost use Rattle.isdb_tlv.specs.Guards.{if_then_else_, _≤?_};
-ghost use Rattle.isdb_mmt.specs.Formats.Mpu.{fragmentCode, fragmentType, indicatorCode, indicator, completesOf, payloadHeaderFields, payloadHeader, mfuAt, unitIn, unitAt, unitStep, unitsOf, counted, declaredOf, follows, lostFrom};
+ghost use Rattle.isdb_mmt.specs.Formats.Mpu.{fragmentCode, fragmentType, indicatorCode, indicator, completesOf, payloadHeaderFields, payloadHeader, mfuAt, hasHeader, headerOr, unitIn, unitAt, unitStep, unitsOf, counted, declaredOf, follows, lostFrom};
 use crate::maybe::MaybeU32;
 use crate::part::Part;
 use isdb_tlv::bytes;
@@ -161,6 +161,33 @@ pub struct MfuHeader {
 pub enum MaybeMfu {
     None,
     Some(MfuHeader),
+}
+
+impl MaybeMfu {
+    pub fn is_some(self) -> bool
+        ensures { λ r. ⌜ r ≡ hasHeader self ⌝ }
+    {
+        match self {
+            MaybeMfu::None => false,
+            MaybeMfu::Some(_) => true,
+        }
+    }
+
+    // The header; one that is absent has all fields 0.
+    pub fn or_zero(self) -> MfuHeader
+        ensures { λ r. ⌜ r ≡ headerOr self ⌝ }
+    {
+        match self {
+            MaybeMfu::None => MfuHeader {
+                movie_fragment_sequence_number: 0,
+                sample_number: 0,
+                offset: 0,
+                priority: 0,
+                dependency_counter: 0,
+            },
+            MaybeMfu::Some(h) => h,
+        }
+    }
 }
 
 // A unit: a header where the data are timed, else an item id; its data by their place in the declared bytes.

@@ -1,8 +1,8 @@
 // A part of some bytes: a text, an id or a descriptor loop, by its place.
 ghost use mathlib.Core.Path.{_≡_};
-ghost use Prim.Native.Nat.{_-_};
+ghost use Prim.Native.Nat.{_-_, _<_};
 ghost use lib.ListN.{length};
-ghost use Rattle.isdb_mmt.specs.Formats.Part.{partOf};
+ghost use Rattle.isdb_mmt.specs.Formats.Part.{partOf, countOfUsize};
 use isdb_tlv::bytes;
 
 pub struct Part {
@@ -29,4 +29,11 @@ pub(crate) fn left(b: &[u8], at: usize) -> usize
         return 0;
     }
     b.len() - at
+}
+
+// A slice has fewer than 2^64 bytes, which a definition over lists does not know.
+pub fn measured(b: &[u8])
+    ensures { λ r. ⌜ length (now (b .entry)) < countOfUsize ⌝ }
+{
+    b.len();
 }

@@ -9,22 +9,21 @@ use lib.ListN.{length, take, drop}
 use lib.Ieee.{Float, nan, inf, fin, binary64, toBits, eq, isNan, up, down}
 use borrow.Author.Tests.{eq-eqb, ne-eqb, lt-ltb, le-ltb, le-leb, lt-leb}
 use Rattle.isdb_tlv.proofs.Guards.{either}
-use Rattle.isdb_tlv.specs.Bytes.{be, putBe}
+use Rattle.isdb_tlv.specs.Bytes.{be}
 use Rattle.isdb_tlv.specs.Crc.{crcOf}
-use Rattle.isdb_tlv.specs.Fields.{written, puts, fourFields}
+use Rattle.isdb_tlv.specs.Fields.{written}
+use Rattle.isdb_tlv.proofs.Fields.{length-written}
 use Rattle.isdb_mmt.specs.Formats.Ntp.{Seconds}
 use Rattle.isdb_mmt.specs.Formats.Part.{partOf}
 use Rattle.isdb_mmt.specs.Memory.Check.{sound}
 use Rattle.isdb_mmt.specs.Memory.Session.{Session, limitsOf, usedOf, controlPlaceOf}
 use Rattle.isdb_mmt.specs.Memory.Lent.{part, flag, flagByte, namesFrom}
 use Rattle.isdb_mmt.specs.Memory.Layout.{mostControlIds, mostMessageArea, tableIds, controlPlaces, controlSize}
-use Rattle.isdb_mmt.specs.Pushes.Records.{rowSize, noHeader, hasHeader, headerOr, hasItem, itemOr}
+use Rattle.isdb_mmt.specs.Formats.Maybe.{givenU16, numberU16, givenU32, numberU32}
+use Rattle.isdb_mmt.specs.Pushes.Records.{rowSize, heldFields}
 use Rattle.isdb_mmt.specs.Answers.Readings.{nameRead, mostName, nextMediaRead, nextControlRead, mediaRead, heldRead, assetRead}
 use Rattle.isdb_mmt.specs.Answers.Readings.{countersRead, timeRead, countRead, controlRead}
 use Rattle.isdb_mmt.specs.declared.maybe.MaybeU32.the-variants.{None as noU32}
-use Rattle.isdb_mmt.specs.declared.mpu.MfuHeader.{MfuHeader}
-use Rattle.isdb_mmt.specs.declared.mpu.MaybeMfu.{MaybeMfu}
-use Rattle.isdb_mmt.specs.declared.mpu.MaybeMfu.the-variants.{None as noMfu}
 use Rattle.isdb_mmt.specs.declared.decoder.records.Answer.{Answer}
 use Rattle.isdb_mmt.specs.declared.decoder.counts.Counters.{Counters}
 use Rattle.isdb_mmt.specs.declared.decoder.readings.CountersReading.{CountersReading}
@@ -58,15 +57,14 @@ use Rattle.isdb_text.specs.Text.{Wrote, ascii, bytesAsHex}
 use Rattle.isdb_text.specs.Fill.{filled}
 use Rattle.isdb_text.specs.DumpSession.{dataText, recordText, packetLine, mfuLine, feedCounters, tableCounters, messageCounters}
 use Rattle.isdb_text.specs.DumpSession.{counterLines}
-use Rattle.isdb_text.specs.DumpSession.{unixBits, ntpLine, u32Given, u16Given, u16Or, statsLine, rangeLine, stateLines, mediaLines}
-use Rattle.isdb_text.specs.DumpSession.{flagsOf, heldFields, objectLine, heldLine, carriedLine, assetLine, mediaText}
+use Rattle.isdb_text.specs.DumpSession.{unixBits, ntpLine, statsLine, rangeLine, stateLines, mediaLines}
+use Rattle.isdb_text.specs.DumpSession.{objectLine, heldLine, carriedLine, assetLine, mediaText}
 use Rattle.isdb_text.specs.DumpSession.{textAndAbove, ascendingText, allMedia, otherLine, otherText, otherLast, otherLines}
 use Rattle.isdb_text.specs.DumpSession.{feedLines, sessionLines}
 use Rattle.isdb_text.specs.DumpSession.{controlLine, indexFrom, controlIndex, joinedLine, messageLine, controlText, allControls}
 use mir.Val.{Fits}
 use mir.Syntax.{w64}
 use Rattle.isdb_mmt.proofs.Limits.{areas-fit}
-use Rattle.isdb_mmt.proofs.Stored.{filled as whole-row}
 use Rattle.isdb_mmt.proofs.Names.{next as next-name, end as no-name}
 use Rattle.isdb_text.proofs.Written.{wrote-append, Left, left-less, left-none}
 use Rattle.isdb_text.proofs.Lists.{none-between}
@@ -156,15 +154,8 @@ bits-of-none t x s e = sym (nan-bits x e) ∙ bits-known t x s
 
 -- ---- a media id
 
-pub row-put : (id : ℕ) (o : HeldObject) (h : MfuHeader) (timed item : Bool) (flags i : ℕ) (row a b c d : List ℕ) → length row ≡ rowSize
-    → h ≡ headerOr (o .mfu) → timed ≡ hasHeader (o .mfu) → item ≡ hasItem (o .«item_id») → flags ≡ flagsOf (o .rap) timed item
-    → i ≡ itemOr (o .«item_id»)
-    → a ≡ puts 0 (fourFields 0x2114 id flags 0 (o .«mpu_sequence_number»)) row
-    → b ≡ puts 8 (fourFields 0x4441 (h .«movie_fragment_sequence_number») (h .«sample_number») (h .offset) (h .priority)) a
-    → c ≡ puts 21 (fourFields 0x1244 (h .«dependency_counter») 0 i 0) b → d ≡ putBe 4 32 (o .bytes .length) c
-    → d ≡ written (heldFields id o)
-row-put id o h timed item flags i row a b c d n eh et ei ef en ea eb ec ed =
-    whole-row (heldFields id o) row n (rw (ed, ec, eb, ea, ef, et, ei, en, eh) refl)
+pub row-long : (id : ℕ) (o : HeldObject) (row : List ℕ) → row ≡ written (heldFields id o) → length row ≡ rowSize
+row-long id o row e = ap length e ∙ length-written (heldFields id o)
 
 module _ {l m : List ℕ} {at q : ℕ} (id : ℕ) where
   module _ (r : MaybeRange) where
@@ -176,7 +167,7 @@ module _ {l m : List ℕ} {at q : ℕ} (id : ℕ) where
         → Wrote l at (filled (ascii "media # mpu_range # #\n") (id ∷ x .first ∷ x .last ∷ [])) m q → Wrote l at (rangeLine id r) m q
     wrote-range x e w = rw e w
 
-  pub wrote-state : {j k : List ℕ} {o p : ℕ} (x : MediaState) (g n : ℕ) → g ≡ u32Given (x .sequence) → n ≡ itemOr (x .sequence)
+  pub wrote-state : {j k : List ℕ} {o p : ℕ} (x : MediaState) (g n : ℕ) → g ≡ givenU32 (x .sequence) → n ≡ numberU32 (x .sequence)
       → Wrote l at (statsLine id (x .stats)) j o → Wrote j o (rangeLine id (x .«mpu_range»)) k p
       → Wrote k p (filled (ascii "media # last_sequence ?\n") (id ∷ g ∷ n ∷ [])) m q → Wrote l at (stateLines id x) m q
   unfolding stateLines
@@ -212,8 +203,8 @@ module _ {l m : List ℕ} {at q : ℕ} (id : ℕ) where
     pub wrote-refused-held : (n : ℕ) → r ≡ heldRefused n → Wrote l at [] m q → Wrote l at (heldLine id r objects) m q
     wrote-refused-held n e w = rw e w
 
-  pub wrote-carried : {j k : List ℕ} {o p : ℕ} (a : CarriedAsset) (tables t b : List ℕ) (g n : ℕ) → g ≡ u16Given (a .«service_id»)
-      → n ≡ u16Or (a .«service_id»)
+  pub wrote-carried : {j k : List ℕ} {o p : ℕ} (a : CarriedAsset) (tables t b : List ℕ) (g n : ℕ) → g ≡ givenU16 (a .«service_id»)
+      → n ≡ numberU16 (a .«service_id»)
       → Wrote l at (filled (ascii "media # asset_of service ? type %%%%%%%% id ") (id ∷ g ∷ n ∷ a .asset .«asset_type» ∷ [])) j o
       → t ≡ partOf tables (a .mpt) → b ≡ partOf t (a .asset .«asset_id») → Wrote j o (bytesAsHex b) k p → Wrote k p (10 ∷ []) m q
       → Wrote l at (carriedLine id a tables) m q
@@ -299,7 +290,7 @@ module _ {l : List ℕ} {at : ℕ} {whole m : List ℕ} {p : ℕ} (s : Session) 
 
 module _ {l m : List ℕ} {at q : ℕ} (id : ℕ) where
   module _ (r : ControlReading) where
-    pub wrote-control : (c : ControlState) (g n : ℕ) → r ≡ theControl c → g ≡ u32Given (c .sequence) → n ≡ itemOr (c .sequence)
+    pub wrote-control : (c : ControlState) (g n : ℕ) → r ≡ theControl c → g ≡ givenU32 (c .sequence) → n ≡ numberU32 (c .sequence)
         → Wrote l at (filled (ascii "control # last_sequence ?\n") (id ∷ g ∷ n ∷ [])) m q → Wrote l at (controlLine id r) m q
     wrote-control c g n e eg en w = rw (e, ← eg, ← en) w
 
@@ -412,7 +403,3 @@ pub wrote-session : {l a b c m : List ℕ} {at i j k q : ℕ} (s : Session) → 
     → Wrote b j (allControls s) c k → Wrote c k (otherLines s) m q → Wrote l at (sessionLines s) m q
 unfolding sessionLines
 wrote-session s u v w x = wrote-append u (wrote-append v (wrote-append w x))
-
--- what is absent is 0
-pub header-absent : (m : MaybeMfu) → m ≡ noMfu → noHeader ≡ headerOr m
-header-absent m e = rw e

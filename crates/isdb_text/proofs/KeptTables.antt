@@ -1,7 +1,8 @@
 -- The walk over the kept tables, and what is written of each. Assumes nothing.
-use Prim.Native.Nat.{ℕ, _/_}
+use Prim.Native.Nat.{ℕ, _-_, _/_, _<_}
 use mathlib.Core.Path.{_≡_, refl}
 use mathlib.Core.List.{List, [], _∷_}
+use native.Mathlib.Omega.{arith}
 use borrow.Author.Tests.{ne-eqb}
 use Rattle.isdb_mmt.specs.Formats.Part.{partOf}
 use Rattle.isdb_mmt.specs.Memory.Session.{Session}
@@ -24,6 +25,10 @@ use Rattle.isdb_text.specs.DumpTables.{mptText, pltText, bitText, sdtTex
 use Rattle.isdb_text.specs.DumpKept.{sectionText, tableText, readingText}
 use Rattle.isdb_text.specs.ReplayKept.{nameText, bytesLine, readingLine}
 use Rattle.isdb_text.proofs.Written.{wrote-append}
+
+-- a turn of the walk is one of so many
+pub turn-less : (n : ℕ) → 0 < n → n - 1 < n
+turn-less n h = omega arith
 
 module _ (s : Session) (n : NameReading) where
   module _ (a : ℕ) (e : n ≡ nextControlRead s a) where

@@ -23,13 +23,14 @@ use Rattle.isdb_tlv.specs.declared.cut.Stop.{Stop}
 use Rattle.isdb_tlv.specs.declared.cut.Stop.the-variants.{Clean, Bad, Refused}
 use Rattle.isdb_text.specs.Text.{Wrote, ascii}
 use Rattle.isdb_text.specs.Fill.{filled}
-use Rattle.isdb_text.specs.Listing.{heading, heldOf, mediaLine, mediaText, lineAndAbove, mediaLinesFrom, mediaLines}
+use Rattle.isdb_mmt.specs.Formats.Maybe.{givenU32}
+use Rattle.isdb_text.specs.Listing.{heading, mediaLine, mediaText, lineAndAbove, mediaLinesFrom, mediaLines}
 use Rattle.isdb_text.specs.Listing.{stopText, lastLine, listingOf}
 use Rattle.isdb_text.proofs.Written.{wrote-append, Left, left-less, left-none}
 
 module _ {l m : List ℕ} {at q : ℕ} where
   -- the line of a media id
-  pub wrote-row : (id : ℕ) (x : MediaState) (h : ℕ) → h ≡ heldOf (x .held)
+  pub wrote-row : (id : ℕ) (x : MediaState) (h : ℕ) → h ≡ givenU32 (x .held)
       → Wrote l at
       (filled (ascii "# # # # # # # #\n")
       (id ∷ x .stats .packets ∷ x .stats .«packets_lost» ∷ x .stats .«scrambled_packets» ∷ x .stats .mfus ∷ x .stats .«mfus_dropped»

@@ -1,6 +1,6 @@
 -- Locations and descriptors as `feeddump` writes them.
 use Prim.Native.Nat.{ℕ, _+_, _*_}
-use mathlib.Core.Bool.{Bool, true, false}
+use mathlib.Core.Bool.{Bool}
 use mathlib.Core.List.{List, [], _∷_, _++_}
 use lib.ListN.{length, drop}
 use Rattle.isdb_tlv.specs.Guards.{if_then_else_, _<?_, _≤?_, _=?_}
@@ -41,13 +41,9 @@ use Rattle.isdb_mmt.specs.declared.desc.Descriptor.the-variants.{MpuTimestamp, 
 use Rattle.isdb_mmt.specs.declared.table.nit.TlvStep.{TlvStep}
 use Rattle.isdb_mmt.specs.declared.table.nit.TlvStep.the-variants.{End as noTlv, Descriptor as tlvDescriptor}
 use Rattle.isdb_text.specs.Text.{ascii, decimalOf, hexOf, bytesAsHex}
+use Rattle.isdb_mmt.specs.Formats.Maybe.{flagOf}
 use Rattle.isdb_text.specs.Fill.{filled}
 use Rattle.isdb_text.specs.Elements.{Element, ended, element, texts}
-
--- a flag as a number
-abbrev pub flagOf : Bool → ℕ
-flagOf false = 0
-flagOf true = 1
 
 -- numbers that may be absent
 abbrev pub u16Text : MaybeU16 → List ℕ

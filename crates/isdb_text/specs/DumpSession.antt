@@ -1,25 +1,21 @@
 -- The lines of `feeddump` but for the kept tables: what each packet gave, and what a session holds.
 use Prim.Native.Nat.{ℕ, zero, suc, _+_, _*_, _-_, _%_}
-use mathlib.Core.Bool.{Bool, false}
 use mathlib.Core.List.{List, [], _∷_, _++_}
 use lib.ListN.{length, take, drop}
 use lib.Ieee.{binary64, toBits}
 use Rattle.isdb_tlv.specs.Guards.{if_then_else_, _<?_, _≤?_, _=?_}
 use Rattle.isdb_tlv.specs.Bytes.{be}
 use Rattle.isdb_tlv.specs.Crc.{crcOf}
-use Rattle.isdb_tlv.specs.Fields.{Field, written}
+use Rattle.isdb_tlv.specs.Fields.{written}
 use Rattle.isdb_mmt.specs.Formats.Ntp.{ntpToUnix}
 use Rattle.isdb_mmt.specs.Formats.Part.{partOf}
 use Rattle.isdb_mmt.specs.Memory.Lent.{part, flagByte, namesFrom}
 use Rattle.isdb_mmt.specs.Memory.Layout.{mostMediaIds, mostControlIds, mostMessageArea, tableIds, controlPlaces, controlSize}
 use Rattle.isdb_mmt.specs.Memory.Session.{Session, limitsOf, usedOf, controlPlaceOf}
-use Rattle.isdb_mmt.specs.Pushes.Records.{rowFields, hasHeader, headerOr, hasItem, itemOr}
+use Rattle.isdb_mmt.specs.Formats.Maybe.{givenU16, numberU16, givenU32, numberU32}
+use Rattle.isdb_mmt.specs.Pushes.Records.{heldFields}
 use Rattle.isdb_mmt.specs.Answers.Readings.{countersRead, timeRead, countRead, nextMediaRead, mediaRead, heldRead, assetRead, nextControlRead}
 use Rattle.isdb_mmt.specs.Answers.Readings.{controlRead}
-use Rattle.isdb_mmt.specs.declared.maybe.MaybeU16.{MaybeU16}
-use Rattle.isdb_mmt.specs.declared.maybe.MaybeU16.the-variants.{None as noU16, Some as someU16}
-use Rattle.isdb_mmt.specs.declared.maybe.MaybeU32.{MaybeU32}
-use Rattle.isdb_mmt.specs.declared.maybe.MaybeU32.the-variants.{None as noU32, Some as someU32}
 use Rattle.isdb_mmt.specs.declared.decoder.records.Answer.{Answer}
 use Rattle.isdb_mmt.specs.declared.decoder.counts.AssetStats.{AssetStats}
 use Rattle.isdb_mmt.specs.declared.decoder.counts.Counters.{Counters}
@@ -105,19 +101,6 @@ ntpLine (timeRefused n) = []
 
 -- ---- a media id
 
--- 1 where there is a number; a number that is not there counts as 0
-abbrev pub u32Given : MaybeU32 → ℕ
-u32Given noU32 = 0
-u32Given (someU32 n) = 1
-
-abbrev pub u16Given : MaybeU16 → ℕ
-u16Given noU16 = 0
-u16Given (someU16 n) = 1
-
-abbrev pub u16Or : MaybeU16 → ℕ
-u16Or noU16 = 0
-u16Or (someU16 n) = n
-
 abbrev pub statsLine : ℕ → AssetStats → List ℕ
 statsLine id s =
     filled (ascii "media # packets # packets_lost # scrambled_packets # mfus # ")
@@ -133,31 +116,12 @@ unfoldable pub stateLines : ℕ → MediaState → List ℕ
 stateLines id m =
     statsLine id (m .stats)
     ++ (rangeLine id (m .«mpu_range»)
-    ++ filled (ascii "media # last_sequence ?\n") (id ∷ u32Given (m .sequence) ∷ itemOr (m .sequence) ∷ []))
+    ++ filled (ascii "media # last_sequence ?\n") (id ∷ givenU32 (m .sequence) ∷ numberU32 (m .sequence) ∷ []))
 
 abbrev pub mediaLines : ℕ → MediaReading → List ℕ
 mediaLines id (theMedia m) = stateLines id m
 mediaLines id noMedia = []
 mediaLines id (mediaRefused n) = []
-
--- the flags of a record whose data are not scrambled
-abbrev pub flagsOf : Bool → Bool → Bool → ℕ
-flagsOf rap timed item = flagByte rap + 2 * flagByte false + 4 * flagByte timed + 8 * flagByte item
-
--- the record of a held object as it would be delivered now: document 01's 36 bytes, not scrambled, data start 0
-abbrev pub heldFields : ℕ → HeldObject → List Field
-heldFields id o =
-    rowFields id false
-    (record {
-      «mpu_sequence_number» = o .«mpu_sequence_number»;
-      rap = o .rap;
-      timed = hasHeader (o .mfu);
-      header = headerOr (o .mfu);
-      item = hasItem (o .«item_id»);
-      «item_id» = itemOr (o .«item_id»);
-      length = o .bytes .length;
-    })
-    0
 
 unfoldable pub objectLine : ℕ → HeldObject → List ℕ → List ℕ
 objectLine id o objects =
@@ -173,7 +137,7 @@ heldLine id (heldRefused n) objects = []
 unfoldable pub carriedLine : ℕ → CarriedAsset → List ℕ → List ℕ
 carriedLine id a tables =
     filled (ascii "media # asset_of service ? type %%%%%%%% id ")
-    (id ∷ u16Given (a .«service_id») ∷ u16Or (a .«service_id») ∷ a .asset .«asset_type» ∷ [])
+    (id ∷ givenU16 (a .«service_id») ∷ numberU16 (a .«service_id») ∷ a .asset .«asset_type» ∷ [])
     ++ (bytesAsHex (partOf (partOf tables (a .mpt)) (a .asset .«asset_id»)) ++ ascii "\n")
 
 abbrev pub assetLine : ℕ → AssetReading → List ℕ → List ℕ
@@ -205,7 +169,7 @@ allMedia s = ascendingText mostMediaIds (nextMediaRead s) (mediaText s) 0
 
 abbrev pub controlLine : ℕ → ControlReading → List ℕ
 controlLine id (theControl c) =
-    filled (ascii "control # last_sequence ?\n") (id ∷ u32Given (c .sequence) ∷ itemOr (c .sequence) ∷ [])
+    filled (ascii "control # last_sequence ?\n") (id ∷ givenU32 (c .sequence) ∷ numberU32 (c .sequence) ∷ [])
 controlLine id noControl = []
 controlLine id (controlRefused n) = []
 

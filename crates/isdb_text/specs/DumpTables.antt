@@ -68,7 +68,8 @@ use Rattle.isdb_mmt.specs.declared.table.mpt.MaybeMpt.the-variants.{None as noM
 use Rattle.isdb_text.specs.Text.{ascii, bytesAsHex}
 use Rattle.isdb_text.specs.Fill.{filled}
 use Rattle.isdb_text.specs.Elements.{Element, ended, element, texts}
-use Rattle.isdb_text.specs.DumpDescriptors.{flagOf, u16Text, addressText, locationText, descriptorsText, tlvsText}
+use Rattle.isdb_mmt.specs.Formats.Maybe.{flagOf}
+use Rattle.isdb_text.specs.DumpDescriptors.{u16Text, addressText, locationText, descriptorsText, tlvsText}
 
 -- the key of a section's place, then the kept section's own header
 unfoldable pub keyText : ℕ → SectionHeader → List ℕ

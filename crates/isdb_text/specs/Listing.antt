@@ -3,8 +3,7 @@ use Prim.Native.Nat.{ℕ, zero, suc, _+_}
 use mathlib.Core.List.{List, [], _∷_, _++_}
 use Rattle.isdb_mmt.specs.Memory.Session.{Session}
 use Rattle.isdb_mmt.specs.Answers.Readings.{countersRead, nextMediaRead, mediaRead}
-use Rattle.isdb_mmt.specs.declared.maybe.MaybeU32.{MaybeU32}
-use Rattle.isdb_mmt.specs.declared.maybe.MaybeU32.the-variants.{None as noU32, Some as someU32}
+use Rattle.isdb_mmt.specs.Formats.Maybe.{givenU32}
 use Rattle.isdb_mmt.specs.declared.decoder.readings.CountersReading.{CountersReading}
 use Rattle.isdb_mmt.specs.declared.decoder.readings.CountersReading.the-variants.{Refused as countersRefused, Counters as theCounters}
 use Rattle.isdb_mmt.specs.declared.decoder.readings.NameReading.{NameReading}
@@ -21,16 +20,11 @@ use Rattle.isdb_text.specs.Fill.{filled}
 abbrev pub heading : List ℕ
 heading = ascii "id packets lost scrambled mfus dropped held malformed\n"
 
--- 1 where an object is held
-abbrev pub heldOf : MaybeU32 → ℕ
-heldOf noU32 = 0
-heldOf (someU32 n) = 1
-
 unfoldable pub mediaLine : ℕ → MediaState → List ℕ
 mediaLine id m =
     filled (ascii "# # # # # # # #\n")
     (id ∷ m .stats .packets ∷ m .stats .«packets_lost» ∷ m .stats .«scrambled_packets» ∷ m .stats .mfus ∷ m .stats .«mfus_dropped»
-    ∷ heldOf (m .held) ∷ m .stats .malformed ∷ [])
+    ∷ givenU32 (m .held) ∷ m .stats .malformed ∷ [])
 
 -- the line of a media id, by what is read of it
 abbrev pub mediaText : ℕ → MediaReading → List ℕ

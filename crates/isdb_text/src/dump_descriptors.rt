@@ -4,7 +4,7 @@ ghost use Rattle.isdb_text.specs.Text.{Wrote, bytesAsHex};
 ghost use Rattle.isdb_mmt.specs.Formats.Part.{partOf};
 ghost use Rattle.isdb_text.specs.DumpDescriptors.{accessControlText, addressText, broadcasterNameText};
 ghost use Rattle.isdb_text.specs.DumpDescriptors.{caLocationText, contentText, descriptorLine, descriptorText};
-ghost use Rattle.isdb_text.specs.DumpDescriptors.{descriptorsText, extendedText, flagOf, genresText, hevcText};
+ghost use Rattle.isdb_text.specs.DumpDescriptors.{descriptorsText, extendedText, genresText, hevcText};
 ghost use Rattle.isdb_text.specs.DumpDescriptors.{ipv6Text, languageOf, locationText, mpuText, mpusText};
 ghost use Rattle.isdb_text.specs.DumpDescriptors.{otherText, serviceList, serviceText, servicesText};
 ghost use Rattle.isdb_text.specs.DumpDescriptors.{shortEventText, timestampList, timestampsText, tlvLine};
@@ -24,6 +24,7 @@ use isdb_mmt::location::MaybeLocation;
 use isdb_mmt::maybe::MaybeU16;
 use isdb_mmt::maybe::MaybeU32;
 use isdb_mmt::maybe::MaybeU64;
+use isdb_mmt::maybe::flag;
 use isdb_mmt::part::Part;
 use isdb_mmt::table::nit;
 use isdb_mmt::table::nit::TlvStep;
@@ -35,16 +36,6 @@ use isdb_mmt::timestamp::MpuStep;
 use isdb_mmt::timestamp::TimestampStep;
 use isdb_tlv::bytes;
 use isdb_tlv::ip::Address;
-
-// A flag as a number.
-pub fn flag(b: bool) -> u64
-    ensures { λ r. ⌜ r ≡ flagOf b ⌝ }
-{
-    if b {
-        return 1;
-    }
-    0
-}
 
 // Numbers that may be absent.
 pub fn maybe_u16(out: &mut [u8], at: usize, n: MaybeU16) -> usize

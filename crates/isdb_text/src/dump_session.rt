@@ -3,16 +3,14 @@ ghost use mathlib.Core.Path.{_≡_};
 ghost use mathlib.Core.List.{[], _∷_};
 ghost use Prim.Native.Nat.{_*_, _<_, _≤_};
 ghost use lib.ListN.{length};
-ghost use Rattle.isdb_tlv.specs.Fields.{written};
 ghost use Rattle.isdb_mmt.specs.Memory.Layout.{mostControlIds, mostMessageArea};
 ghost use Rattle.isdb_mmt.specs.Memory.Opening.{lent};
-ghost use Rattle.isdb_mmt.specs.Memory.Lent.{flagByte, flag as flagAt};
-ghost use Rattle.isdb_mmt.specs.Pushes.Records.{rowSize, hasHeader, headerOr, hasItem, itemOr};
+ghost use Rattle.isdb_mmt.specs.Memory.Lent.{flag as flagAt};
 ghost use Rattle.isdb_text.specs.Text.{Wrote, ascii};
 ghost use Rattle.isdb_text.specs.Fill.{filled};
 ghost use Rattle.isdb_text.specs.DumpSession.{dataText, recordText, packetLine, mfuLine, feedCounters, tableCounters};
 ghost use Rattle.isdb_text.specs.DumpSession.{messageCounters, counterLines, unixBits};
-ghost use Rattle.isdb_text.specs.DumpSession.{ntpLine, u32Given, u16Given, u16Or, flagsOf, heldFields, statsLine, rangeLine};
+ghost use Rattle.isdb_text.specs.DumpSession.{ntpLine, statsLine, rangeLine};
 ghost use Rattle.isdb_text.specs.DumpSession.{stateLines};
 ghost use Rattle.isdb_text.specs.DumpSession.{mediaLines, objectLine, heldLine, carriedLine, assetLine, mediaText, allMedia};
 ghost use Rattle.isdb_text.specs.DumpSession.{controlIndex, joinedLine};
@@ -37,11 +35,9 @@ use isdb_mmt::decoder::readings::MediaReading;
 use isdb_mmt::decoder::readings::MediaState;
 use isdb_mmt::decoder::readings::NameReading;
 use isdb_mmt::decoder::readings::TimeReading;
+use isdb_mmt::decoder::records;
 use isdb_mmt::decoder::records::Answer;
-use isdb_mmt::maybe::MaybeU16;
-use isdb_mmt::maybe::MaybeU32;
-use isdb_mmt::mpu::MaybeMfu;
-use isdb_mmt::mpu::MfuHeader;
+use isdb_mmt::maybe;
 use isdb_mmt::ntp;
 use isdb_tlv::bytes;
 use isdb_tlv::crc;
@@ -182,43 +178,6 @@ fn ntp_line(out: &mut [u8], at: usize, r: TimeReading) -> usize
     }
 }
 
-// Whether there is a number, and the number.
-fn u32_given(m: MaybeU32) -> u64
-    ensures { λ r. ⌜ r ≡ u32Given m ⌝ }
-{
-    match m {
-        MaybeU32::None => 0,
-        MaybeU32::Some(_) => 1,
-    }
-}
-
-fn u32_or(m: MaybeU32) -> u32
-    ensures { λ r. ⌜ r ≡ itemOr m ⌝ }
-{
-    match m {
-        MaybeU32::None => 0,
-        MaybeU32::Some(n) => n,
-    }
-}
-
-fn u16_given(m: MaybeU16) -> u64
-    ensures { λ r. ⌜ r ≡ u16Given m ⌝ }
-{
-    match m {
-        MaybeU16::None => 0,
-        MaybeU16::Some(_) => 1,
-    }
-}
-
-fn u16_or(m: MaybeU16) -> u16
-    ensures { λ r. ⌜ r ≡ u16Or m ⌝ }
-{
-    match m {
-        MaybeU16::None => 0,
-        MaybeU16::Some(n) => n,
-    }
-}
-
 fn stats_line(out: &mut [u8], at: usize, id: u32, s: AssetStats) -> usize
     ensures { λ r. ⌜ Wrote (now (out .entry)) at (statsLine id s) (now (out .exit)) r ⌝ }
 {
@@ -270,7 +229,7 @@ fn state_lines(out: &mut [u8], at: usize, id: u32, m: MediaState) -> usize
     let sequence = m.sequence;
     let p = stats_line(out, at, id, stats);
     let q = range_line(out, p, id, range);
-    let values = [id as u64, u32_given(sequence), u32_or(sequence) as u64];
+    let values = [id as u64, sequence.given(), sequence.or_zero() as u64];
     fill::fill(out, q, b"media # last_sequence ?\n", &values)
 }
 
@@ -284,101 +243,11 @@ fn media_lines(out: &mut [u8], at: usize, id: u32, r: MediaReading) -> usize
     }
 }
 
-fn has_header(m: MaybeMfu) -> bool
-    ensures { λ r. ⌜ r ≡ hasHeader m ⌝ }
-{
-    match m {
-        MaybeMfu::None => false,
-        MaybeMfu::Some(_) => true,
-    }
-}
-
-fn header_or(m: MaybeMfu) -> MfuHeader
-    ensures { λ r. ⌜ r ≡ headerOr m ⌝ }
-{
-    match m {
-        MaybeMfu::None => MfuHeader {
-            movie_fragment_sequence_number: 0,
-            sample_number: 0,
-            offset: 0,
-            priority: 0,
-            dependency_counter: 0,
-        },
-        MaybeMfu::Some(h) => h,
-    }
-}
-
-fn has_item(m: MaybeU32) -> bool
-    ensures { λ r. ⌜ r ≡ hasItem m ⌝ }
-{
-    match m {
-        MaybeU32::None => false,
-        MaybeU32::Some(_) => true,
-    }
-}
-
-fn flag_byte(x: bool) -> u64
-    ensures { λ r. ⌜ (r ≡ flagByte x) × (r < 2) ⌝ }
-{
-    if x {
-        return 1;
-    }
-    0
-}
-
-// The flags of a record whose data are not scrambled.
-fn flags_of(rap: bool, timed: bool, item: bool) -> u64
-    ensures { λ r. ⌜ r ≡ flagsOf rap timed item ⌝ }
-{
-    flag_byte(rap) + 2 * flag_byte(false) + 4 * flag_byte(timed) + 8 * flag_byte(item)
-}
-
-// The record of a held object as it would be delivered now.
-fn put_row(row: &mut [u8], id: u32, o: HeldObject)
-    requires { ⌜ length (now row) ≡ rowSize ⌝ }
-    ensures { λ r. ⌜ now (row .exit) ≡ written (heldFields id o) ⌝ }
-{
-    let m = o.mfu;
-    let i = o.item_id;
-    let b = o.bytes;
-    let h = header_or(m);
-    let flags = flags_of(o.rap, has_header(m), has_item(i));
-    let item = u32_or(i);
-    bytes::put4(
-        row,
-        0,
-        0x2114,
-        id as u64,
-        flags,
-        0,
-        o.mpu_sequence_number as u64,
-    );
-    bytes::put4(
-        row,
-        8,
-        0x4441,
-        h.movie_fragment_sequence_number as u64,
-        h.sample_number as u64,
-        h.offset as u64,
-        h.priority as u64,
-    );
-    bytes::put4(
-        row,
-        21,
-        0x1244,
-        h.dependency_counter as u64,
-        0,
-        item as u64,
-        0,
-    );
-    bytes::put_number(row, 32, 4, b.length as u64);
-}
-
 fn object_line(out: &mut [u8], at: usize, id: u32, o: HeldObject, objects: &[u8]) -> usize
     ensures { λ r. ⌜ Wrote (now (out .entry)) at (objectLine id o (now (objects .entry))) (now (out .exit)) r ⌝ }
 {
     let mut row = [0u8; 36];
-    put_row(&mut row, id, o);
+    records::held_row(&mut row, id, o);
     let p = fill::fill(out, at, b"media # held ", &[id as u64]);
     let b = o.bytes;
     record_text(out, p, &row, b.of(objects))
@@ -404,8 +273,8 @@ fn carried_line(out: &mut [u8], at: usize, id: u32, a: CarriedAsset, tables: &[u
     let i = x.asset_id;
     let values = [
         id as u64,
-        u16_given(service),
-        u16_or(service) as u64,
+        service.given(),
+        service.or_zero() as u64,
         x.asset_type as u64,
     ];
     let p = fill::fill(
@@ -510,8 +379,8 @@ fn joined_line(out: &mut [u8], at: usize, id: u32, place: &[u8], area: &[u8]) ->
     ensures { λ r. ⌜ Wrote (now (out .entry)) at (joinedLine id (now (place .entry)) (now (area .entry))) (now (out .exit)) r ⌝ }
 {
     if flag(place, 9) {
-        let long = flag_byte(flag(place, 10));
-        let aggregated = flag_byte(flag(place, 11));
+        let long = maybe::flag(flag(place, 10));
+        let aggregated = maybe::flag(flag(place, 11));
         let length = bytes::get_u32(place, 12) as usize;
         let values = [id as u64, long, aggregated];
         let p = fill::fill(
@@ -562,7 +431,7 @@ fn control_line(out: &mut [u8], at: usize, id: u32, r: ControlReading) -> usize
     match r {
         ControlReading::Control(c) => {
             let sequence = c.sequence;
-            let values = [id as u64, u32_given(sequence), u32_or(sequence) as u64];
+            let values = [id as u64, sequence.given(), sequence.or_zero() as u64];
             fill::fill(out, at, b"control # last_sequence ?\n", &values)
         }
         ControlReading::Nothing => text::place(out, at),

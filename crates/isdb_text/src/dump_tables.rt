@@ -12,7 +12,6 @@ ghost use Rattle.isdb_text.specs.DumpTables.{serviceText, servicesText, 
 ghost use Rattle.isdb_text.specs.DumpTables.{totText};
 use crate::dump_descriptors::address;
 use crate::dump_descriptors::descriptors;
-use crate::dump_descriptors::flag;
 use crate::dump_descriptors::location;
 use crate::dump_descriptors::maybe_u16;
 use crate::dump_descriptors::part_hex;
@@ -21,6 +20,7 @@ use crate::fill;
 use crate::text;
 use isdb_mmt::location::Located;
 use isdb_mmt::location::Location;
+use isdb_mmt::maybe::flag;
 use isdb_mmt::table::amt;
 use isdb_mmt::table::amt::Amt;
 use isdb_mmt::table::amt::AmtResult;

@@ -2,11 +2,12 @@
 // with as many digits; `?` for the next two, `none` where the first is 0 and else the second in decimal. All other bytes
 // stand for themselves.
 ghost use mathlib.Core.Path.{_≡_};
-ghost use lib.ListN.{getD, drop};
+ghost use lib.ListN.{drop};
 ghost use Rattle.isdb_text.specs.Text.{Wrote};
 ghost use Rattle.isdb_text.specs.Fill.{filled, optionalOf};
 ghost use Rattle.isdb_text.specs.Fill.{places as placesOf, spelled as spelledOf, taken as takenOf};
 use crate::text;
+use isdb_mmt::maybe::number_at;
 
 // How many % stand from i on.
 fn places(template: &[u8], i: usize) -> usize
@@ -22,16 +23,6 @@ fn places(template: &[u8], i: usize) -> usize
         k += 1;
     }
     k
-}
-
-// The value at i; one that is not there counts as 0.
-fn value(values: &[u64], i: usize) -> u64
-    ensures { λ r. ⌜ r ≡ getD (now (values .entry)) i 0 ⌝ }
-{
-    if i < values.len() {
-        return values[i];
-    }
-    0
 }
 
 // A number, or that there is none.
@@ -89,7 +80,7 @@ pub fn fill(out: &mut [u8], at: usize, template: &[u8], values: &[u64]) -> usize
         let c = template[i];
         i += 1;
         let k = places(template, i);
-        p = spelled(out, p, c, k, value(values, v), value(values, v + 1));
+        p = spelled(out, p, c, k, number_at(values, v), number_at(values, v + 1));
         v += taken(c, k);
     }
     p

@@ -1,8 +1,7 @@
 // The list of a session's media ids and counts, as `feedlist` writes it.
-ghost use mathlib.Core.Path.{_≡_};
 ghost use Rattle.isdb_mmt.specs.Memory.Opening.{lent};
 ghost use Rattle.isdb_text.specs.Text.{Wrote};
-ghost use Rattle.isdb_text.specs.Listing.{heldOf, mediaLine, mediaText, mediaLines, stopText, lastLine, listingOf};
+ghost use Rattle.isdb_text.specs.Listing.{mediaLine, mediaText, mediaLines, stopText, lastLine, listingOf};
 use crate::fill;
 use crate::text;
 use isdb_mmt::decoder::ids;
@@ -11,18 +10,7 @@ use isdb_mmt::decoder::readings::CountersReading;
 use isdb_mmt::decoder::readings::MediaReading;
 use isdb_mmt::decoder::readings::MediaState;
 use isdb_mmt::decoder::readings::NameReading;
-use isdb_mmt::maybe::MaybeU32;
 use isdb_tlv::cut::Stop;
-
-// Whether an object is held.
-fn held_flag(m: MaybeU32) -> u64
-    ensures { λ r. ⌜ r ≡ heldOf m ⌝ }
-{
-    match m {
-        MaybeU32::None => 0,
-        MaybeU32::Some(_) => 1,
-    }
-}
 
 fn media_row(out: &mut [u8], at: usize, id: u32, m: MediaState) -> usize
     ensures { λ r. ⌜ Wrote (now (out .entry)) at (mediaLine id m) (now (out .exit)) r ⌝ }
@@ -36,7 +24,7 @@ fn media_row(out: &mut [u8], at: usize, id: u32, m: MediaState) -> usize
         s.scrambled_packets,
         s.mfus,
         s.mfus_dropped,
-        held_flag(h),
+        h.given(),
         s.malformed,
     ];
     fill::fill(out, at, b"# # # # # # # #\n", &values)

@@ -4,6 +4,7 @@ use mathlib.Core.Bool.{Bool, true, false, cond}
 use mathlib.Core.Option.{Option, none, some}
 use mathlib.Core.List.{List, [], _∷_}
 use lib.Dec.{eqb}
+use Rattle.isdb_mmt.specs.Formats.Maybe.{flagOf}
 
 module _ {A : Type 0} where
   unfoldable pub find : ℕ → List (ℕ × A) → Option A
@@ -19,8 +20,7 @@ module _ {A : Type 0} where
   orElse d (some a) = a
 
 abbrev pub one : Bool → ℕ
-one true = 1
-one false = 0
+one b = flagOf b
 
 unfoldable pub isSome : {A : Type 0} → Option A → Bool
 isSome none = false

@@ -17,6 +17,7 @@ use Rattle.isdb_mmt.specs.declared.mpu.PayloadHeader.{PayloadHeader}
 use Rattle.isdb_mmt.specs.declared.mpu.MaybeHeader.{MaybeHeader}
 use Rattle.isdb_mmt.specs.declared.mpu.MaybeHeader.the-variants.{None, Some}
 use Rattle.isdb_mmt.specs.declared.mpu.MfuHeader.{MfuHeader}
+use Rattle.isdb_mmt.specs.declared.mpu.MaybeMfu.{MaybeMfu}
 use Rattle.isdb_mmt.specs.declared.mpu.MaybeMfu.the-variants.{None as noMfu, Some as someMfu}
 use Rattle.isdb_mmt.specs.declared.mpu.Unit.{Unit as DataUnit}
 use Rattle.isdb_mmt.specs.declared.mpu.UnitStep.{UnitStep}
@@ -94,6 +95,19 @@ mfuAt s =
       priority = getD s 12 0;
       «dependency_counter» = getD s 13 0;
     }
+
+-- an absent header has all fields 0
+abbrev pub noHeader : MfuHeader
+noHeader =
+    record { «movie_fragment_sequence_number» = 0; «sample_number» = 0; offset = 0; priority = 0; «dependency_counter» = 0 }
+
+abbrev pub hasHeader : MaybeMfu → Bool
+hasHeader noMfu = false
+hasHeader (someMfu h) = true
+
+abbrev pub headerOr : MaybeMfu → MfuHeader
+headerOr noMfu = noHeader
+headerOr (someMfu h) = h
 
 -- a unit of timed data in the bytes from `at` to `end`, and one of untimed data, with an item id of 32 bits
 abbrev pub timedUnit : List ℕ → ℕ → ℕ → DataUnit

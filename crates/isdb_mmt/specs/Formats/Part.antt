@@ -9,3 +9,7 @@ partOf s p = take (p .length) (drop (p .start) s)
 
 abbrev pub partAt : ℕ → ℕ → Part
 partAt start n = record { start = start; length = n }
+
+-- 2^64, how many numbers count bytes
+abbrev pub countOfUsize : ℕ
+countOfUsize = 18446744073709551616

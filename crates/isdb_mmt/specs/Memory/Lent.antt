@@ -6,6 +6,7 @@ use mathlib.Core.List.{List, [], _∷_, _++_}
 use lib.ListN.{length, take, drop}
 use Rattle.isdb_tlv.specs.Guards.{if_then_else_, _=?_, _<?_}
 use Rattle.isdb_tlv.specs.Bytes.{be}
+use Rattle.isdb_mmt.specs.Formats.Maybe.{flagOf}
 use Rattle.isdb_mmt.specs.declared.decoder.place.Found.{Found}
 use Rattle.isdb_mmt.specs.declared.decoder.place.Found.the-variants.{At, Nothing}
 use Rattle.isdb_mmt.specs.declared.decoder.place.PlaceFor.{PlaceFor}
@@ -24,8 +25,7 @@ abbrev pub flag : List ℕ → ℕ → Bool
 flag l at = not (be 1 l at =? 0)
 
 abbrev pub flagByte : Bool → ℕ
-flagByte true = 1
-flagByte false = 0
+flagByte b = flagOf b
 
 -- `n` places of `size` bytes each, from `at` on
 unfoldable pub placesFrom : ℕ → ℕ → ℕ → List ℕ → List (List ℕ)

@@ -10,7 +10,8 @@ use Rattle.isdb_mmt.specs.Decoder.Reassembly.{PartialMessage}
 use Rattle.isdb_mmt.specs.Decoder.Kept.{Kept, KeptTables}
 use Rattle.isdb_mmt.specs.Decoder.Model.{Control as ControlState}
 use Rattle.isdb_mmt.specs.Decoder.Needs.{partialLength}
-use Rattle.isdb_mmt.specs.Pushes.Records.{noHeader, objectFor}
+use Rattle.isdb_mmt.specs.Formats.Mpu.{noHeader}
+use Rattle.isdb_mmt.specs.Pushes.Records.{objectFor}
 use Rattle.isdb_mmt.specs.declared.decoder.head.Latest.{Latest}
 use Rattle.isdb_mmt.specs.declared.decoder.media.Object.{Object}
 use Rattle.isdb_mmt.specs.declared.decoder.media.Media.{Media}

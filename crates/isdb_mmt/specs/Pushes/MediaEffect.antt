@@ -9,7 +9,8 @@ use Rattle.isdb_tlv.specs.Guards.{if_then_else_, _≤?_}
 use Rattle.isdb_mmt.specs.Formats.Part.{partOf}
 use Rattle.isdb_mmt.specs.Decoder.Maps.{one}
 use Rattle.isdb_mmt.specs.Decoder.Objects.{mostObject}
-use Rattle.isdb_mmt.specs.Pushes.Records.{hasHeader, headerOr, hasItem, itemOr}
+use Rattle.isdb_mmt.specs.Formats.Maybe.{hasU32, numberU32}
+use Rattle.isdb_mmt.specs.Formats.Mpu.{hasHeader, headerOr}
 use Rattle.isdb_mmt.specs.Pushes.MediaPush.{noObject}
 use Rattle.isdb_mmt.specs.declared.part.Part.{Part}
 use Rattle.isdb_mmt.specs.declared.mpu.FragmentationIndicator.{FragmentationIndicator}
@@ -29,8 +30,8 @@ unitObject mpu rap u n =
       rap = rap;
       timed = hasHeader (u .mfu);
       header = headerOr (u .mfu);
-      item = hasItem (u .«item_id»);
-      «item_id» = itemOr (u .«item_id»);
+      item = hasU32 (u .«item_id»);
+      «item_id» = numberU32 (u .«item_id»);
       length = n;
     }
 

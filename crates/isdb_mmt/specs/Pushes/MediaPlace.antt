@@ -5,7 +5,7 @@ use Rattle.isdb_tlv.specs.Guards.{if_then_else_, _=?_}
 use Rattle.isdb_mmt.specs.Formats.Part.{partAt}
 use Rattle.isdb_mmt.specs.Decoder.Maps.{one}
 use Rattle.isdb_mmt.specs.Formats.Mpu.{follows, lostFrom, completesOf}
-use Rattle.isdb_mmt.specs.Pushes.Records.{noHeader}
+use Rattle.isdb_mmt.specs.Formats.Mpu.{noHeader}
 use Rattle.isdb_mmt.specs.Pushes.MediaPush.{noObject}
 use Rattle.isdb_mmt.specs.declared.mpu.MfuHeader.{MfuHeader}
 use Rattle.isdb_mmt.specs.declared.mpu.MaybeHeader.{MaybeHeader}

@@ -5,7 +5,7 @@ use mathlib.Core.Bool.{Bool, true, false}
 use mathlib.Core.List.{List, [], _++_}
 use lib.ListN.{length, take, drop, replicate}
 use Rattle.isdb_tlv.specs.Guards.{if_then_else_, _<?_, _=?_}
-use Rattle.isdb_mmt.specs.Memory.Layout.{mostSections, mostControlIds, mostMessageArea, mostTableArea, mostCount, tableIds, sectionPlaces, sectionSize, stateSize}
+use Rattle.isdb_mmt.specs.Memory.Layout.{mostSections, mostControlIds, mostMessageArea, mostCount, tableIds, sectionPlaces, sectionSize, stateSize}
 use Rattle.isdb_mmt.specs.Decoder.Packet.{Bytes, MessagePacket}
 use Rattle.isdb_mmt.specs.Decoder.Reassembly.{PartialMessage, cutOf}
 use Rattle.isdb_mmt.specs.Decoder.Kept.{tableRead}

@@ -5,7 +5,8 @@ ghost use lib.ListN.{length, drop};
 ghost use Rattle.isdb_tlv.specs.Fields.{puts};
 ghost use Rattle.isdb_mmt.specs.Memory.Layout.{tableIds};
 ghost use Rattle.isdb_mmt.specs.Memory.Opening.{lent};
-ghost use Rattle.isdb_mmt.specs.Pushes.PushAll.{countOfUsize, lineSize, lineFields, runOf, nothingTaken, askedOnce, CanPushBehind, PushedBehind, HasRest, CanGo, OnePushed, Going, Turned, AllPushed};
+ghost use Rattle.isdb_mmt.specs.Pushes.PushAll.{lineSize, lineFields, runOf, nothingTaken, AllPushed};
+ghost use Rattle.isdb_mmt.specs.Pushes.PushAllSteps.{askedOnce, CanPushBehind, PushedBehind, HasRest, ProgressFits, OnePushed, AtTurn, Turned};
 ghost use Rattle.isdb_mmt.specs.Pushes.Push.{input};
 ghost use Rattle.isdb_tlv.specs.Guards.{_<?_};
 use crate::decoder;
@@ -15,6 +16,7 @@ use crate::decoder::place;
 use crate::decoder::records::Answer;
 use crate::decoder::records::ROW_SIZE;
 use crate::decoder::room;
+use crate::part;
 use isdb_tlv::bytes;
 use isdb_tlv::cut;
 use isdb_tlv::cut::Cut;
@@ -48,8 +50,8 @@ pub struct Pushes {
 
 // What a turn leads to: a packet more, or the end.
 pub(crate) enum Turn {
-    On(Progress),
-    Off(Halt),
+    Taken(Progress),
+    Halted(Halt),
 }
 
 const LINE_SIZE: usize = 16;
@@ -63,13 +65,6 @@ fn put_line(lines: &mut [u8], at: usize, a: Answer)
     bytes::put4(lines, at, 0x8800, a.records, a.bytes, 0, 0);
 }
 
-// A slice has fewer than 2^64 bytes, which a definition over lists does not know.
-fn measured(s: &[u8])
-    ensures { λ r. ⌜ length (now (s .entry)) < countOfUsize ⌝ }
-{
-    s.len();
-}
-
 // Whether a packet more has no room for its line.
 fn no_line(lines: &[u8], x: Progress) -> bool
     requires { ⌜ lineSize * x .packets ≤ length (now lines) ⌝ }
@@ -79,8 +74,8 @@ fn no_line(lines: &[u8], x: Progress) -> bool
 }
 
 // Behind a packet that was taken.
-fn further(x: Progress, next: usize, a: Answer) -> Progress
-    requires { ⌜ CanGo x a ⌝ }
+fn progress_after(x: Progress, next: usize, a: Answer) -> Progress
+    requires { ⌜ ProgressFits x a ⌝ }
     ensures { λ r. ⌜ r ≡ record { at = next; packets = x .packets + 1; records = x .records + a .records; bytes = x .bytes + a .bytes } ⌝ }
 {
     Progress {
@@ -179,7 +174,7 @@ fn take_turn(
     x: Progress,
     known: bool,
 ) -> Turn
-    requires { ⌜ Going known (now input) (runOf (lent (now state) (now others) (now objects) (now messages) (now tables)) (now rows) (now out) (now lines) x) ⌝ }
+    requires { ⌜ AtTurn known (now input) (runOf (lent (now state) (now others) (now objects) (now messages) (now tables)) (now rows) (now out) (now lines) x) ⌝ }
     ensures { λ r. ⌜ Turned known (now (input .entry)) most (runOf (lent (now (state .entry)) (now (others .entry)) (now (objects .entry)) (now (messages .entry)) (now (tables .entry))) (now (rows .entry)) (now (out .entry)) (now (lines .entry)) x) r (lent (now (state .exit)) (now (others .exit)) (now (objects .exit)) (now (messages .exit)) (now (tables .exit))) (now (rows .exit)) (now (out .exit)) (now (lines .exit)) ⌝ }
 {
     match cut::cut_at(input, most, x.at) {
@@ -190,7 +185,7 @@ fn take_turn(
             next,
         } => {
             if no_line(lines, x) {
-                return Turn::Off(Halt::Full);
+                return Turn::Halted(Halt::Full);
             }
             let b = bytes::part(input, start, length);
             place::octets(b);
@@ -209,13 +204,13 @@ fn take_turn(
                 known,
             );
             if a.number != 0 {
-                return Turn::Off(Halt::Refused(a.number));
+                return Turn::Halted(Halt::Refused(a.number));
             }
-            Turn::On(further(x, next, a))
+            Turn::Taken(progress_after(x, next, a))
         }
-        Cut::End => Turn::Off(Halt::End),
-        Cut::Short => Turn::Off(Halt::Short),
-        Cut::Bad => Turn::Off(Halt::Bad),
+        Cut::End => Turn::Halted(Halt::End),
+        Cut::Short => Turn::Halted(Halt::Short),
+        Cut::Bad => Turn::Halted(Halt::Bad),
     }
 }
 
@@ -233,7 +228,7 @@ fn push_each(
     lines: &mut [u8],
     known: bool,
 ) -> Pushes
-    requires { ⌜ Going known (now input) (runOf (lent (now state) (now others) (now objects) (now messages) (now tables)) (now rows) (now out) (now lines) nothingTaken) ⌝ }
+    requires { ⌜ AtTurn known (now input) (runOf (lent (now state) (now others) (now objects) (now messages) (now tables)) (now rows) (now out) (now lines) nothingTaken) ⌝ }
     ensures { λ r. ⌜ AllPushed (lent (now (state .entry)) (now (others .entry)) (now (objects .entry)) (now (messages .entry)) (now (tables .entry))) (now (input .entry)) most (now (rows .entry)) (now (out .entry)) (now (lines .entry)) r (lent (now (state .exit)) (now (others .exit)) (now (objects .exit)) (now (messages .exit)) (now (tables .exit))) (now (rows .exit)) (now (out .exit)) (now (lines .exit)) ⌝ }
 {
     let mut x = Progress {
@@ -257,8 +252,8 @@ fn push_each(
             x,
             known,
         ) {
-            Turn::On(y) => x = y,
-            Turn::Off(halt) => return Pushes { progress: x, halt },
+            Turn::Taken(y) => x = y,
+            Turn::Halted(halt) => return Pushes { progress: x, halt },
         }
     }
 }
@@ -308,9 +303,9 @@ pub(crate) fn push_all_in(
     place::octets(objects);
     place::octets(messages);
     place::octets(tables);
-    measured(rows);
-    measured(out);
-    measured(lines);
+    part::measured(rows);
+    part::measured(out);
+    part::measured(lines);
     let known = once(state, others, objects, messages, tables, input.len());
     push_each(
         state,

@@ -35,6 +35,7 @@ use crate::decoder::reassembler::MediaOutcome;
 use crate::decoder::records;
 use crate::decoder::records::Answer;
 use crate::decoder::records::ROW_SIZE;
+use crate::maybe;
 use crate::maybe::MaybeU32;
 use crate::mpu;
 use crate::mpu::FragmentationIndicator;
@@ -194,7 +195,7 @@ fn answer_of(
     let t = r.units;
     let k = r.header;
     let passed = passes_on(l.pass_scrambled, scrambled, k);
-    let records = reassembler::one(passed) + t.records;
+    let records = maybe::flag(passed) + t.records;
     let bytes = passed_bytes(passed, n) + t.bytes;
     let number = number_of(
         place_for,

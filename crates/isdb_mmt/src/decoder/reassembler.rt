@@ -3,10 +3,8 @@ ghost use mathlib.Core.Path.{_≡_};
 ghost use mathlib.Core.Bool.{_&&_};
 ghost use Prim.Native.Nat.{_+_, _<_, max};
 ghost use lib.ListN.{length};
-ghost use Rattle.isdb_mmt.specs.Decoder.Maps.{one as oneOf};
 ghost use Rattle.isdb_mmt.specs.Formats.Mpu.{unitsOf};
 ghost use Rattle.isdb_mmt.specs.Memory.Layout.{mostCount};
-ghost use Rattle.isdb_mmt.specs.Pushes.Records.{hasHeader, headerOr, hasItem, itemOr};
 ghost use Rattle.isdb_mmt.specs.Pushes.MediaPush.{noObject};
 ghost use Rattle.isdb_mmt.specs.Pushes.MediaEffect.{unitObject, withLength, completeUnit, headUnit, droppedUnit, grownTo, grownUnit, withUnit, unitsEffect, Ready, Light};
 ghost use Rattle.isdb_mmt.specs.Pushes.MediaPlace.{gapAfter, gapIn, lostIn, headerIf, itemIf, normalObject, begun, startOf, newIn, jumpIn, seenMpu, lastMpu, firstMpu, completesIn, addsOf, summed, placeAfter, StatsWithin};
@@ -14,7 +12,7 @@ ghost use Rattle.isdb_mmt.specs.Pushes.MediaOutcome.{outcomeWith, unitsO
 use crate::decoder::counts::AssetStats;
 use crate::decoder::media::Media;
 use crate::decoder::media::Object;
-use crate::maybe::MaybeU32;
+use crate::maybe::flag;
 use crate::mpu;
 use crate::mpu::FragmentType;
 use crate::mpu::FragmentationIndicator;
@@ -43,15 +41,6 @@ pub(crate) enum UnitsEffect {
     Units(MediaEffect),
 }
 
-pub(crate) fn one(x: bool) -> u64
-    ensures { λ r. ⌜ r ≡ oneOf x ⌝ }
-{
-    if x {
-        return 1;
-    }
-    0
-}
-
 fn larger(a: u64, b: u64) -> u64
     ensures { λ r. ⌜ r ≡ max a b ⌝ }
 {
@@ -61,52 +50,10 @@ fn larger(a: u64, b: u64) -> u64
     a
 }
 
-fn has_header(m: MaybeMfu) -> bool
-    ensures { λ r. ⌜ r ≡ hasHeader m ⌝ }
-{
-    match m {
-        MaybeMfu::None => false,
-        MaybeMfu::Some(h) => true,
-    }
-}
-
-fn header_or(m: MaybeMfu) -> MfuHeader
-    ensures { λ r. ⌜ r ≡ headerOr m ⌝ }
-{
-    match m {
-        MaybeMfu::None => MfuHeader {
-            movie_fragment_sequence_number: 0,
-            sample_number: 0,
-            offset: 0,
-            priority: 0,
-            dependency_counter: 0,
-        },
-        MaybeMfu::Some(h) => h,
-    }
-}
-
-fn has_item(i: MaybeU32) -> bool
-    ensures { λ r. ⌜ r ≡ hasItem i ⌝ }
-{
-    match i {
-        MaybeU32::None => false,
-        MaybeU32::Some(x) => true,
-    }
-}
-
-fn item_or(i: MaybeU32) -> u32
-    ensures { λ r. ⌜ r ≡ itemOr i ⌝ }
-{
-    match i {
-        MaybeU32::None => 0,
-        MaybeU32::Some(x) => x,
-    }
-}
-
 pub(crate) fn no_object() -> Object
     ensures { λ r. ⌜ r ≡ noObject ⌝ }
 {
-    let header = header_or(MaybeMfu::None);
+    let header = MaybeMfu::None.or_zero();
     Object {
         mpu_sequence_number: 0,
         rap: false,
@@ -124,14 +71,14 @@ pub(crate) fn unit_object(mpu: u32, rap: bool, u: Unit, n: u32) -> Object
 {
     let m = u.mfu;
     let i = u.item_id;
-    let header = header_or(m);
+    let header = m.or_zero();
     Object {
         mpu_sequence_number: mpu,
         rap,
-        timed: has_header(m),
+        timed: m.is_some(),
         header,
-        item: has_item(i),
-        item_id: item_or(i),
+        item: i.is_some(),
+        item_id: i.or_zero(),
         length: n,
     }
 }
@@ -159,7 +106,7 @@ fn complete_unit(t: MediaEffect, p: Part, n: u64) -> MediaEffect
     MediaEffect {
         held: false,
         object,
-        drops: t.drops + one(t.held),
+        drops: t.drops + flag(t.held),
         records: t.records + 1,
         bytes: t.bytes + n,
         longest: t.longest,
@@ -174,7 +121,7 @@ fn head_unit(t: MediaEffect, o: Object, p: Part, n: u64) -> MediaEffect
     MediaEffect {
         held: true,
         object: o,
-        drops: t.drops + one(t.held),
+        drops: t.drops + flag(t.held),
         records: t.records,
         bytes: t.bytes,
         longest: larger(t.longest, n),
@@ -324,7 +271,7 @@ fn header_if(there: bool, h: MfuHeader) -> MfuHeader
     if there {
         return h;
     }
-    header_or(MaybeMfu::None)
+    MaybeMfu::None.or_zero()
 }
 
 fn item_if(there: bool, x: u32) -> u32
@@ -545,13 +492,13 @@ fn adds_of(
     AssetStats {
         packets: 1,
         packets_lost: lost_in(p, n) as u64,
-        scrambled_packets: one(scrambled),
+        scrambled_packets: flag(scrambled),
         mfus: t.records,
-        scrambled_mfus: one(both(scrambled, completes_in(h))),
+        scrambled_mfus: flag(both(scrambled, completes_in(h))),
         mfus_dropped: t.drops,
-        mpus: one(new_in(p, h)),
-        mpu_sequence_jumps: one(jump_in(p, h)),
-        malformed: one(bad),
+        mpus: flag(new_in(p, h)),
+        mpu_sequence_jumps: flag(jump_in(p, h)),
+        malformed: flag(bad),
     }
 }
 

@@ -1,16 +1,19 @@
 // MFU records in the output buffers: rows of 36 bytes, and their data one behind the other.
 ghost use mathlib.Core.Path.{_≡_};
-ghost use Prim.Native.Nat.{_+_, _*_, _≤_, _<_};
+ghost use Prim.Native.Nat.{_+_, _*_, _≤_};
 ghost use lib.ListN.{length};
 ghost use Rattle.isdb_tlv.specs.Fields.{written};
-ghost use Rattle.isdb_mmt.specs.Memory.Lent.{over, flagByte};
-ghost use Rattle.isdb_mmt.specs.Pushes.Records.{rowSize, rowFlags, rowFields};
+ghost use Rattle.isdb_mmt.specs.Memory.Lent.{over};
+ghost use Rattle.isdb_mmt.specs.Pushes.Records.{rowSize, recordFlags, recordFields, rowFields, heldFields};
 ghost use Rattle.isdb_mmt.specs.Pushes.Giving.{Outputs, Gave};
 ghost use Rattle.isdb_mmt.specs.Pushes.MediaCommit.{refused as refusedAs, accepted as acceptedAs, OneFits, OnePut};
 use crate::decoder::media::Object;
 use crate::decoder::place;
+use crate::decoder::readings::HeldObject;
 use crate::decoder::reassembler;
+use crate::maybe::flag;
 use crate::mpu;
+use crate::mpu::MfuHeader;
 use crate::mpu::PayloadHeader;
 use crate::mpu::UnitStep;
 use isdb_tlv::bytes;
@@ -44,36 +47,26 @@ pub(crate) fn accepted(records: u64, bytes: u64) -> Answer
     }
 }
 
-fn flag_byte(x: bool) -> u8
-    ensures { λ r. ⌜ (r ≡ flagByte x) × (r < 2) ⌝ }
+fn row_flags(rap: bool, scrambled: bool, timed: bool, item: bool) -> u64
+    ensures { λ r. ⌜ r ≡ recordFlags rap scrambled timed item ⌝ }
 {
-    if x {
-        return 1;
-    }
-    0
+    flag(rap) + 2 * flag(scrambled) + 4 * flag(timed) + 8 * flag(item)
 }
 
-fn row_flags(scrambled: bool, o: Object) -> u8
-    ensures { λ r. ⌜ r ≡ rowFlags scrambled o ⌝ }
-{
-    flag_byte(o.rap) + 2 * flag_byte(scrambled) + 4 * flag_byte(o.timed) + 8 * flag_byte(o.item)
-}
-
-fn put_row_in(p: &mut [u8], id: u16, scrambled: bool, o: Object, start: u32)
+fn put_fields(
+    p: &mut [u8],
+    id: u64,
+    flags: u64,
+    mpu: u32,
+    h: MfuHeader,
+    item: u32,
+    start: u32,
+    n: u64,
+)
     requires { ⌜ length (now p) ≡ rowSize ⌝ }
-    ensures { λ r. ⌜ now (p .exit) ≡ written (rowFields id scrambled o start) ⌝ }
+    ensures { λ r. ⌜ now (p .exit) ≡ written (recordFields id flags mpu h item start n) ⌝ }
 {
-    let h = o.header;
-    let flags = row_flags(scrambled, o);
-    bytes::put4(
-        p,
-        0,
-        0x2114,
-        id as u64,
-        flags as u64,
-        0,
-        o.mpu_sequence_number as u64,
-    );
+    bytes::put4(p, 0, 0x2114, id, flags, 0, mpu as u64);
     bytes::put4(
         p,
         8,
@@ -89,10 +82,10 @@ fn put_row_in(p: &mut [u8], id: u16, scrambled: bool, o: Object, start: u32)
         0x1244,
         h.dependency_counter as u64,
         0,
-        o.item_id as u64,
+        item as u64,
         start as u64,
     );
-    bytes::put_u32(p, 32, o.length);
+    bytes::put4(p, 32, 0x4000, n, 0, 0, 0);
 }
 
 // A row at a place of the rows; its data start at start.
@@ -101,7 +94,38 @@ pub(crate) fn put_row(rows: &mut [u8], at: usize, id: u16, scrambled: bool, o: O
     ensures { λ r. ⌜ now (rows .exit) ≡ over at (written (rowFields id scrambled o start)) (now (rows .entry)) ⌝ }
 {
     let end = at + ROW_SIZE;
-    put_row_in(&mut rows[at..end], id, scrambled, o, start);
+    let h = o.header;
+    let flags = row_flags(o.rap, scrambled, o.timed, o.item);
+    put_fields(
+        &mut rows[at..end],
+        id as u64,
+        flags,
+        o.mpu_sequence_number,
+        h,
+        o.item_id,
+        start,
+        o.length as u64,
+    );
+}
+
+// The record of a held object as it would be delivered now.
+pub fn held_row(row: &mut [u8; 36], id: u32, o: HeldObject)
+    ensures { λ r. ⌜ now (row .exit) ≡ written (heldFields id o) ⌝ }
+{
+    let m = o.mfu;
+    let i = o.item_id;
+    let b = o.bytes;
+    let flags = row_flags(o.rap, false, m.is_some(), i.is_some());
+    put_fields(
+        row,
+        id as u64,
+        flags,
+        o.mpu_sequence_number,
+        m.or_zero(),
+        i.or_zero(),
+        0,
+        b.length as u64,
+    );
 }
 
 // Whole units of a payload with the header x, each a record.

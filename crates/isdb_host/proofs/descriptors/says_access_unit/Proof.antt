@@ -5,8 +5,8 @@ use Rattle.isdb_host.proofs.descriptors.says_access_unit.Tie as tie
 returns : tie.Need-returns
 returns c =
     rw (
-      c .before .before .before .before .before .number-u16 .ensures,
-      c .before .before .before .before .before .before .given-u16 .ensures,
+      c .before .before .before .before .before .or-zero .ensures,
+      c .before .before .before .before .before .before .given .ensures,
     )
     at (c .before .before .says .ensures)
 
@@ -17,6 +17,7 @@ says-access-unit-spec =
     (λ c. search needs)
     (λ c κs. search needs)
     (λ c κs. search needs)
+    (λ c. search needs)
     (λ c. search needs)
     (λ c κs. search needs)
     (λ c. search needs)

@@ -9,7 +9,7 @@ returns c =
     let f = e .before in
     let g = f .before in
     let h = g .before in
-    rw (d .flag .ensures, e .number-u16 .ensures, f .given-u16 .ensures, g .number-u32 .ensures, h .given-u32 .ensures) at (c .before .before .says .ensures)
+    rw (d .flag .ensures, e .or-zero2 .ensures, f .given2 .ensures, g .or-zero .ensures, h .given .ensures) at (c .before .before .says .ensures)
 
 pub says-extended-spec : {M : Type 1} → statement M
 says-extended-spec =
@@ -17,8 +17,10 @@ says-extended-spec =
     (tie.spec
     (λ c κs. search needs)
     (λ c κs. search needs)
+    (λ c. search needs)
     (λ c κs. search needs)
     (λ c κs. search needs)
+    (λ c. search needs)
     (λ c κs. search needs)
     (λ c. search needs)
     (λ c κs. search needs)

@@ -5,7 +5,7 @@ use Rattle.isdb_host.proofs.session.asset_told.Statement.{statement}
 use Rattle.isdb_host.proofs.session.asset_told.Tie as tie
 
 returns : tie.Need-returns
-returns c = replied-as (c .before .before .says .ensures) (rw (c .before .before .before .before .before .before .flag .ensures, c .before .before .before .before .before .before .before .before .before .before .number-u16 .ensures, c .before .before .before .before .before .before .before .before .before .before .before .given-u16 .ensures) refl)
+returns c = replied-as (c .before .before .says .ensures) (rw (c .before .before .before .before .before .before .flag .ensures, c .before .before .before .before .before .before .before .before .before .before .or-zero .ensures, c .before .before .before .before .before .before .before .before .before .before .before .given .ensures) refl)
 
 pub asset-told-spec : {M : Type 1} → statement M
 asset-told-spec =
@@ -14,6 +14,7 @@ asset-told-spec =
     (λ c. search needs)
     (λ c κs. search needs)
     (λ c κs. search needs)
+    (λ c. search needs)
     (λ c. search needs)
     (λ c. search needs)
     (λ c. search needs)

@@ -5,7 +5,7 @@ use Rattle.isdb_host.proofs.session.control_told.Statement.{statement}
 use Rattle.isdb_host.proofs.session.control_told.Tie as tie
 
 returns : tie.Need-returns
-returns c = replied-as (c .before .before .says .ensures) (rw (c .before .before .before .before .before .number-u322 .ensures, c .before .before .before .before .before .before .given-u322 .ensures, c .before .before .before .before .before .before .before .number-u32 .ensures, c .before .before .before .before .before .before .before .before .given-u32 .ensures) refl)
+returns c = replied-as (c .before .before .says .ensures) (rw (c .before .before .before .before .before .or-zero2 .ensures, c .before .before .before .before .before .before .given2 .ensures, c .before .before .before .before .before .before .before .or-zero .ensures, c .before .before .before .before .before .before .before .before .given .ensures) refl)
 
 pub control-told-spec : {M : Type 1} → statement M
 control-told-spec =
@@ -13,8 +13,10 @@ control-told-spec =
     (tie.spec
     (λ c κs. search needs)
     (λ c κs. search needs)
+    (λ c. search needs)
     (λ c κs. search needs)
     (λ c κs. search needs)
+    (λ c. search needs)
     (λ c. search needs)
     (λ c κs. search needs)
     (λ c. search needs)

@@ -5,7 +5,7 @@ use Rattle.isdb_host.proofs.session.media_told.Statement.{statement}
 use Rattle.isdb_host.proofs.session.media_told.Tie as tie
 
 returns : tie.Need-returns
-returns c = replied-as (c .before .before .says .ensures) (rw (c .before .before .before .before .before .number-u322 .ensures, c .before .before .before .before .before .before .given-u322 .ensures, c .before .before .before .before .before .before .before .number-u32 .ensures, c .before .before .before .before .before .before .before .before .given-u32 .ensures, c .before .before .before .before .before .before .before .before .before .last-mpu .ensures, c .before .before .before .before .before .before .before .before .before .before .first-mpu .ensures, c .before .before .before .before .before .before .before .before .before .before .before .given-range .ensures) refl)
+returns c = replied-as (c .before .before .says .ensures) (rw (c .before .before .before .before .before .or-zero2 .ensures, c .before .before .before .before .before .before .given2 .ensures, c .before .before .before .before .before .before .before .or-zero .ensures, c .before .before .before .before .before .before .before .before .given .ensures, c .before .before .before .before .before .before .before .before .before .last-mpu .ensures, c .before .before .before .before .before .before .before .before .before .before .first-mpu .ensures, c .before .before .before .before .before .before .before .before .before .before .before .given-range .ensures) refl)
 
 pub media-told-spec : {M : Type 1} → statement M
 media-told-spec =
@@ -16,8 +16,10 @@ media-told-spec =
     (λ c κs. search needs)
     (λ c κs. search needs)
     (λ c κs. search needs)
+    (λ c. search needs)
     (λ c κs. search needs)
     (λ c κs. search needs)
+    (λ c. search needs)
     (λ c. search needs)
     (λ c κs. search needs)
     (λ c. search needs)

@@ -12,7 +12,7 @@ returns-2 c =
     let f = e .before .before in
     let g = f .before .before .before .before .before in
     let h = g .before .before .before .before in
-    rw (h .r .given .1) (rw (d .number-u16 .ensures, e .given-u16 .ensures, f .flag .ensures, g .packet-id .ensures) at (c .before .before .says .ensures))
+    rw (h .r .given .1) (rw (d .or-zero .ensures, e .given .ensures, f .flag .ensures, g .packet-id .ensures) at (c .before .before .says .ensures))
 
 pub asset-said-spec : {M : Type 1} → statement M
 asset-said-spec =
@@ -28,6 +28,7 @@ asset-said-spec =
     (λ c. search needs)
     (λ c κs. search needs)
     (λ c κs. search needs)
+    (λ c. search needs)
     (λ c. search needs)
     says-requires
     (λ c. search needs)

@@ -11,7 +11,7 @@ returns-2 c =
     let e = d .before in
     let f = e .before .before .before .before .before .before in
     let g = f .before .before .before .before in
-    rw (g .m .given .1) (rw (d .number-u16 .ensures, e .given-u16 .ensures, f .service-id .ensures) at (c .before .before .says .ensures))
+    rw (g .m .given .1) (rw (d .or-zero .ensures, e .given .ensures, f .service-id .ensures) at (c .before .before .says .ensures))
 
 pub mpt-said-spec : {M : Type 1} → statement M
 mpt-said-spec =
@@ -26,6 +26,7 @@ mpt-said-spec =
     (λ c. search needs)
     (λ c κs. search needs)
     (λ c κs. search needs)
+    (λ c. search needs)
     (λ c. search needs)
     says-requires
     (λ c. search needs)

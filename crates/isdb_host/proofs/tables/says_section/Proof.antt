@@ -17,14 +17,14 @@ returns c =
     let m = l .before .before .before .before .before .before .before in
     headed-by-eight (m .args .h) (m .args .more .now)
     (rw (
-      d .number8 .ensures,
-      e .number7 .ensures,
-      f .number6 .ensures,
-      g .number5 .ensures,
-      h .number4 .ensures,
-      i .number3 .ensures,
-      j .number2 .ensures,
-      k .number .ensures,
+      d .number-at8 .ensures,
+      e .number-at7 .ensures,
+      f .number-at6 .ensures,
+      g .number-at5 .ensures,
+      h .number-at4 .ensures,
+      i .number-at3 .ensures,
+      j .number-at2 .ensures,
+      k .number-at .ensures,
       l .flag .ensures,
     )
     at (c .before .before .says .ensures))

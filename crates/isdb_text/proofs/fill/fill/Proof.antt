@@ -30,7 +30,7 @@ loop-again c =
       omega (arith, taken-small _ _ (c .taken .ensures)),
       search needs,
       fill-turn _ _ _ _ _ _ _ _ _ (d .before .before .before .loop .inv .3) (d .before .before .loop-test .taken) refl (d .places .ensures)
-          (c .before .before .before .before .before .value .ensures) (c .before .before .before .before .value2 .ensures)
+          (c .before .before .before .before .before .number-at .ensures) (c .before .before .before .before .number-at2 .ensures)
           (c .before .before .before .spelled .ensures) (c .taken .ensures),
     )
 

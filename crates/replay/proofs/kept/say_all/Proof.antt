@@ -1,5 +1,4 @@
-use Prim.Native.Nat.{ℕ, _-_, _<_}
-use native.Mathlib.Omega.{arith}
+use Rattle.isdb_text.proofs.KeptTables.{turn-less}
 use borrow.Author.Needs.{needs}
 use Rattle.replay.proofs.kept.say_all.Statement.{statement}
 use Rattle.replay.proofs.kept.say_all.Tie as tie
@@ -10,11 +9,8 @@ Inv-loop _ _ _ _ _ _ _ _ _ _ _ _ _ = Unit {0}
 abbrev μ-loop : tie.MeasureT-loop
 μ-loop _ _ _ _ _ _ _ _ _ _ _ _ turns = turns
 
-less : (n : ℕ) → 0 < n → n - 1 < n
-less n h = omega arith
-
 loop-less : tie.Need-loop-less Inv-loop μ-loop
-loop-less c = less _ (c .before .before .loop-test .taken)
+loop-less c = turn-less _ (c .before .before .loop-test .taken)
 
 pub say-all-spec : {M : Type 1} → statement M
 say-all-spec =

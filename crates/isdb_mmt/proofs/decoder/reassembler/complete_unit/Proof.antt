@@ -10,7 +10,7 @@ add-t6 c = search (needs, one-fits)
 
 returns : tie.Need-returns
 unfolding completeUnit
-returns c = rw (c .before .before .before .one .ensures, c .before .before .before .before .no-object .ensures) refl
+returns c = rw (c .before .before .before .flag .ensures, c .before .before .before .before .no-object .ensures) refl
 
 pub complete-unit-spec : {M : Type 1} → statement M
 complete-unit-spec =

@@ -10,7 +10,7 @@ add-t6 c = search (needs, one-fits)
 
 returns : tie.Need-returns
 unfolding headUnit
-returns c = rw (c .larger .ensures, c .before .before .one .ensures) refl
+returns c = rw (c .larger .ensures, c .before .before .flag .ensures) refl
 
 pub head-unit-spec : {M : Type 1} → statement M
 head-unit-spec = tie.close (tie.spec (λ c κs. search needs) add-t6 (λ c κs. search needs) returns)

@@ -6,7 +6,7 @@ use Rattle.isdb_mmt.proofs.decoder.reassembler.unit_object.Tie as tie
 
 returns : tie.Need-returns
 unfolding unitObject
-returns c = rw (c .item-or .ensures, c .before .has-item .ensures, c .before .before .has-header .ensures, c .before .before .before .header-or .ensures) refl
+returns c = rw (c .or-zero2 .ensures, c .before .is-some2 .ensures, c .before .before .is-some .ensures, c .before .before .before .or-zero .ensures) refl
 
 pub unit-object-spec : {M : Type 1} → statement M
 unit-object-spec =
