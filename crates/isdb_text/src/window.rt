@@ -1,4 +1,6 @@
 // A window on the input: the bytes read and not yet used up stand at its front.
+ghost use Prim.Native.Nat.{_<_};
+ghost use lib.ListN.{length};
 ghost use Rattle.isdb_text.specs.Text.{Wrote};
 ghost use Rattle.isdb_text.specs.Window.{leftOf};
 
@@ -17,4 +19,11 @@ pub fn to_front(window: &mut [u8], at: usize, end: usize) -> usize
         j += 1;
     }
     i
+}
+
+// A window has fewer than 2^64 bytes, which a definition over lists does not know.
+pub fn measured(window: &[u8])
+    ensures { λ r. ⌜ length (now (window .entry)) < 18446744073709551616 ⌝ }
+{
+    window.len();
 }
