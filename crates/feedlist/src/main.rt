@@ -1,7 +1,5 @@
 // Lists the media ids of a recording: standard input as TLV packets, pushed into a session.
 ghost use mathlib.Core.Path.{_≡_};
-ghost use Prim.Native.Nat.{_<_};
-ghost use lib.ListN.{length};
 ghost use Rattle.feedlist.specs.Pass.{endsReading, StopsAt};
 use isdb_mmt::decoder;
 use isdb_mmt::decoder::limits::Limits;
@@ -34,13 +32,6 @@ fn limits() -> Limits {
     }
 }
 
-// A slice has fewer than 2^64 bytes, which a definition over lists does not know.
-fn measured(s: &[u8])
-    ensures { λ r. ⌜ length (now (s .entry)) < 18446744073709551616 ⌝ }
-{
-    s.len();
-}
-
 // Whether a packet that is turned down ends the reading: one that found no room behind others finds it when they are let go.
 fn stops(number: u8, packets: usize) -> bool
     ensures { λ r. ⌜ r ≡ endsReading number packets ⌝ }
@@ -65,7 +56,7 @@ fn pass(
 ) -> Passed
     ensures { λ r. ⌜ StopsAt (now (window .entry)) r ⌝ }
 {
-    measured(window);
+    window::measured(window);
     let mut at: usize = 0;
     loop {
         let rest = bytes::rest(window, at);
