@@ -1,7 +1,7 @@
 use Prim.Native.Nat.{_-_, _≤_}
 use mathlib.Core.Path.{_≡_}
 use borrow.Author.Needs.{needs}
-use Rattle.isdb_text.specs.DumpPackets.{toldOf, progressAt}
+use Rattle.isdb_text.specs.DumpPackets.{progressAt}
 use Rattle.isdb_text.proofs.PacketWalk.{walk-begins, walk-on, walk-done}
 use Rattle.feeddump.specs.Pass.{mostBytes}
 use Rattle.feeddump.proofs.call_lines.Statement.{statement}
