@@ -1,8 +1,15 @@
-// Lists everything that a recording holds: standard input as TLV packets, pushed into a session one by one.
+// Lists everything that a recording holds: standard input as TLV packets, pushed into a session.
 mod tables;
 
+ghost use mathlib.Core.Path.{_≡_};
+ghost use Rattle.isdb_text.specs.DumpPackets.{toldOf, progressAt};
+ghost use Rattle.feeddump.specs.Pass.{mostBytes, StopsAt};
 use isdb_mmt::decoder;
 use isdb_mmt::decoder::limits::Limits;
+use isdb_mmt::decoder::many::Progress;
+use isdb_mmt::decoder::many::Pushes;
+use isdb_mmt::part;
+use isdb_text::dump_packets;
 use isdb_text::dump_session;
 use isdb_text::window;
 use isdb_tlv::bytes;
@@ -21,6 +28,12 @@ struct Passed {
     packets: u64,
     text: usize,
     bad: bool,
+}
+
+// How far the packets of a call are written: the place in the text, and where the packet behind them stands.
+struct Told {
+    text: usize,
+    behind: Progress,
 }
 
 fn limits() -> Limits {
@@ -50,59 +63,57 @@ fn make_room(text: &[u8; 65536], at: usize) -> usize {
     write_text(text, at)
 }
 
-// The lines of so many records, of which there are at most 4,096.
-fn mfu_lines(
+// The lines of a packet of a call, which stands at x, and of the records up to those of the next, at y.
+fn packet_lines(
     text: &mut [u8; 65536],
     at: usize,
+    first: u64,
+    input: &[u8],
     rows: &[u8; 147456],
     data: &[u8; 262144],
-    records: u64,
+    lines: &[u8; 65536],
+    a: Pushes,
+    x: Progress,
+    y: Progress,
 ) -> usize {
-    let mut p = at;
-    let mut i: usize = 0;
-    while i < 4096 {
-        if records <= i as u64 {
-            return p;
-        }
+    let mut p = make_room(text, at);
+    p = dump_packets::packet_line(text, p, first, input, MOST, lines, a, x);
+    let mut i = x.records;
+    while i < y.records {
         p = make_room(text, p);
-        p = dump_session::mfu_line(text, p, bytes::part(rows, i * 36, 36), data);
+        p = dump_packets::record_line(text, p, rows, data, x, i);
         i += 1;
     }
     p
 }
 
-// Pushes a packet and writes what it gave.
-fn take_packet(
-    state: &mut [u8; 13144],
-    others: &mut [u64; 256],
-    objects: &mut [u8; 2097152],
-    messages: &mut [u8; 1048576],
-    tables: &mut [u8; 1196032],
-    rows: &mut [u8; 147456],
-    data: &mut [u8; 262144],
+// The lines of all packets of a call that are to be written. The first has the number first.
+fn call_lines(
     text: &mut [u8; 65536],
     at: usize,
-    number: u64,
-    kind: u8,
-    packet: &[u8],
-) -> usize {
-    let a = decoder::push(
-        state,
-        others,
-        objects,
-        messages,
-        tables,
-        kind,
-        packet,
-        rows,
-        data,
-    );
-    let p = make_room(text, at);
-    let q = dump_session::packet_line(text, p, number, kind, packet.len() as u64, a);
-    mfu_lines(text, q, rows, data, a.records)
+    first: u64,
+    input: &[u8],
+    rows: &[u8; 147456],
+    data: &[u8; 262144],
+    lines: &[u8; 65536],
+    a: Pushes,
+) -> Told
+    ensures { λ r. ⌜ r .behind ≡ progressAt (now (input .entry)) mostBytes (now (lines .entry)) a (toldOf a) ⌝ }
+{
+    let n = dump_packets::told(a);
+    let mut p = at;
+    let mut x = dump_packets::start();
+    let mut k: usize = 0;
+    while k < n {
+        let y = dump_packets::behind(input, MOST, lines, a, x);
+        p = packet_lines(text, p, first, input, rows, data, lines, a, x, y);
+        x = y;
+        k += 1;
+    }
+    Told { text: p, behind: x }
 }
 
-// Takes the packets of a window, one after the other.
+// Pushes the packets of a window, and writes the lines of each.
 fn pass(
     state: &mut [u8; 13144],
     others: &mut [u64; 256],
@@ -111,15 +122,19 @@ fn pass(
     tables: &mut [u8; 1196032],
     rows: &mut [u8; 147456],
     data: &mut [u8; 262144],
+    lines: &mut [u8; 65536],
     text: &mut [u8; 65536],
     window: &[u8],
     packets: u64,
     place: usize,
-) -> Passed {
+) -> Passed
+    ensures { λ r. ⌜ StopsAt (now (window .entry)) r ⌝ }
+{
+    part::measured(window);
     let mut at: usize = 0;
     let mut n = packets;
     let mut p = place;
-    while at < window.len() {
+    loop {
         match cut::cut_at(window, MOST, at) {
             Cut::Packet {
                 kind,
@@ -127,33 +142,35 @@ fn pass(
                 length,
                 next,
             } => {
-                let packet = bytes::part(window, start, length);
-                p = take_packet(
+                let rest = bytes::rest(window, at);
+                let a = decoder::push_all(
                     state,
                     others,
                     objects,
                     messages,
                     tables,
+                    rest,
+                    MOST,
                     rows,
                     data,
-                    text,
-                    p,
-                    n,
-                    kind,
-                    packet,
+                    lines,
                 );
-                n = std::num::wrapping_add_u64(n, 1);
-                at = next;
+                let t = call_lines(text, p, n, rest, rows, data, lines, a);
+                let x = t.behind;
+                p = t.text;
+                n = std::num::wrapping_add_u64(n, x.packets as u64);
+                at = at + x.at;
             }
             Cut::Bad => return stopped(at, n, p, true),
             Cut::Short => return stopped(at, n, p, false),
             Cut::End => return stopped(at, n, p, false),
         }
     }
-    stopped(at, n, p, false)
 }
 
-fn stopped(at: usize, packets: u64, text: usize, bad: bool) -> Passed {
+fn stopped(at: usize, packets: u64, text: usize, bad: bool) -> Passed
+    ensures { λ r. ⌜ r ≡ record { at = at; packets = packets; text = text; bad = bad } ⌝ }
+{
     Passed {
         at,
         packets,
@@ -180,6 +197,7 @@ fn read_all(
     tables: &mut [u8; 1196032],
     rows: &mut [u8; 147456],
     data: &mut [u8; 262144],
+    lines: &mut [u8; 65536],
     text: &mut [u8; 65536],
     window: &mut [u8; 131072],
 ) -> usize {
@@ -202,6 +220,7 @@ fn read_all(
             tables,
             rows,
             data,
+            lines,
             text,
             w,
             packets,
@@ -253,6 +272,7 @@ fn main() {
     let mut tables = [0u8; 1196032];
     let mut rows = [0u8; 147456];
     let mut data = [0u8; 262144];
+    let mut lines = [0u8; 65536];
     let mut text = [0u8; 65536];
     let mut window = [0u8; 131072];
     open_session(&mut state, &mut others, &objects, &messages, &tables);
@@ -264,6 +284,7 @@ fn main() {
         &mut tables,
         &mut rows,
         &mut data,
+        &mut lines,
         &mut text,
         &mut window,
     );

@@ -29,7 +29,7 @@ use Rattle.isdb_mmt.specs.Pushes.MediaOutcome.{outcomeWith, outcomeOfUni
 use Rattle.isdb_mmt.specs.Pushes.Giving.{Outputs, Gave}
 use Rattle.isdb_mmt.specs.Pushes.MediaCommit.{placeIn, passesOn, fitsNumber, numberOf, accepted, answerOf, CanCommitAll, CanTake, Committed, stateAfter, CommittedAll, CanPushMedia}
 use Rattle.isdb_mmt.specs.Pushes.Push.{Input, input, CanTakePacket, PacketPushed, Pushed}
-use Rattle.isdb_mmt.specs.Pushes.PushAll.{MayBeKnown}
+use Rattle.isdb_mmt.specs.Pushes.PushAllSteps.{MayBeKnown}
 use Rattle.isdb_mmt.specs.Pushes.Plain.{payloadStart, isMpu, isUnit, unitBytes, isNext, plainHeader, nextOf, NextAt, CanStorePlain, CanPushUnit, WholeUnit, UnitPushed, CanTryPlain, PlainPushed}
 use Rattle.isdb_mmt.specs.declared.mpu.FragmentType.the-variants.{Mfu}
 use Rattle.isdb_mmt.specs.declared.mpu.FragmentationIndicator.the-variants.{Complete}

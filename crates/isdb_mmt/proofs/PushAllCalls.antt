@@ -25,7 +25,7 @@ use Rattle.isdb_mmt.specs.Memory.Opening.{openedSession}
 use Rattle.isdb_mmt.specs.Memory.Octets.{Octets, Lent}
 use Rattle.isdb_mmt.specs.Pushes.Records.{rowSize, rowsFrom, dataFrom, readRows}
 use Rattle.isdb_mmt.specs.Pushes.Push.{Input, packetOf, asks, Reply, replyOf}
-use Rattle.isdb_mmt.specs.Pushes.PushAll.{lineSize, Run, Ran, ran, inputAt, onward, haltAt, pushedEach}
+use Rattle.isdb_mmt.specs.Pushes.PushAll.{lineSize, Run, Ran, ran, inputAt, afterPacket, haltAt, pushedEach}
 use Rattle.isdb_mmt.specs.Theorems.Calls.{Call, push, read, after, pushes, accepted, handed, AllBytes, decoder}
 use Rattle.isdb_mmt.specs.Theorems.PushAllCalls.{Batch, startOf, packetsIn, endOf, callsOver, callsOf, allRows, allData, allLines, recordCount, dataCount, refusals, refusal, PushAllIsPushes, readEach, RecordsHanded, AnyCall, one, many, afterAny, flat, AnyBytes, Demand3WithMany}
 use Rattle.isdb_mmt.specs.declared.decoder.many.Halt.{Halt}
@@ -135,7 +135,7 @@ module _ (c : Run) (p : TlvPacket) where
       })
 
   module _ (z : asks (c .session) x ≡ 0) (h : Settled c) where
-    settled-on : Settled (onward c p y)
+    settled-on : Settled (afterPacket c p y)
     settled-on =
         let q = reply-within (c .session) x z in
         let d : rowSize * (c .progress .records + y .records) ≡ rowSize * c .progress .records + rowSize * y .records = omega arith in
@@ -144,7 +144,7 @@ module _ (c : Run) (p : TlvPacket) where
           out = within (c .progress .bytes) (c .out) (y .out) (y .bytes) (h .out) (q .1);
         }
 
-    came-on : (e : Ran) (s′ : Session) (es : List (Input × Reply)) → Came (onward c p y) e s′ es → Came c e s′ ((x, y) ∷ es)
+    came-on : (e : Ran) (s′ : Session) (es : List (Input × Reply)) → Came (afterPacket c p y) e s′ es → Came c e s′ ((x, y) ∷ es)
     unfolding allRows allData allLines accepted recordCount dataCount refusals
     came-on e s′ es w =
         let k = rowSize * c .progress .records in
@@ -181,7 +181,7 @@ module _ (input : Bytes) (most : ℕ) where
       either (eqb (asks (c .session) (inputAt c p)) 0)
       (λ t.
       let z = eqb-true (asks (c .session) (inputAt c p)) 0 t in
-      rw (f, t) (came-on c p z h _ _ _ (came (onward c p (replyOf (c .session) (inputAt c p))) ps (settled-on c p z h))))
+      rw (f, t) (came-on c p z h _ _ _ (came (afterPacket c p (replyOf (c .session) (inputAt c p))) ps (settled-on c p z h))))
       (λ n. rw (f, n, leaves-same (c .session) (inputAt c p) n) (came-refused c p n)))
 
 module _ (s : Session) (b : Batch) where
@@ -237,7 +237,7 @@ calls-bytes c (p ∷ ps) o =
     either (ltb (length (c .lines)) (lineSize * c .progress .packets + lineSize)) (λ t. rw t tt)
     (λ f.
     either (eqb (asks (c .session) (inputAt c p)) 0)
-    (λ t. rw (f, t) (o .0, calls-bytes (onward c p (replyOf (c .session) (inputAt c p))) ps (o .1)))
+    (λ t. rw (f, t) (o .0, calls-bytes (afterPacket c p (replyOf (c .session) (inputAt c p))) ps (o .1)))
     (λ n. rw (f, n) (o .0, tt)))
 
 -- ---- the records are read back off the buffers that the call leaves
@@ -283,7 +283,7 @@ each-read c (p ∷ ps) h o r q =
     (λ t.
     let z = eqb-true (asks s x) 0 t in
     let y = replyOf s x in
-    let c′ = onward c p y in
+    let c′ = afterPacket c p y in
     let es = pushes decoder (c′ .session) (callsOver c′ ps) in
     let w = reply-within s x z in
     let l : Lent (c′ .session) = rw (leaves-taken s x t) (push-lent s h x (o .0) z) in

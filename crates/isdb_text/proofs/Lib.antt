@@ -10,3 +10,6 @@ pub mod Elements
 pub mod DumpWhole
 pub mod Lists
 pub mod Dumped
+pub mod PacketLines
+pub mod PacketWalk
+pub mod PacketsTold

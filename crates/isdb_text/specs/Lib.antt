@@ -9,6 +9,8 @@ pub mod DumpTables
 pub mod DumpWhole
 pub mod Listing
 pub mod DumpSession
+pub mod DumpPackets
+pub mod PacketsTold
 pub mod KeptTables
 pub mod DumpKept
 pub mod ReplayKept

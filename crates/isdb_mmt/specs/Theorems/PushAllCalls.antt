@@ -15,7 +15,7 @@ use Rattle.isdb_mmt.specs.Memory.Opening.{openedSession}
 use Rattle.isdb_mmt.specs.Memory.Octets.{Octets, Lent}
 use Rattle.isdb_mmt.specs.Pushes.Records.{rowSize, readRows}
 use Rattle.isdb_mmt.specs.Pushes.Push.{Input, asks, Reply, replyOf}
-use Rattle.isdb_mmt.specs.Pushes.PushAll.{lineSize, lineFields, Run, runOf, nothingTaken, inputAt, onward, Ran, pushedEach, AllPushed}
+use Rattle.isdb_mmt.specs.Pushes.PushAll.{lineSize, lineFields, Run, runOf, nothingTaken, inputAt, afterPacket, Ran, pushedEach, AllPushed}
 use Rattle.isdb_mmt.specs.Theorems.Calls.{Call, push, after, pushes, accepted, handed, AllBytes, decoder, After}
 use Rattle.isdb_mmt.specs.declared.decoder.limits.Limits.{Limits}
 use Rattle.isdb_mmt.specs.declared.decoder.many.Pushes.{Pushes}
@@ -47,7 +47,7 @@ callsOver c [] = []
 callsOver c (p ∷ ps) =
     if length (c .lines) <? lineSize * c .progress .packets + lineSize then []
     else if asks (c .session) (inputAt c p) =? 0
-    then push (inputAt c p) ∷ callsOver (onward c p (replyOf (c .session) (inputAt c p))) ps
+    then push (inputAt c p) ∷ callsOver (afterPacket c p (replyOf (c .session) (inputAt c p))) ps
     else push (inputAt c p) ∷ []
 
 abbrev pub callsOf : Session → Batch → List Call

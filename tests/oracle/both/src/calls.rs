@@ -127,6 +127,11 @@ unsafe extern "C" {
         messages_len: usize, tables: *mut u8, tables_len: usize, kind: u8, data: *const u8, data_len: usize, rows: *mut u8,
         rows_len: usize, out: *mut u8, out_len: usize, v: *mut u64,
     ) -> u8;
+    fn isdb_push_all(
+        state: *mut u8, state_len: usize, others: *mut u64, objects: *mut u8, objects_len: usize, messages: *mut u8,
+        messages_len: usize, tables: *mut u8, tables_len: usize, input: *const u8, input_len: usize, most: usize, rows: *mut u8,
+        rows_len: usize, out: *mut u8, out_len: usize, lines: *mut u8, lines_len: usize, v: *mut u64,
+    ) -> u8;
     fn isdb_crc32(b: *const u8, b_len: usize) -> u32;
     fn isdb_ntp_to_unix(t: u64) -> f64;
 }
@@ -172,5 +177,18 @@ impl Memory {
             )
         });
         told.map(|v| (v[0] as usize, v[1] as usize))
+    }
+
+    /// How far a call for many packets came: the place, packets, records, bytes, why it ended, and the number of a packet turned down.
+    pub fn push_all(&mut self, input: &[u8], most: usize, rows: &mut [u8], out: &mut [u8], lines: &mut [u8]) -> Said {
+        let Memory { state, others, objects, messages, tables } = self;
+        // SAFETY: as above.
+        said("isdb_push_all", 6, |v| unsafe {
+            isdb_push_all(
+                state.as_mut_ptr(), state.len(), others.as_mut_ptr(), objects.as_mut_ptr(), objects.len(), messages.as_mut_ptr(),
+                messages.len(), tables.as_mut_ptr(), tables.len(), input.as_ptr(), input.len(), most, rows.as_mut_ptr(), rows.len(),
+                out.as_mut_ptr(), out.len(), lines.as_mut_ptr(), lines.len(), v,
+            )
+        })
     }
 }

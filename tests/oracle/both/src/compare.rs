@@ -6,14 +6,14 @@ use crate::feed::{Area, Feed, Step};
 use crate::layout::{Head, STATE_BYTES};
 use crate::random::Random;
 use crate::shadow::{Needs, Shadow};
-use crate::{questions, seen};
+use crate::{all, questions, seen};
 use isdb_mmt::decoder::Decoder;
 use isdb_mmt::desc::split_errors;
 use isdb_mmt::mpu::Mfu;
 use isdb_tlv::tlv::{Packet, PacketType};
 
 /// What the outputs hold before a push; every byte that no record takes must hold it after.
-pub struct Canvas(Vec<u8>);
+pub struct Canvas(pub Vec<u8>);
 
 impl Canvas {
     pub fn new() -> Canvas {
@@ -43,7 +43,7 @@ pub struct Run<'a> {
     pub written: bool,
 }
 
-fn lent(feed: &Feed) -> Memory {
+pub fn lent(feed: &Feed) -> Memory {
     let mut r = Random::new(feed.fill.unwrap_or(0));
     let mut buffer = |n: usize| if feed.fill.is_some() { r.bytes(n + feed.slack) } else { vec![0; n + feed.slack] };
     let [objects, messages, tables] = feed.limits.areas().unwrap().map(|n| n as usize);
@@ -73,6 +73,32 @@ fn row(m: &Mfu, start: usize) -> [u8; 36] {
     b[28..32].copy_from_slice(&(start as u32).to_be_bytes());
     b[32..].copy_from_slice(&(m.data.len() as u32).to_be_bytes());
     b
+}
+
+/// The bytes of an area; the counts have none.
+fn area(m: &mut Memory, area: Area) -> Option<&mut Vec<u8>> {
+    match area {
+        Area::Others => None,
+        Area::State => Some(&mut m.state),
+        Area::Objects => Some(&mut m.objects),
+        Area::Messages => Some(&mut m.messages),
+        Area::Tables => Some(&mut m.tables),
+    }
+}
+
+/// What someone else writes.
+pub fn write(m: &mut Memory, step: &Step) {
+    match step {
+        Step::Write(Area::Others, at, b) => m.others[*at] = u64::from_be_bytes(b[..].try_into().unwrap()),
+        Step::Write(of, at, b) => {
+            let of = area(m, *of).into_iter().flatten().skip(*at);
+            of.zip(b).for_each(|(x, &y)| *x = y);
+        }
+        // a state that was lent shorter may not have these bytes
+        Step::Copy(from, to, n) if from.max(to) + n <= m.state.len() => m.state.copy_within(*from..from + n, *to),
+        Step::Shorten(of, n) => area(m, *of).into_iter().for_each(|b| b.truncate(b.len().saturating_sub(*n))),
+        _ => {}
+    }
 }
 
 impl<'a> Run<'a> {
@@ -172,31 +198,9 @@ impl<'a> Run<'a> {
         self.untouched(36 * self.mfus.len(), bytes);
     }
 
-    /// The bytes of an area; the counts have none.
-    fn area(&mut self, area: Area) -> Option<&mut Vec<u8>> {
-        let m = &mut self.memory;
-        match area {
-            Area::Others => None,
-            Area::State => Some(&mut m.state),
-            Area::Objects => Some(&mut m.objects),
-            Area::Messages => Some(&mut m.messages),
-            Area::Tables => Some(&mut m.tables),
-        }
-    }
-
     /// From here on the session is not what the calls left.
     fn write(&mut self, step: &Step) {
-        match step {
-            Step::Write(Area::Others, at, b) => self.memory.others[*at] = u64::from_be_bytes(b[..].try_into().unwrap()),
-            Step::Write(area, at, b) => {
-                let of = self.area(*area).into_iter().flatten().skip(*at);
-                of.zip(b).for_each(|(x, &y)| *x = y);
-            }
-            // a state that was lent shorter may not have these bytes
-            Step::Copy(from, to, n) if from.max(to) + n <= self.memory.state.len() => self.memory.state.copy_within(*from..from + n, *to),
-            Step::Shorten(area, n) => self.area(*area).into_iter().for_each(|b| b.truncate(b.len().saturating_sub(*n))),
-            _ => {}
-        }
+        write(&mut self.memory, step);
         self.covered.corrupted += u64::from(!self.written);
         self.written = true;
     }
@@ -239,4 +243,5 @@ pub fn run(feed: &Feed, canvas: &Canvas, covered: &mut Covered, each: bool) {
         }
     }
     run.end();
+    all::compare(feed, canvas, covered);
 }

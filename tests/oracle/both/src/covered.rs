@@ -25,6 +25,8 @@ pub struct Covered {
     pub corrupted: u64,
     pub taken_corrupted: u64,
     pub looks: u64,
+    /// Calls for many packets, by why they ended.
+    pub calls: [u64; 5],
     pub openings: [u64; 5],
     /// The longest object, message and table that a packet held, joined or kept.
     pub longest: [usize; 3],
@@ -77,7 +79,7 @@ impl fmt::Display for Covered {
         SORTS.iter().zip(self.kept).try_for_each(|(name, n)| write!(f, " {name}:{n}"))?;
         write!(f, ", {} tables walked, {} apart, {} assets, {} looks", self.walked, self.apart, self.assets, self.looks)?;
         write!(f, ", {} corrupted sessions, which then took {} packets", self.corrupted, self.taken_corrupted)?;
-        write!(f, ", openings refused")?;
+        write!(f, ", calls for many packets by how they ended {:?}, openings refused", self.calls)?;
         (1..=4).try_for_each(|n| write!(f, " {n}:{}", self.openings[n]))?;
         let [object, message, table] = self.longest;
         write!(f, ", longest object {object} message {message} table {table}")?;

@@ -4,6 +4,7 @@
 //!     both feed SEED NUMBER        prints a feed of that seed, and what it comes to
 //!     both large                   the largest objects and messages
 //!     both list SEED BYTES         feeds of that seed as the list that the program `replay` takes, at most so many bytes
+mod all;
 mod apart;
 mod calls;
 mod compare;
