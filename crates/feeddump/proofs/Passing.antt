@@ -15,6 +15,7 @@ use Rattle.isdb_tlv.proofs.Guards.{either}
 use Rattle.isdb_tlv.proofs.Cutting.{moved, cut-drop, end-bad, end-short, end-clean, end-here, over-end}
 use Rattle.isdb_mmt.specs.Decoder.Packet.{Bytes}
 use Rattle.isdb_mmt.specs.Memory.Session.{Session}
+use Rattle.isdb_mmt.specs.Formats.Part.{countOfUsize}
 use Rattle.isdb_mmt.specs.Pushes.PushAll.{AllPushed}
 use Rattle.isdb_mmt.specs.declared.decoder.many.Progress.{Progress}
 use Rattle.isdb_mmt.specs.declared.decoder.many.Pushes.{Pushes}
@@ -29,11 +30,11 @@ differ e = absurd (omega arith)
 
 -- what is known before each call: the place is inside, and the packets in front of it are whole
 pub record Passing (w : Bytes) (at : ℕ) : Type 0 where
-  pub long : length w < 18446744073709551616
+  pub long : length w < countOfUsize
   pub inside : at ≤ length w
   pub end : recordingOf w mostBytes .end ≡ recordingFrom w mostBytes at .end
 
-pub passing-first : (w : Bytes) → length w < 18446744073709551616 → Passing w 0
+pub passing-first : (w : Bytes) → length w < countOfUsize → Passing w 0
 unfolding recordingOf
 passing-first w l = record { long = l; inside = omega arith; end = refl }
 
