@@ -224,11 +224,11 @@ start-last p n = go (p .held) (gapIn p n)
     go false g = refl
 
 -- one record is its row and its data
-one-row : (r : Rec) → rowsFrom 0 (r ∷ []) ≡ rowOf r 0
+pub one-row : (r : Rec) → rowsFrom 0 (r ∷ []) ≡ rowOf r 0
 unfolding rowsFrom
 one-row r = append-nil (rowOf r 0)
 
-one-data : (r : Rec) → dataFrom (r ∷ []) ≡ r .mfu .bytes
+pub one-data : (r : Rec) → dataFrom (r ∷ []) ≡ r .mfu .bytes
 unfolding dataFrom
 one-data r = append-nil (r .mfu .bytes)
 

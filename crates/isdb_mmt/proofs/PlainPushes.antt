@@ -4,15 +4,18 @@ use mathlib.Core.Path.{_≡_, refl, sym, ap, _∙_, subst}
 use mathlib.Core.Bool.{Bool, true, false, not, cond, _&&_}
 use mathlib.Core.List.{List, [], _∷_}
 use native.Mathlib.Omega.{arith}
-use lib.ListN.{length, drop, length-drop}
+use lib.ListN.{length, getD, drop, length-drop}
 use borrow.Author.Tests.{le-ltb, eq-eqb}
 use mir.Val.{Fits}
-use mir.Syntax.{w64}
+use mir.Syntax.{w32}
 use Rattle.isdb_tlv.specs.Guards.{_<?_}
 use Rattle.isdb_tlv.specs.Bytes.{be}
+use Rattle.isdb_tlv.specs.Fields.{written}
 use Rattle.isdb_tlv.specs.declared.mmtp.Header.{Header}
 use Rattle.isdb_mmt.specs.Decoder.Packet.{Bytes, Packet, media, mediaOf, classify}
 use Rattle.isdb_mmt.specs.Decoder.Maps.{one}
+use Rattle.isdb_mmt.specs.Decoder.Objects.{Rec}
+use Rattle.isdb_mmt.specs.Memory.Lent.{over}
 use Rattle.isdb_mmt.specs.Formats.Part.{partOf}
 use Rattle.isdb_mmt.specs.Formats.Mpu.{payloadHeaderFields, payloadHeader, declaredOf, unitsOf, follows, lostFrom}
 use Rattle.isdb_mmt.specs.Memory.Layout.{tableIds}
@@ -21,16 +24,16 @@ use Rattle.isdb_mmt.specs.Memory.Session.{Session, limitsOf, usedOf, cou
 use Rattle.isdb_mmt.specs.Memory.Check.{PlacesThere, sound, Sound, lengthsOf}
 use Rattle.isdb_mmt.specs.Memory.Octets.{Octets}
 use Rattle.isdb_mmt.specs.Memory.Opening.{lent}
-use Rattle.isdb_mmt.specs.Pushes.Records.{rowSize}
+use Rattle.isdb_mmt.specs.Pushes.Records.{objectFor, rowSize, rowFields, rowsFrom, dataFrom}
 use Rattle.isdb_mmt.specs.Pushes.MediaPush.{noObject, mediaPlaceFor, MediaPushed}
 use Rattle.isdb_mmt.specs.Pushes.MediaEffect.{completeUnit, withUnit, withEachUnit, unitsEffect}
 use Rattle.isdb_mmt.specs.Pushes.MediaPlace.{gapIn, lostIn, begun, startOf, newIn, jumpIn, firstMpu, addsOf, summed, statsAfter, placeAfter, StatsWithin}
 use Rattle.isdb_mmt.specs.Pushes.MediaOutcome.{outcomeWith, outcomeOfUnits, unitsOutcome, outcomeBy, mediaOutcome}
-use Rattle.isdb_mmt.specs.Pushes.Giving.{Outputs, Gave}
+use Rattle.isdb_mmt.specs.Pushes.Giving.{unitRec, unitRecs, Gave}
 use Rattle.isdb_mmt.specs.Pushes.MediaCommit.{placeIn, passesOn, fitsNumber, numberOf, accepted, answerOf, CanCommitAll, CanTake, Committed, stateAfter, CommittedAll, CanPushMedia}
 use Rattle.isdb_mmt.specs.Pushes.Push.{Input, input, CanTakePacket, PacketPushed, Pushed}
 use Rattle.isdb_mmt.specs.Pushes.PushAllSteps.{MayBeKnown}
-use Rattle.isdb_mmt.specs.Pushes.Plain.{payloadStart, isMpu, isUnit, unitBytes, isNext, plainHeader, nextOf, NextAt, CanStorePlain, CanPushUnit, WholeUnit, UnitPushed, CanTryPlain, PlainPushed}
+use Rattle.isdb_mmt.specs.Pushes.Plain.{payloadStart, isMpu, isUnit, unitBytes, isNext, plainHeader, nextOf, NextAt, CanStorePlain, CanPushUnit, WholeUnit, RoomForUnit, UnitPushed, CanTryPlain, PlainPushed}
 use Rattle.isdb_mmt.specs.declared.mpu.FragmentType.the-variants.{Mfu}
 use Rattle.isdb_mmt.specs.declared.mpu.FragmentationIndicator.the-variants.{Complete}
 use Rattle.isdb_mmt.specs.declared.mpu.PayloadHeader.{PayloadHeader}
@@ -41,6 +44,8 @@ use Rattle.isdb_mmt.specs.declared.decoder.head.Used.{Used}
 use Rattle.isdb_mmt.specs.declared.decoder.place.Found.{Found}
 use Rattle.isdb_mmt.specs.declared.decoder.place.Found.the-variants.{At, Nothing}
 use Rattle.isdb_mmt.specs.declared.decoder.place.PlaceFor.the-variants.{Own}
+use Rattle.isdb_mmt.specs.declared.mpu.Unit.{Unit as DataUnit}
+use Rattle.isdb_mmt.specs.declared.decoder.media.Object.{Object}
 use Rattle.isdb_mmt.specs.declared.decoder.media.Media.{Media}
 use Rattle.isdb_mmt.specs.declared.decoder.reassembler.MediaEffect.{MediaEffect}
 use Rattle.isdb_mmt.specs.declared.decoder.reassembler.MediaOutcome.{MediaOutcome}
@@ -50,11 +55,11 @@ use Rattle.isdb_mmt.specs.declared.decoder.plain.Plain.the-variants.{No,
 use Rattle.isdb_mmt.proofs.Guards.{yes}
 use Rattle.isdb_mmt.proofs.Names.{true-not-false}
 use Rattle.isdb_mmt.proofs.Checks.{sound-session, is-sound}
-use Rattle.isdb_mmt.proofs.MediaCommits.{can-take, complete-can, complete-done, commit-taken}
+use Rattle.isdb_mmt.proofs.MediaCommits.{one-row, one-data, can-take, complete-done, commit-taken}
 use Rattle.isdb_mmt.proofs.MediaPushes.{push-index, can-all, pushed-yes}
 use Rattle.isdb_mmt.proofs.Taking.{media-pushed}
 use Rattle.isdb_mmt.proofs.Pushing.{push-five, push-taken}
-use Rattle.isdb_mmt.proofs.PlainTests.{MpuFacts, mpu-facts, plain-media, UnitFacts, unit-facts, unit-header, header-facts, declared-long, unitHere, one-unit, unit-length, NextFacts, next-facts, own-id}
+use Rattle.isdb_mmt.proofs.PlainTests.{MpuFacts, mpu-facts, plain-media, UnitFacts, unit-facts, unit-header, header-facts, declared-long, unit-there, unitHere, one-unit, unit-data, unit-length, header-at, NextFacts, next-facts, own-id}
 
 -- ---- what it does to its place
 
@@ -183,17 +188,20 @@ module _ (st ot ob me ta : List ℕ) (h : Header) (b rows out : Bytes) (i : ℕ)
   abbrev y : PayloadHeader
   y = payloadHeaderFields b
 
+  long : 22 ≤ length (declaredOf b)
+  long = unit-there b (can .unit)
+
   abbrev t : MediaEffect
-  t = completeUnit (begun false noObject 0) (unitHere b (can .unit) .«data») (length (partOf (declaredOf b) (unitHere b (can .unit) .«data»)))
+  t = completeUnit (begun false noObject 0) (unitHere (declaredOf b) long .«data») (length (partOf (declaredOf b) (unitHere (declaredOf b) long .«data»)))
 
   outcome-here : r ≡ outcomeWith false true (payload y) t
   unfolding mediaOutcome outcomeBy unitsOutcome unitsEffect withEachUnit withUnit
   outcome-here =
       let g = header-facts b (can .unit) in
-      rw (start-is m (h .sequence) (be 4 b 4) (whole .next) y (g .mpu), can .clear, unit-header b (can .unit), g .kind, g .whole, g .timed, g .single, one-unit b (can .unit))
+      rw (start-is m (h .sequence) (be 4 b 4) (whole .next) y (g .mpu), can .clear, unit-header b (can .unit), g .kind, g .whole, g .timed, g .single, one-unit (declaredOf b) long)
 
-  data-long : length (partOf (declaredOf b) (unitHere b (can .unit) .«data»)) ≡ k - 20
-  data-long = unit-length b (can .unit)
+  data-long : length (partOf (declaredOf b) (unitHere (declaredOf b) long .«data»)) ≡ k - 20
+  data-long = unit-length (declaredOf b) long ∙ omega (arith, declared-long b (can .unit))
 
   abbrev l : Limits
   l = limitsOf st
@@ -229,9 +237,15 @@ module _ (st ot ob me ta : List ℕ) (h : Header) (b rows out : Bytes) (i : ℕ)
   canTake = can-take (i * l .«mfu_area») (l .«pass_scrambled») m r h b ob rows out (canAll .commit) y (ap (λ (z : MediaOutcome). z .header) outcome-here) (ap (λ (z : MediaOutcome). z .taken) outcome-here)
 
   module _ (q : Bytes) (eq : q ≡ declaredOf b) where
-    pub can-give : Outputs q (x .timed) (x .aggregated) (h .«packet_id») (x .«mpu_sequence_number») (h .rap) rows out
+    pub can-give : RoomForUnit q rows out
     can-give =
-        rw x-is (complete-can y (i * l .«mfu_area») m r h b ob rows out canTake (header-facts b (can .unit) .whole) q eq)
+        let n = declared-long b (can .unit) in
+        rw eq (record {
+          long = long;
+          short = omega (arith, n, unit-facts b (can .unit) .there, can .can .long);
+          row = whole .row;
+          room = omega (arith, n, whole .room);
+        })
 
     pub can-store : CanStorePlain st i
     can-store =
@@ -251,16 +265,79 @@ module _ (st ot ob me ta : List ℕ) (h : Header) (b rows out : Bytes) (i : ℕ)
         rw (outcome-here, can .clear, ← id-is)
         (place-next m (h .sequence) (be 4 b 4) (whole .next) y (header-facts b (can .unit) .mpu) t refl refl refl refl)
 
-    pub unit-pushed : (rows′ out′ : Bytes) → Gave q (x .timed) (x .aggregated) (h .«packet_id») (x .«mpu_sequence_number») (h .rap) rows out rows′ out′
+    pub unit-pushed : (rows′ out′ : Bytes) → Gave q true false (h .«packet_id») (x .«mpu_sequence_number») (h .rap) rows out rows′ out′
         → (st′ : List ℕ) → st′ ≡ stateAfter st (nextOf (mediaAt st i) (h .sequence)) (Own i)
         → MediaPushed (lent st ot ob me ta) rows out (mediaOf h b) 0 1 (unitBytes b) (lent st′ ot ob me ta) rows′ out′
     unit-pushed rows′ out′ g st′ es =
         let done : Committed (i * l .«mfu_area») (l .«pass_scrambled») m h b ob rows out ob rows′ out′ =
         commit-taken (i * l .«mfu_area») (l .«pass_scrambled») m r h b ob rows out (canAll .commit) y (ap (λ (z : MediaOutcome). z .header) outcome-here) (ap (λ (z : MediaOutcome). z .taken) outcome-here) ob rows′ out′
-        (complete-done y (i * l .«mfu_area») m r h b ob rows out canTake (header-facts b (can .unit) .whole) q eq rows′ out′ (rw x-is at g)) in
+        (complete-done y (i * l .«mfu_area») m r h b ob rows out canTake (header-facts b (can .unit) .whole) q eq rows′ out′ (rw (header-facts b (can .unit) .timed, header-facts b (can .unit) .single) (rw x-is at g))) in
         rw answer-is at
         (pushed-yes st ot ob me ta h b rows out (can .can) l refl (Own i) own m place-here r refl a refl zero-is st′ ob rows′ out′
         (record { commit = done; store = es ∙ ap (λ (z : Media). stateAfter st z (Own i)) (sym after-is) }))
+
+-- ---- its record
+
+module _ (q rows out : Bytes) (can : RoomForUnit q rows out) (mpu id : ℕ) (rap : Bool) where
+  abbrev unit : DataUnit
+  unit = unitHere q (can .long)
+
+  abbrev rec : Rec
+  rec = unitRec id mpu rap q unit
+
+  recs-are : unitRecs id mpu rap q (unitsOf q true false) ≡ rec ∷ []
+  unfolding unitRecs
+  recs-are = ap (unitRecs id mpu rap q) (one-unit q (can .long))
+
+  module _ (d : Bytes) (ed : d ≡ drop 22 q) where
+    pub length-cast : Fits w32 (length d)
+    length-cast = record { fits = omega (arith, ap length ed, length-drop 22 q, can .short) }
+
+    pub row-there : 0 + rowSize ≤ length rows
+    row-there = can .row
+
+    pub data-there : 0 + length d ≤ length out
+    data-there = omega (arith, ap length ed, length-drop 22 q, can .room)
+
+    -- the object that a row tells of, with the numbers of the unit's header
+    abbrev told : ℕ → ℕ → ℕ → Object
+    told a b c =
+        record {
+          «mpu_sequence_number» = mpu;
+          rap = rap;
+          timed = true;
+          header =
+              record {
+                «movie_fragment_sequence_number» = a;
+                «sample_number» = b;
+                offset = c;
+                priority = getD q 20 0;
+                «dependency_counter» = getD q 21 0;
+              };
+          item = false;
+          «item_id» = 0;
+          length = length d;
+        }
+
+    data-is : d ≡ rec .mfu .bytes
+    data-is = ed ∙ sym (unit-data q (can .long))
+
+    gave-unit : (rows′ out′ : Bytes)
+        → rows′ ≡ over 0 (written (rowFields id false (told (be 4 q 8) (be 4 q 12) (be 4 q 16)) 0)) rows
+        → out′ ≡ over 0 d out → Gave q true false id mpu rap rows out rows′ out′
+    gave-unit rows′ out′ er eo =
+        let o : objectFor (rec .mfu) ≡ told (be 4 q 8) (be 4 q 12) (be 4 q 16) =
+        λ i. record { «mpu_sequence_number» = mpu; rap = rap; timed = true; header = header-at q (can .long) i; item = false; «item_id» = 0; length = length (sym data-is i) } in
+        record {
+          rowsAre = er ∙ ap (λ (z : Object). over 0 (written (rowFields id false z 0)) rows) (sym o)
+              ∙ ap (λ (z : Bytes). over 0 z rows) (sym (one-row rec)) ∙ ap (λ (z : List Rec). over 0 (rowsFrom 0 z) rows) (sym recs-are);
+          dataAre = eo ∙ ap (λ (z : Bytes). over 0 z out) (data-is ∙ sym (one-data rec)) ∙ ap (λ (z : List Rec). over 0 (dataFrom z) out) (sym recs-are);
+        }
+
+    pub gave-read : (a b c : ℕ) → a ≡ be 4 q 8 → b ≡ be 4 q 12 → c ≡ be 4 q 16 → (rows′ out′ : Bytes)
+        → rows′ ≡ over 0 (written (rowFields id false (told a b c) 0)) rows
+        → out′ ≡ over 0 d out → Gave q true false id mpu rap rows out rows′ out′
+    gave-read a b c ea eb ec rows′ out′ er eo = gave-unit rows′ out′ (rw (ea, eb, ec) at er) eo
 
 -- ---- the packet
 

@@ -9,12 +9,12 @@ use native.Mathlib.Nat.{add-zero, mul-zero, mul-suc}
 use native.Mathlib.Omega.{arith}
 use lib.Dec.{ltb, leb, eqb}
 use lib.ListN.{length, getD, take, drop, length-take, length-drop}
-use lib.Seq.{getD-drop, drop-drop, length-take-le}
+use lib.Seq.{getD-take, getD-drop, drop-drop, take-all, length-take-le}
 use borrow.Author.Tests.{lt-ltb, le-ltb, le-leb, lt-leb, eq-eqb, ne-eqb, ltb-false, leb-false, eqb-true, eqb-false}
 use mir.Val.{Fits}
 use mir.Syntax.{w64}
 use Rattle.isdb_tlv.specs.Bytes.{be}
-use Rattle.isdb_tlv.proofs.Numbers.{be-drop}
+use Rattle.isdb_tlv.proofs.Numbers.{be-take, be-drop}
 use Rattle.isdb_tlv.proofs.Guards.{either}
 use Rattle.isdb_tlv.specs.Walk.{also}
 use Rattle.isdb_tlv.specs.Tlv.{packetType}
@@ -29,8 +29,8 @@ use Rattle.isdb_tlv.specs.declared.mmtp.Scramble.the-variants.{Absent}
 use Rattle.isdb_tlv.specs.declared.mmtp.Parsed.the-variants.{Some as somePacket}
 use Rattle.isdb_mmt.specs.Decoder.Packet.{Bytes, media, mediaOf, byType, mmtpIn, datagramIn, byKind, classify}
 use Rattle.isdb_mmt.specs.Formats.Part.{partOf, partAt}
-use Rattle.isdb_mmt.specs.Formats.Mpu.{fragmentType, indicator, payloadHeaderFields, payloadHeader, declaredOf, timedUnit, unitIn, unitAt, unitStep, unitsFrom, unitsOf, follows}
-use Rattle.isdb_mmt.specs.Memory.Layout.{mostMediaIds, mediaPlaces, mediaSize, heldPlace}
+use Rattle.isdb_mmt.specs.Formats.Mpu.{fragmentType, indicator, payloadHeaderFields, payloadHeader, declaredOf, mfuAt, timedUnit, unitIn, unitAt, unitStep, unitsFrom, unitsOf, follows}
+use Rattle.isdb_mmt.specs.Memory.Layout.{mostMediaIds, usedPlace, mediaPlaces, mediaSize, heldPlace}
 use Rattle.isdb_mmt.specs.Memory.Lent.{part, flag, namesFrom, foundFrom, placeForName}
 use Rattle.isdb_mmt.specs.Memory.Session.{limitsOf, usedOf, mediaPlaceOf, mediaAt}
 use Rattle.isdb_mmt.specs.Memory.Check.{PlacesThere}
@@ -44,7 +44,6 @@ use Rattle.isdb_mmt.specs.declared.mpu.MaybeHeader.the-variants.{Some as
 use Rattle.isdb_mmt.specs.declared.mpu.Unit.{Unit as DataUnit}
 use Rattle.isdb_mmt.specs.declared.mpu.UnitStep.{UnitStep}
 use Rattle.isdb_mmt.specs.declared.mpu.UnitStep.the-variants.{End, Unit as found}
-use Rattle.isdb_mmt.specs.declared.decoder.head.Used.{Used}
 use Rattle.isdb_mmt.specs.declared.decoder.media.Media.{Media}
 use Rattle.isdb_mmt.specs.declared.decoder.place.Found.{Found}
 use Rattle.isdb_mmt.specs.declared.decoder.place.Found.the-variants.{At, Nothing}
@@ -224,20 +223,21 @@ module _ (p : Bytes) (e : isUnit p ≡ true) where
   pub declared-long : length q ≡ be 2 p 0 + 2
   declared-long = length-take-le (be 2 p 0 + 2) p (unit-facts p e .there)
 
+  pub unit-there : 22 ≤ length q
+  unit-there = omega (arith, declared-long, unit-facts p e .whole)
+
+-- the one unit of declared bytes that are long enough for its header
+module _ (q : Bytes) (long : 22 ≤ length q) where
   abbrev pub unitHere : DataUnit
   unitHere = timedUnit q 8 (length q)
 
   first-step : unitStep q true false 8 ≡ found unitHere (length q)
   unfolding unitStep unitAt unitIn
-  first-step =
-      let w = unit-facts p e .whole in
-      rw (le-ltb (length q) 8 (omega (arith, declared-long, w)), le-ltb (length q - 8) 14 (omega (arith, declared-long, w)))
+  first-step = rw (le-ltb (length q) 8 (omega arith), le-ltb (length q - 8) 14 (omega arith))
 
   last-step : unitStep q true false (length q) ≡ End
   unfolding unitStep
-  last-step =
-      let w = unit-facts p e .whole in
-      rw (le-ltb (length q) 8 (omega (arith, declared-long, w)), lt-leb (length q) 8 (omega (arith, declared-long, w)), le-leb (length q) (length q) (omega arith))
+  last-step = rw (le-ltb (length q) 8 (omega arith), lt-leb (length q) 8 (omega arith), le-leb (length q) (length q) (omega arith))
 
   none-behind : unitsFrom q true false (length q) ≡ some []
   none-behind = units-at q true false (length q) ∙ rw last-step
@@ -248,10 +248,24 @@ module _ (p : Bytes) (e : isUnit p ≡ true) where
       units-also q true false 8 (length q) unitHere (found unitHere (length q)) (sym first-step) refl
       ∙ ap (also unitHere) none-behind
 
-  pub unit-length : length (partOf q (unitHere .«data»)) ≡ unitBytes p
-  unit-length =
-      let w = unit-facts p e .whole in
-      length-take-le (length q - 8 - 14) (drop 22 q) (rw length-drop (omega arith)) ∙ omega (arith, declared-long, w)
+  pub unit-data : partOf q (unitHere .«data») ≡ drop 22 q
+  unit-data = take-all (length q - 8 - 14) (drop 22 q) (rw length-drop (omega arith))
+
+  pub unit-length : length (partOf q (unitHere .«data»)) ≡ length q - 22
+  unit-length = ap length unit-data ∙ length-drop 22 q
+
+  -- its header stands at 8
+  pub header-at : mfuAt (take (length q - 8) (drop 8 q))
+      ≡ record { «movie_fragment_sequence_number» = be 4 q 8; «sample_number» = be 4 q 12; offset = be 4 q 16; priority = getD q 20 0; «dependency_counter» = getD q 21 0 }
+  header-at =
+      λ i.
+      record {
+        «movie_fragment_sequence_number» = (be-take 4 (length q - 8) (drop 8 q) 0 (omega arith) ∙ be-drop 4 8 q 0) i;
+        «sample_number» = (be-take 4 (length q - 8) (drop 8 q) 4 (omega arith) ∙ be-drop 4 8 q 4) i;
+        offset = (be-take 4 (length q - 8) (drop 8 q) 8 (omega arith) ∙ be-drop 4 8 q 8) i;
+        priority = (getD-take (length q - 8) (drop 8 q) 12 0 (omega arith) ∙ getD-drop 8 q 12 0) i;
+        «dependency_counter» = (getD-take (length q - 8) (drop 8 q) 13 0 (omega arith) ∙ getD-drop 8 q 13 0) i;
+      }
 
 -- ---- the place
 
@@ -327,16 +341,24 @@ module _ (s : List ℕ) (id i : ℕ) (own : mediaPlaceFor s id ≡ Own i) where
       name-of mediaSize (mediaPlaces + mediaSize * i) s (omega arith) ∙ (rw z at (own-name .1 .1))
 
 -- the code that finds a place
-module _ (s : List ℕ) (can : PlacesThere s) (u : Used) (eu : u ≡ usedOf s) where
-  few : u .«media_ids» ≤ mostMediaIds
-  few = rw eu (can .media)
+module _ (s : List ℕ) (can : PlacesThere s) where
+  pub used-there : usedPlace + 4 ≤ length s
+  used-there = omega (arith, can .long)
 
-  pub places-in : mediaPlaces + u .«media_ids» * mediaSize ≤ length s
-  places-in = omega (arith, few, can .long)
+module _ (s : List ℕ) (can : PlacesThere s) (k : ℕ) (ek : k ≡ be 4 s usedPlace) where
+  k-is : k ≡ usedOf s .«media_ids»
+  unfolding usedOf
+  k-is = ek
 
-  module _ (id : ℕ) (f : Found) (ef : f ≡ foundFrom 0 (namesFrom (u .«media_ids») mediaSize mediaPlaces s) id) (i : ℕ) (at-i : f ≡ At i) where
+  few : k ≤ mostMediaIds
+  few = rw k-is (can .media)
+
+  pub places-in : (4 ≤ mediaSize) × (mediaPlaces + k * mediaSize ≤ length s)
+  places-in = (omega arith, omega (arith, few, can .long))
+
+  module _ (id : ℕ) (f : Found) (ef : f ≡ foundFrom 0 (namesFrom k mediaSize mediaPlaces s) id) (i : ℕ) (at-i : f ≡ At i) where
     index-small : i < mostMediaIds
-    index-small = omega (arith, found-name s mediaSize (u .«media_ids») mediaPlaces 0 id i (sym ef ∙ at-i) .1 .0, few)
+    index-small = omega (arith, found-name s mediaSize k mediaPlaces 0 id i (sym ef ∙ at-i) .1 .0, few)
 
     pub stride-fits : Fits w64 (mediaSize * i)
     stride-fits = record { fits = omega (arith, index-small) }
@@ -348,6 +370,6 @@ module _ (s : List ℕ) (can : PlacesThere s) (u : Used) (eu : u ≡ usedOf s) w
         → (r : Bool) → r ≡ isNext (mediaPlaceOf p) n mpu → r ≡ true → NextAt s id n mpu (At i)
     unfolding mediaPlaceFor
     next-found n mpu p ep r er t = (
-      sym (place-for-old s mediaSize (usedOf s .«media_ids») mediaPlaces (limitsOf s .«media_ids») id f (ef ∙ ap (λ (v : Used). foundFrom 0 (namesFrom (v .«media_ids») mediaSize mediaPlaces s) id) eu) i at-i),
+      sym (place-for-old s mediaSize (usedOf s .«media_ids») mediaPlaces (limitsOf s .«media_ids») id f (ef ∙ ap (λ v. foundFrom 0 (namesFrom v mediaSize mediaPlaces s) id) k-is) i at-i),
       ap (λ (v : List ℕ). isNext (mediaPlaceOf v) n mpu) (sym ep) ∙ sym er ∙ t,
     )

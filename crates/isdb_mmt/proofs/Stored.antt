@@ -4,16 +4,16 @@ use Prim.Native.Nat.{ℕ, _+_, _-_, _≤_, _<_}
 use mathlib.Core.Path.{_≡_, refl, sym, ap, _∙_}
 use mathlib.Core.Bool.{Bool, true, false, not}
 use mathlib.Core.Logic.{_⊎_}
-use mathlib.Core.List.{List, [], _++_, append-nil}
+use mathlib.Core.List.{List, [], _∷_, _++_, append-nil}
 use native.Mathlib.Omega.{arith}
 use lib.Dec.{leb}
-use lib.ListN.{length, take, drop}
+use lib.ListN.{length, take, drop, length-drop}
 use lib.Seq.{length-take-le}
 use borrow.Author.Tests.{leb-true}
 use borrow.Rule.Slice.PartMut.{putMid}
 use Rattle.isdb_tlv.specs.Guards.{_=?_}
-use Rattle.isdb_tlv.specs.Bytes.{be}
-use Rattle.isdb_tlv.specs.Fields.{Field, written, Fit, puts}
+use Rattle.isdb_tlv.specs.Bytes.{be, putBe}
+use Rattle.isdb_tlv.specs.Fields.{Field, field, written, Fit, puts}
 use Rattle.isdb_tlv.proofs.Numbers.{be-drop, be-take}
 use Rattle.isdb_tlv.proofs.Fields.{be-behind, fieldAt, offsetOf, size, read, length-written}
 use Rattle.isdb_mmt.specs.Memory.Lent.{part, over, flag, flagByte}
@@ -41,6 +41,14 @@ filled fs l h e = e ∙ puts-whole fs l h
 -- fields that a call puts into the part of the memory that they fill
 pub sent : (fs : List Field) (at : ℕ) (l : List ℕ) {m : List ℕ} → m ≡ written fs → putMid at (at + size fs - at) l m ≡ over at (written fs) l
 sent fs at l {m} e = lent-at at (size fs) (written fs) m l e (length-written fs)
+
+-- a number that a call puts into the 8 bytes that it fills
+pub long-put : (p v : ℕ) (l m : List ℕ) → p + 8 ≤ length l → m ≡ putBe 8 0 v (take (p + 8 - p) (drop p l)) → putMid p (p + 8 - p) l m ≡ putBe 8 p v l
+long-put p v l m h e =
+    let fs : List Field = field 8 v ∷ [] in
+    let z : p + 8 - p ≡ 8 = omega arith in
+    let k : length (take (p + 8 - p) (drop p l)) ≡ 8 = rw z (length-take-le 8 (drop p l) (rw length-drop (omega arith))) in
+    sent fs p l (filled fs (take (p + 8 - p) (drop p l)) k e) ∙ sym (puts-over fs p l h)
 
 -- ---- what is stored is read back
 

@@ -151,6 +151,13 @@ pub record WholeUnit (s : Session) (h : Header) (p rows out : Bytes) (i : ℕ) (
   pub row : rowSize ≤ length rows
   pub room : unitBytes p ≤ length out
 
+-- room for the record of the one unit that `q` holds behind a payload's header
+pub record RoomForUnit (q rows out : Bytes) : Type 0 where
+  pub long : 22 ≤ length q
+  pub short : length q ≤ 65537
+  pub row : rowSize ≤ length rows
+  pub room : length q - 22 ≤ length out
+
 -- nothing done, or the packet taken
 pub record UnitPushed (s : Session) (h : Header) (p rows out : Bytes) (t : Plain) (s′ : Session) (rows′ out′ : Bytes) : Type 0 where
   pub same : t ≡ No → (s′ ≡ s) × ((rows′ ≡ rows) × (out′ ≡ out))

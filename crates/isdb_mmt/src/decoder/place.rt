@@ -3,7 +3,7 @@
 ghost use mathlib.Core.Path.{_≡_};
 ghost use Prim.Native.Nat.{_+_, _*_, _≤_, _<_};
 ghost use lib.ListN.{length};
-ghost use Rattle.isdb_tlv.specs.Bytes.{be};
+ghost use Rattle.isdb_tlv.specs.Bytes.{be, putBe};
 ghost use Rattle.isdb_mmt.specs.Memory.Lent.{part, over, flag as flagAt, namesFrom, among, distinct, cellOf, amongMarked, foundFrom, placeForName};
 ghost use Rattle.isdb_mmt.specs.Memory.Octets.{Octets};
 use isdb_tlv::bytes;
@@ -28,13 +28,13 @@ pub(crate) enum PlaceFor {
 
 // The first of n places from at on that has the name x.
 pub(crate) fn find(s: &[u8], at: usize, size: usize, n: usize, x: u32) -> Found
-    requires { ⌜ at + n * size ≤ length (now s) ⌝ }
+    requires { ⌜ (4 ≤ size) × (at + n * size ≤ length (now s)) ⌝ }
     ensures { λ r. ⌜ r ≡ foundFrom 0 (namesFrom n size at (now (s .entry))) x ⌝ }
 {
     let mut i = 0;
     let mut p = at;
     while i < n {
-        if bytes::get_u32(s, p) == x {
+        if word(s, p) == x {
             return Found::At(i);
         }
         p += size;
@@ -51,7 +51,7 @@ pub(crate) fn place_for(
     limit: usize,
     x: u32,
 ) -> PlaceFor
-    requires { ⌜ at + n * size ≤ length (now s) ⌝ }
+    requires { ⌜ (4 ≤ size) × (at + n * size ≤ length (now s)) ⌝ }
     ensures { λ r. ⌜ r ≡ placeForName (namesFrom n size at (now (s .entry))) limit x ⌝ }
 {
     match find(s, at, size, n, x) {
@@ -80,6 +80,15 @@ pub(crate) fn word(s: &[u8], p: usize) -> u32
 {
     let end = p + 4;
     bytes::get_u32(&s[p..end], 0)
+}
+
+// A number stored there, likewise.
+pub(crate) fn put_long(s: &mut [u8], p: usize, v: u64)
+    requires { ⌜ p + 8 ≤ length (now s) ⌝ }
+    ensures { λ r. ⌜ now (s .exit) ≡ putBe 8 p v (now (s .entry)) ⌝ }
+{
+    let end = p + 8;
+    bytes::put_u64(&mut s[p..end], 0, v);
 }
 
 fn wide(x: u8) -> u64

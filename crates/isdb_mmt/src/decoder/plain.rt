@@ -2,6 +2,7 @@
 // timed unit, for an id whose place holds no object and whose last packet was the one before it, of the same MPU. Of the place a number and
 // two counts change then. What it leaves and hands out is what `take` would; any other packet is left to it.
 ghost use mathlib.Core.Path.{_≡_};
+ghost use mathlib.Core.Bool.{true, false};
 ghost use Prim.Native.Nat.{_+_, _≤_};
 ghost use mathlib.Core.List.{[], _∷_};
 ghost use lib.ListN.{length};
@@ -12,17 +13,19 @@ ghost use Rattle.isdb_mmt.specs.Memory.Check.{PlacesThere};
 ghost use Rattle.isdb_mmt.specs.Memory.Opening.{lent};
 ghost use Rattle.isdb_mmt.specs.Decoder.Packet.{mediaOf};
 ghost use Rattle.isdb_mmt.specs.Pushes.Push.{input};
+ghost use Rattle.isdb_mmt.specs.Pushes.Giving.{Gave};
 ghost use Rattle.isdb_mmt.specs.Pushes.MediaPush.{MediaPushed};
 ghost use Rattle.isdb_mmt.specs.Pushes.MediaCommit.{stateAfter};
 ghost use Rattle.isdb_mmt.specs.declared.decoder.place.PlaceFor.the-variants.{Own};
-ghost use Rattle.isdb_mmt.specs.Pushes.Plain.{isMpu, isUnit, isNext, plainHeader, nextOf, CanRaise, CanStoreNext, CanStorePlain, NextAt, CanPushUnit, WholeUnit, unitBytes, UnitPushed, CanTryPlain, PlainPushed};
-use crate::decoder::head;
+ghost use Rattle.isdb_mmt.specs.Pushes.Plain.{isMpu, isUnit, isNext, plainHeader, nextOf, CanRaise, CanStoreNext, CanStorePlain, NextAt, CanPushUnit, WholeUnit, unitBytes, RoomForUnit, UnitPushed, CanTryPlain, PlainPushed};
 use crate::decoder::layout::COUNTERS;
 use crate::decoder::layout::HELD;
 use crate::decoder::layout::MEDIA_PLACES;
 use crate::decoder::layout::MEDIA_SIZE;
 use crate::decoder::layout::OBJECT;
 use crate::decoder::layout::STATS;
+use crate::decoder::layout::USED;
+use crate::decoder::media::Object;
 use crate::decoder::place;
 use crate::decoder::place::Found;
 use crate::decoder::place::flag;
@@ -31,6 +34,7 @@ use crate::decoder::records::ROW_SIZE;
 use crate::decoder::take;
 use crate::mpu;
 use crate::mpu::MaybeHeader;
+use crate::mpu::MfuHeader;
 use crate::mpu::PayloadHeader;
 use isdb_tlv::bytes;
 use isdb_tlv::mmtp::FecType;
@@ -108,8 +112,8 @@ fn next_place(s: &[u8], id: u16, n: u32, mpu: u32) -> Found
     requires { ⌜ PlacesThere (now s) ⌝ }
     ensures { λ r. ⌜ NextAt (now (s .entry)) id n mpu r ⌝ }
 {
-    let u = head::media_used(s);
-    match place::find(s, MEDIA_PLACES, MEDIA_SIZE, u.media_ids as usize, id as u32) {
+    let ids = place::word(s, USED);
+    match place::find(s, MEDIA_PLACES, MEDIA_SIZE, ids as usize, id as u32) {
         Found::Nothing => Found::Nothing,
         Found::At(i) => {
             let at = MEDIA_PLACES + MEDIA_SIZE * i;
@@ -125,8 +129,8 @@ fn raise(s: &mut [u8], at: usize)
     requires { ⌜ CanRaise (now s) at ⌝ }
     ensures { λ r. ⌜ now (s .exit) ≡ puts at (field 8 (be 8 (now (s .entry)) at + 1) ∷ []) (now (s .entry)) ⌝ }
 {
-    let n = bytes::get_u64(s, at) + 1;
-    bytes::put_u64(s, at, n);
+    let n = place::long(s, at) + 1;
+    place::put_long(s, at, n);
 }
 
 fn store_next(p: &mut [u8], n: u32)
@@ -152,6 +156,32 @@ fn store_plain(s: &mut [u8], i: usize, n: u32)
     raise(s, COUNTERS);
 }
 
+// The one unit that the declared bytes q hold: one record.
+fn give_unit(q: &[u8], mpu: u32, id: u16, rap: bool, rows: &mut [u8], out: &mut [u8])
+    requires { ⌜ RoomForUnit (now q) (now rows) (now out) ⌝ }
+    ensures { λ r. ⌜ Gave (now (q .entry)) true false id mpu rap (now (rows .entry)) (now (out .entry)) (now (rows .exit)) (now (out .exit)) ⌝ }
+{
+    let header = MfuHeader {
+        movie_fragment_sequence_number: bytes::get_u32(q, 8),
+        sample_number: bytes::get_u32(q, 12),
+        offset: bytes::get_u32(q, 16),
+        priority: q[20],
+        dependency_counter: q[21],
+    };
+    let d = bytes::rest(q, 22);
+    let o = Object {
+        mpu_sequence_number: mpu,
+        rap,
+        timed: true,
+        header,
+        item: false,
+        item_id: 0,
+        length: d.len() as u32,
+    };
+    records::put_row(rows, 0, id, false, o, 0);
+    place::put_bytes(out, 0, d);
+}
+
 // The unit handed out, and what it leaves of the state. What is lent beside the state is not looked at.
 fn commit_unit(
     state: &mut [u8],
@@ -169,7 +199,14 @@ fn commit_unit(
     requires { ⌜ WholeUnit (lent (now state) (now others) (now objects) (now messages) (now tables)) h (now p) (now rows) (now out) i x ⌝ }
     ensures { λ r. ⌜ MediaPushed (lent (now (state .entry)) (now (others .entry)) (now (objects .entry)) (now (messages .entry)) (now (tables .entry))) (now (rows .entry)) (now (out .entry)) (mediaOf h (now (p .entry))) 0 1 (unitBytes (now (p .entry))) (lent (now (state .exit)) (now (others .entry)) (now (objects .entry)) (now (messages .entry)) (now (tables .entry))) (now (rows .exit)) (now (out .exit)) ⌝ }
 {
-    records::give_units(mpu::declared(p), x, h.packet_id, h.rap, rows, out);
+    give_unit(
+        mpu::declared(p),
+        x.mpu_sequence_number,
+        h.packet_id,
+        h.rap,
+        rows,
+        out,
+    );
     store_plain(state, i, h.sequence);
 }
 

@@ -3,8 +3,8 @@ use borrow.Author.Needs.{needs}
 use Rattle.isdb_mmt.proofs.decoder.plain.commit_unit.Statement.{statement}
 use Rattle.isdb_mmt.proofs.decoder.plain.commit_unit.Tie as tie
 
-give-units-requires : tie.Need-give-units-requires
-give-units-requires c κs = search (needs, can-give)
+give-unit-requires : tie.Need-give-unit-requires
+give-unit-requires c κs = search (needs, can-give)
 
 store-plain-requires : tie.Need-store-plain-requires
 store-plain-requires c κs = search (needs, can-store)
@@ -17,7 +17,7 @@ commit-unit-spec =
     tie.close
     (tie.spec
     (λ c κs. search needs)
-    give-units-requires
+    give-unit-requires
     store-plain-requires
     (λ c. search needs)
     (λ c. search needs)

@@ -1,16 +1,16 @@
-use Rattle.isdb_mmt.proofs.PlainTests.{places-in, stride-fits, place-fits, next-found}
+use Rattle.isdb_mmt.proofs.PlainTests.{used-there, places-in, stride-fits, place-fits, next-found}
 use borrow.Author.Needs.{needs}
 use Rattle.isdb_mmt.proofs.decoder.plain.next_place.Statement.{statement}
 use Rattle.isdb_mmt.proofs.decoder.plain.next_place.Tie as tie
 
-media-used-requires : tie.Need-media-used-requires
-media-used-requires c κs = search needs
+word-requires : tie.Need-word-requires
+word-requires c κs = search (needs, used-there)
 
 cast-find : tie.Need-cast-find
 cast-find c = search needs
 
 find-requires : tie.Need-find-requires
-find-requires c κs = search (needs, places-in)
+find-requires c κs = places-in _ (c .before .before .pre) _ (c .word .ensures)
 
 enum-told : tie.Need-enum-told
 enum-told c = search needs
@@ -43,7 +43,7 @@ pub next-place-spec : {M : Type 1} → statement M
 next-place-spec =
     tie.close
     (tie.spec
-    media-used-requires
+    word-requires
     cast-find
     find-requires
     enum-told
