@@ -1,7 +1,7 @@
 -- A plain packet pushed: it is answered, committed and handed out as every media packet is. Assumes nothing.
 use Prim.Native.Nat.{ℕ, _+_, _-_, _*_, _≤_, _<_}
 use mathlib.Core.Path.{_≡_, refl, sym, ap, _∙_, subst}
-use mathlib.Core.Bool.{Bool, true, false, not, cond, _&&_}
+use mathlib.Core.Bool.{Bool, true, false, not, _&&_}
 use mathlib.Core.List.{List, [], _∷_}
 use native.Mathlib.Omega.{arith}
 use lib.ListN.{length, getD, drop, length-drop}
@@ -17,32 +17,28 @@ use Rattle.isdb_mmt.specs.Decoder.Maps.{one}
 use Rattle.isdb_mmt.specs.Decoder.Objects.{Rec}
 use Rattle.isdb_mmt.specs.Memory.Lent.{over}
 use Rattle.isdb_mmt.specs.Formats.Part.{partOf}
-use Rattle.isdb_mmt.specs.Formats.Mpu.{payloadHeaderFields, payloadHeader, declaredOf, unitsOf, follows, lostFrom}
+use Rattle.isdb_mmt.specs.Formats.Mpu.{payloadHeaderFields, payloadHeader, declaredOf, unitsOf}
 use Rattle.isdb_mmt.specs.Memory.Layout.{tableIds}
-use Rattle.isdb_mmt.specs.Memory.Lent.{namesFrom, foundFrom, placeForName}
-use Rattle.isdb_mmt.specs.Memory.Session.{Session, limitsOf, usedOf, countersOf, mediaPlaceOf, mediaAt}
-use Rattle.isdb_mmt.specs.Memory.Check.{PlacesThere, sound, Sound, lengthsOf}
+use Rattle.isdb_mmt.specs.Memory.Session.{Session, limitsOf, countersOf, mediaAt}
+use Rattle.isdb_mmt.specs.Memory.Check.{sound, lengthsOf}
 use Rattle.isdb_mmt.specs.Memory.Octets.{Octets}
 use Rattle.isdb_mmt.specs.Memory.Opening.{lent}
 use Rattle.isdb_mmt.specs.Pushes.Records.{objectFor, rowSize, rowFields, rowsFrom, dataFrom}
 use Rattle.isdb_mmt.specs.Pushes.MediaPush.{noObject, mediaPlaceFor, MediaPushed}
 use Rattle.isdb_mmt.specs.Pushes.MediaEffect.{completeUnit, withUnit, withEachUnit, unitsEffect}
-use Rattle.isdb_mmt.specs.Pushes.MediaPlace.{gapIn, lostIn, begun, startOf, newIn, jumpIn, firstMpu, addsOf, summed, statsAfter, placeAfter, StatsWithin}
-use Rattle.isdb_mmt.specs.Pushes.MediaOutcome.{outcomeWith, outcomeOfUnits, unitsOutcome, outcomeBy, mediaOutcome}
+use Rattle.isdb_mmt.specs.Pushes.MediaPlace.{gapIn, lostIn, begun, startOf, newIn, jumpIn, firstMpu, addsOf, summed, statsAfter, placeAfter}
+use Rattle.isdb_mmt.specs.Pushes.MediaOutcome.{outcomeWith, unitsOutcome, outcomeBy, mediaOutcome}
 use Rattle.isdb_mmt.specs.Pushes.Giving.{unitRec, unitRecs, Gave}
-use Rattle.isdb_mmt.specs.Pushes.MediaCommit.{placeIn, passesOn, fitsNumber, numberOf, accepted, answerOf, CanCommitAll, CanTake, Committed, stateAfter, CommittedAll, CanPushMedia}
-use Rattle.isdb_mmt.specs.Pushes.Push.{Input, input, CanTakePacket, PacketPushed, Pushed}
+use Rattle.isdb_mmt.specs.Pushes.MediaCommit.{placeIn, passesOn, fitsNumber, numberOf, accepted, answerOf, CanCommitAll, CanTake, Committed, stateAfter}
+use Rattle.isdb_mmt.specs.Pushes.Push.{Input, input, PacketPushed, Pushed}
 use Rattle.isdb_mmt.specs.Pushes.PushAllSteps.{MayBeKnown}
 use Rattle.isdb_mmt.specs.Pushes.Plain.{payloadStart, isMpu, isUnit, unitBytes, isNext, plainHeader, nextOf, NextAt, CanStorePlain, CanPushUnit, WholeUnit, RoomForUnit, UnitPushed, CanTryPlain, PlainPushed}
-use Rattle.isdb_mmt.specs.declared.mpu.FragmentType.the-variants.{Mfu}
-use Rattle.isdb_mmt.specs.declared.mpu.FragmentationIndicator.the-variants.{Complete}
 use Rattle.isdb_mmt.specs.declared.mpu.PayloadHeader.{PayloadHeader}
 use Rattle.isdb_mmt.specs.declared.mpu.MaybeHeader.{MaybeHeader}
 use Rattle.isdb_mmt.specs.declared.mpu.MaybeHeader.the-variants.{None as noPayload, Some as payload}
 use Rattle.isdb_mmt.specs.declared.decoder.limits.Limits.{Limits}
-use Rattle.isdb_mmt.specs.declared.decoder.head.Used.{Used}
 use Rattle.isdb_mmt.specs.declared.decoder.place.Found.{Found}
-use Rattle.isdb_mmt.specs.declared.decoder.place.Found.the-variants.{At, Nothing}
+use Rattle.isdb_mmt.specs.declared.decoder.place.Found.the-variants.{At}
 use Rattle.isdb_mmt.specs.declared.decoder.place.PlaceFor.the-variants.{Own}
 use Rattle.isdb_mmt.specs.declared.mpu.Unit.{Unit as DataUnit}
 use Rattle.isdb_mmt.specs.declared.decoder.media.Object.{Object}
@@ -56,10 +52,10 @@ use Rattle.isdb_mmt.proofs.Guards.{yes}
 use Rattle.isdb_mmt.proofs.Names.{true-not-false}
 use Rattle.isdb_mmt.proofs.Checks.{sound-session, is-sound}
 use Rattle.isdb_mmt.proofs.MediaCommits.{one-row, one-data, can-take, complete-done, commit-taken}
-use Rattle.isdb_mmt.proofs.MediaPushes.{push-index, can-all, pushed-yes}
+use Rattle.isdb_mmt.proofs.MediaPushes.{can-all, pushed-yes}
 use Rattle.isdb_mmt.proofs.Taking.{media-pushed}
-use Rattle.isdb_mmt.proofs.Pushing.{push-five, push-taken}
-use Rattle.isdb_mmt.proofs.PlainTests.{MpuFacts, mpu-facts, plain-media, UnitFacts, unit-facts, unit-header, header-facts, declared-long, unit-there, unitHere, one-unit, unit-data, unit-length, header-at, NextFacts, next-facts, own-id}
+use Rattle.isdb_mmt.proofs.Pushing.{push-taken}
+use Rattle.isdb_mmt.proofs.PlainTests.{mpu-facts, plain-media, unit-facts, unit-header, header-facts, declared-long, unit-there, unitHere, one-unit, unit-data, unit-length, header-at, NextFacts, next-facts, own-id}
 
 -- ---- what it does to its place
 
@@ -293,9 +289,6 @@ module _ (q rows out : Bytes) (can : RoomForUnit q rows out) (mpu id : ℕ) (rap
     pub length-cast : Fits w32 (length d)
     length-cast = record { fits = omega (arith, ap length ed, length-drop 22 q, can .short) }
 
-    pub row-there : 0 + rowSize ≤ length rows
-    row-there = can .row
-
     pub data-there : 0 + length d ≤ length out
     data-there = omega (arith, ap length ed, length-drop 22 q, can .room)
 
@@ -405,11 +398,6 @@ module _ (st ot ob me ta : List ℕ) where
 
   pub can-try-asked : length ot ≡ tableIds → (r : Bool) → r ≡ sound given → not r ≡ false → Octets st → Octets ob → Octets me → Octets ta → CanTryPlain given
   can-try-asked n r er e o1 o2 o3 o4 = can-with n (yes er e) o1 o2 o3 o4
-
-  -- turned down by question 5
-  pub not-sound : (x : Input) (r : Bool) → r ≡ sound given → not r ≡ true → (a : Answer) → a ≡ record { number = 5; records = 0; bytes = 0 }
-      → Pushed given x (a .number) (a .records) (a .bytes) given (x .rows) (x .out)
-  not-sound x r er n a h = push-five given x r er n a h
 
   module _ (kind : ℕ) (b rows out : Bytes) (t : Plain) (st′ : List ℕ) (rows′ out′ : Bytes) (w : PlainPushed given (input kind b rows out) t (lent st′ ot ob me ta) rows′ out′) where
     pub plain-taken : (n : ℕ) → t ≡ Yes n → (a : Answer) → a ≡ accepted 1 n

@@ -1,7 +1,7 @@
 -- What a plain packet leaves of its place and of the state. Assumes nothing.
-use Prim.Native.Nat.{ℕ, _+_, _-_, _*_, _≤_, _<_}
+use Prim.Native.Nat.{ℕ, _+_, _-_, _*_, _≤_}
 use mathlib.Core.Path.{_≡_, refl, sym, ap, _∙_}
-use mathlib.Core.Logic.{_⊎_, inl, inr}
+use mathlib.Core.Logic.{inl}
 use mathlib.Core.List.{List, [], _∷_}
 use native.Mathlib.Omega.{arith}
 use lib.ListN.{length, take, drop, length-drop}
@@ -9,8 +9,8 @@ use lib.Seq.{length-take-le}
 use borrow.Rule.Slice.PartMut.{putMid}
 use Rattle.isdb_tlv.specs.Bytes.{be, putBe}
 use Rattle.isdb_tlv.specs.Fields.{Field, field, written, puts, fourFields}
-use Rattle.isdb_tlv.proofs.Fields.{size, length-written}
-use Rattle.isdb_mmt.specs.Memory.Layout.{mostMediaIds, mostCount, countersPlace, mediaPlaces, mediaSize, heldPlace, objectPlace, statsPlace, stateSize}
+use Rattle.isdb_tlv.proofs.Fields.{length-written}
+use Rattle.isdb_mmt.specs.Memory.Layout.{countersPlace, mediaPlaces, mediaSize, heldPlace, objectPlace, statsPlace}
 use Rattle.isdb_mmt.specs.Memory.Lent.{part, over}
 use Rattle.isdb_mmt.specs.Memory.Session.{countersOf, statsOf, mediaPlaceOf, mediaFields, mediaAt}
 use Rattle.isdb_mmt.specs.Memory.Octets.{Octets}
@@ -18,11 +18,10 @@ use Rattle.isdb_mmt.specs.Pushes.MediaPush.{withPackets}
 use Rattle.isdb_mmt.specs.Pushes.MediaCommit.{stateAfter}
 use Rattle.isdb_mmt.specs.Pushes.Plain.{nextOf, CanRaise, CanStoreNext, CanStorePlain}
 use Rattle.isdb_mmt.specs.declared.decoder.place.PlaceFor.the-variants.{Own}
-use Rattle.isdb_mmt.specs.declared.decoder.counts.Counters.{Counters}
 use Rattle.isdb_mmt.specs.declared.decoder.media.Media.{Media}
 use Rattle.isdb_mmt.proofs.Lent.{length-over, be-apart, put-none, puts-whole}
 use Rattle.isdb_mmt.proofs.Stored.{stored, sent}
-use Rattle.isdb_mmt.proofs.LeftAlone.{be-puts, length-puts, Step, store, leave, stepped, standing, left-alone}
+use Rattle.isdb_mmt.proofs.LeftAlone.{be-puts, length-puts, Step, store, leave, standing, left-alone}
 
 pub raised : (l l′ : List ℕ) (at x : ℕ) → x ≡ be 8 l at → l′ ≡ putBe 8 at (x + 1) l → l′ ≡ puts at (field 8 (be 8 l at + 1) ∷ []) l
 raised l l′ at x e d = d ∙ ap (λ v. putBe 8 at (v + 1) l) e

@@ -2,13 +2,13 @@
 -- place. Assumes nothing.
 use Prim.Native.Nat.{ℕ, zero, suc, _+_, _-_, _*_, _/_, _%_, _≤_, _<_}
 use mathlib.Core.Path.{_≡_, refl, sym, ap, _∙_}
-use mathlib.Core.Bool.{Bool, true, false, not, cond}
-use mathlib.Core.Option.{Option, none, some}
+use mathlib.Core.Bool.{Bool, true, false, not}
+use mathlib.Core.Option.{some}
 use mathlib.Core.List.{List, [], _∷_}
 use native.Mathlib.Nat.{add-zero, mul-zero, mul-suc}
 use native.Mathlib.Omega.{arith}
 use lib.Dec.{ltb, leb, eqb}
-use lib.ListN.{length, getD, take, drop, length-take, length-drop}
+use lib.ListN.{length, getD, take, drop, length-drop}
 use lib.Seq.{getD-take, getD-drop, drop-drop, take-all, length-take-le}
 use borrow.Author.Tests.{lt-ltb, le-ltb, le-leb, lt-leb, eq-eqb, ne-eqb, ltb-false, leb-false, eqb-true, eqb-false}
 use mir.Val.{Fits}
@@ -28,25 +28,23 @@ use Rattle.isdb_tlv.specs.declared.mmtp.PayloadType.the-variants.{Mpu}
 use Rattle.isdb_tlv.specs.declared.mmtp.Scramble.the-variants.{Absent}
 use Rattle.isdb_tlv.specs.declared.mmtp.Parsed.the-variants.{Some as somePacket}
 use Rattle.isdb_mmt.specs.Decoder.Packet.{Bytes, media, mediaOf, byType, mmtpIn, datagramIn, byKind, classify}
-use Rattle.isdb_mmt.specs.Formats.Part.{partOf, partAt}
+use Rattle.isdb_mmt.specs.Formats.Part.{partOf}
 use Rattle.isdb_mmt.specs.Formats.Mpu.{fragmentType, indicator, payloadHeaderFields, payloadHeader, declaredOf, mfuAt, timedUnit, unitIn, unitAt, unitStep, unitsFrom, unitsOf, follows}
 use Rattle.isdb_mmt.specs.Memory.Layout.{mostMediaIds, usedPlace, mediaPlaces, mediaSize, heldPlace}
-use Rattle.isdb_mmt.specs.Memory.Lent.{part, flag, namesFrom, foundFrom, placeForName}
+use Rattle.isdb_mmt.specs.Memory.Lent.{flag, namesFrom, foundFrom}
 use Rattle.isdb_mmt.specs.Memory.Session.{limitsOf, usedOf, mediaPlaceOf, mediaAt}
 use Rattle.isdb_mmt.specs.Memory.Check.{PlacesThere}
 use Rattle.isdb_mmt.specs.Pushes.MediaPush.{mediaPlaceFor}
-use Rattle.isdb_mmt.specs.Pushes.Plain.{payloadStart, isMpu, isUnit, unitBytes, isNext, plainHeader, NextAt}
+use Rattle.isdb_mmt.specs.Pushes.Plain.{payloadStart, isMpu, isUnit, isNext, plainHeader, NextAt}
 use Rattle.isdb_mmt.specs.declared.mpu.FragmentType.the-variants.{Mfu}
 use Rattle.isdb_mmt.specs.declared.mpu.FragmentationIndicator.the-variants.{Complete}
 use Rattle.isdb_mmt.specs.declared.mpu.PayloadHeader.{PayloadHeader}
-use Rattle.isdb_mmt.specs.declared.mpu.MaybeHeader.{MaybeHeader}
 use Rattle.isdb_mmt.specs.declared.mpu.MaybeHeader.the-variants.{Some as payload}
 use Rattle.isdb_mmt.specs.declared.mpu.Unit.{Unit as DataUnit}
-use Rattle.isdb_mmt.specs.declared.mpu.UnitStep.{UnitStep}
 use Rattle.isdb_mmt.specs.declared.mpu.UnitStep.the-variants.{End, Unit as found}
 use Rattle.isdb_mmt.specs.declared.decoder.media.Media.{Media}
 use Rattle.isdb_mmt.specs.declared.decoder.place.Found.{Found}
-use Rattle.isdb_mmt.specs.declared.decoder.place.Found.the-variants.{At, Nothing}
+use Rattle.isdb_mmt.specs.declared.decoder.place.Found.the-variants.{At}
 use Rattle.isdb_mmt.specs.declared.decoder.place.PlaceFor.the-variants.{Own}
 use Rattle.isdb_mmt.proofs.Guards.{no, yes, was-left, was-guarded}
 use Rattle.isdb_mmt.proofs.Lent.{name-of}

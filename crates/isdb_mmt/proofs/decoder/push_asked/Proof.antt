@@ -1,5 +1,6 @@
+use Rattle.isdb_mmt.proofs.Pushing.{push-five}
 use Rattle.isdb_mmt.proofs.PushAll.{unknown-session}
-use Rattle.isdb_mmt.proofs.PlainPushes.{not-sound, can-try-asked, still-asked, plain-taken, then-pushed}
+use Rattle.isdb_mmt.proofs.PlainPushes.{can-try-asked, still-asked, plain-taken, then-pushed}
 use borrow.Author.Needs.{needs}
 use Rattle.isdb_mmt.proofs.decoder.push_asked.Statement.{statement}
 use Rattle.isdb_mmt.proofs.decoder.push_asked.Tie as tie
@@ -26,7 +27,7 @@ same-length-5 : tie.Need-same-length-5
 same-length-5 c = search needs
 
 returns : tie.Need-returns
-returns c = search (needs, not-sound)
+returns c = search (needs, push-five)
 
 octets-requires : tie.Need-octets-requires
 octets-requires c κs = search needs

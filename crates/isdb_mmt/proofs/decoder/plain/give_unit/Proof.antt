@@ -1,4 +1,4 @@
-use Rattle.isdb_mmt.proofs.PlainPushes.{length-cast, row-there, data-there, gave-read}
+use Rattle.isdb_mmt.proofs.PlainPushes.{length-cast, data-there, gave-read}
 use borrow.Author.Needs.{needs}
 use Rattle.isdb_mmt.proofs.decoder.plain.give_unit.Statement.{statement}
 use Rattle.isdb_mmt.proofs.decoder.plain.give_unit.Tie as tie
