@@ -16,7 +16,8 @@ use Rattle.isdb_tlv.specs.Cut.{TlvPacket, Recording, item, cutAt, recordingFrom
 use Rattle.isdb_tlv.specs.declared.cut.Cut.{Cut}
 use Rattle.isdb_tlv.specs.declared.cut.Cut.the-variants.{Packet, End as endHere, Short as shortHere, Bad as badHere}
 use Rattle.isdb_tlv.proofs.Guards.{either}
-use Rattle.isdb_tlv.proofs.Cutting.{recording-at, packet-lies, moved, cut-drop, end-behind, end-bad, end-short, end-clean, end-here, over-end}
+use Rattle.isdb_tlv.specs.Facts.{moved}
+use Rattle.isdb_tlv.proofs.Cutting.{recording-at, packet-lies, cut-drop, end-behind, end-bad, end-short, end-clean, end-here, over-end}
 use Rattle.isdb_mmt.specs.Formats.Part.{countOfUsize}
 use Rattle.isdb_mmt.specs.Decoder.Packet.{Bytes}
 use Rattle.isdb_mmt.specs.Memory.Session.{Session}

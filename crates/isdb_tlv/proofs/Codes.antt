@@ -1,4 +1,4 @@
--- A kind and its code name each other, so that a header that was read is written as it stood. Assumes nothing.
+-- A code that is read is the code that was there. Assumes nothing.
 use Prim.Native.Nat.{ℕ, _%_}
 use mathlib.Core.Path.{_≡_, refl, sym}
 use native.Mathlib.Omega.{arith}
@@ -6,13 +6,13 @@ use lib.Dec.{eqb}
 use borrow.Author.Tests.{eqb-true, eqb-false}
 use Rattle.isdb_tlv.specs.Tlv.{typeByte, packetType}
 use Rattle.isdb_tlv.specs.Mmtp.{fecCode, fecType, payloadCode, payloadType}
+use Rattle.isdb_tlv.specs.Facts.{CodesKept}
 use Rattle.isdb_tlv.specs.declared.tlv.PacketType.{PacketType}
 use Rattle.isdb_tlv.specs.declared.mmtp.FecType.{FecType}
-use Rattle.isdb_tlv.specs.declared.mmtp.FecType.the-variants.{NotProtected, Source, Repair, Reserved}
 use Rattle.isdb_tlv.specs.declared.mmtp.PayloadType.{PayloadType}
 use Rattle.isdb_tlv.proofs.Guards.{cond-elim}
 
-pub type-byte : (b : ℕ) → typeByte (packetType b) ≡ b
+type-byte : (b : ℕ) → typeByte (packetType b) ≡ b
 unfolding packetType
 type-byte b =
     let P : PacketType → Type 0 = λ t. typeByte t ≡ b in
@@ -22,14 +22,7 @@ type-byte b =
     cond-elim P (eqb b 0xFE) (λ e. sym (eqb-true b 0xFE e)) (λ e4.
     cond-elim P (eqb b 0xFF) (λ e. sym (eqb-true b 0xFF e)) (λ e5. refl)))))
 
-pub fec-type : (f : FecType) → fecType (fecCode f) ≡ f
-unfolding fecType
-fec-type NotProtected = refl
-fec-type Source = refl
-fec-type Repair = refl
-fec-type Reserved = refl
-
-pub fec-code : (c : ℕ) → fecCode (fecType c) ≡ c % 4
+fec-code : (c : ℕ) → fecCode (fecType c) ≡ c % 4
 unfolding fecType
 fec-code c =
     let P : FecType → Type 0 = λ f. fecCode f ≡ c % 4 in
@@ -41,7 +34,7 @@ fec-code c =
     let n2 = eqb-false (c % 4) 2 e2 in
     omega arith)))
 
-pub payload-code : (c : ℕ) → payloadCode (payloadType c) ≡ c % 64
+payload-code : (c : ℕ) → payloadCode (payloadType c) ≡ c % 64
 unfolding payloadType
 payload-code c =
     let P : PayloadType → Type 0 = λ t. payloadCode t ≡ c % 64 in
@@ -49,3 +42,6 @@ payload-code c =
     cond-elim P (eqb (c % 64) 0x01) (λ e. sym (eqb-true (c % 64) 0x01 e)) (λ e1.
     cond-elim P (eqb (c % 64) 0x02) (λ e. sym (eqb-true (c % 64) 0x02 e)) (λ e2.
     cond-elim P (eqb (c % 64) 0x03) (λ e. sym (eqb-true (c % 64) 0x03 e)) (λ e3. refl))))
+
+pub codes-kept : CodesKept
+codes-kept = record { kind = type-byte; fec = fec-code; payload = payload-code }

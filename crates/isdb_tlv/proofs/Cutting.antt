@@ -3,7 +3,7 @@
 use Prim.Native.Nat.{ℕ, _+_, _-_, _≤_, _<_}
 use mathlib.Core.Path.{_≡_, refl, sym, ap, subst, _∙_}
 use mathlib.Core.Bool.{Bool, true, false, cond, not}
-use mathlib.Core.List.{List, [], _++_, append-nil}
+use mathlib.Core.List.{List, _++_, append-nil}
 use native.Mathlib.Omega.{arith}
 use lib.Dec.{ltb, leb, eqb}
 use lib.ListN.{length, take, drop, getD, length-append, length-drop, List·getD-append}
@@ -19,6 +19,7 @@ use Rattle.isdb_tlv.specs.declared.cut.Cut.{Cut}
 use Rattle.isdb_tlv.specs.declared.cut.Cut.the-variants.{Packet, End, Short, Bad}
 use Rattle.isdb_tlv.specs.declared.cut.Stop.the-variants.{Clean, Bad as badAt}
 use Rattle.isdb_tlv.specs.Cut.{cutAt, ends, withFirst, item, recordingFrom}
+use Rattle.isdb_tlv.specs.Facts.{moved, WindowTheorem}
 
 -- two different answers are not one
 differ : {A : Type 0} → _≡_ {A = ℕ} 0 1 → A
@@ -42,13 +43,7 @@ pub recording-at : (s : List ℕ) (most at : ℕ)
 unfolding recordingFrom
 recording-at s most at = walk-at (λ q. item s q (cutAt s most q)) (ends Clean) (length s) (item-ahead s most) at
 
--- the same, `base` places further on
-abbrev pub moved : ℕ → Cut → Cut
-moved base (Packet kind start length next) = Packet kind (base + start) length (base + next)
-moved base End = End
-moved base Short = Short
-moved base Bad = Bad
-
+-- a place further on, test by test
 moved-cond : (base : ℕ) (b : Bool) (x y : Cut) → moved base (cond b x y) ≡ cond b (moved base x) (moved base y)
 moved-cond base true x y = refl
 moved-cond base false x y = refl
@@ -126,13 +121,6 @@ lies-at w most i =
 pub packet-lies : (w : List ℕ) (most i : ℕ) {kind start n next : ℕ} → cutAt w most i ≡ Packet kind start n next → Lies w i start n next
 packet-lies w most i e = subst (LiesAt w i) e (lies-at w most i)
 
--- what is left of the window behind a packet is less
-pub packet-less : (w : List ℕ) (most i : ℕ) (c : Cut) → c ≡ cutAt w most i → (kind start n next : ℕ) → c ≡ Packet kind start n next
-    → i < length w → length w - next < length w - i
-packet-less w most i c e kind start n next d h =
-    let l = packet-lies w most i (sym e ∙ d) in
-    omega (arith, l .behind-header, l .behind-bytes, l .inside)
-
 -- where reading stops, turn by turn
 module _ (w : List ℕ) (most i : ℕ) (c : Cut) (e : c ≡ cutAt w most i) where
   pub end-behind : (kind start n next : ℕ) → c ≡ Packet kind start n next
@@ -162,22 +150,15 @@ end-here w most i c e d =
     cond-elim P (ltb most (be 2 w (i + 2))) (λ _ q. differ (cc)) (λ _.
     cond-elim P (ltb (length w - i - 4) (be 2 w (i + 2))) (λ _ q. differ (cc)) (λ _ q. differ (cc)))))) (sym e ∙ d)
 
--- a window: bytes of the input from `base` on. What it shows at `i` is what the input has at `base + i`; that it shows no whole
--- packet says so of the input where the input ends with it.
+-- what a window shows
 module _ (s w r : List ℕ) (base : ℕ) (window : drop base s ≡ w ++ r) (most i : ℕ) where
   shown : (cutAt w most i ≡ End → ⊥) → (cutAt w most i ≡ Short → ⊥) → cutAt s most (base + i) ≡ moved base (cutAt w most i)
   shown p q = cut-drop s base most i ∙ rw (window, cut-append w r most i p q)
 
-  pub window-bad : cutAt w most i ≡ Bad → cutAt s most (base + i) ≡ Bad
-  window-bad e = shown (λ p. differ (cc)) (λ p. differ (cc)) ∙ rw e
-
-  pub window-end : r ≡ [] → cutAt s most (base + i) ≡ moved base (cutAt w most i)
-  window-end e = cut-drop s base most i ∙ rw (window, e, append-nil w)
-
-  pub window-packet : {kind start n next : ℕ} → cutAt w most i ≡ Packet kind start n next
+  shown-packet : (kind start n next : ℕ) → cutAt w most i ≡ Packet kind start n next
       → recordingFrom s most (base + i)
       ≡ withFirst (record { kind = kind; bytes = take n (drop start w) }) (recordingFrom s most (base + next))
-  window-packet {kind} {start} {n} {next} e =
+  shown-packet kind start n next e =
       let l : Lies w i start n next = packet-lies w most i e in
       let c : cutAt s most (base + i) ≡ Packet kind (base + start) n (base + next) =
       shown (λ p. differ (cc)) (λ p. differ (cc)) ∙ rw e in
@@ -185,3 +166,11 @@ module _ (s w r : List ℕ) (base : ℕ) (window : drop base s ≡ w ++ r) (most
       rw (← drop-drop start base s, window, drop-append-le start w r (omega arith))
       (take-append-le n (drop start w) r (rw (length-drop start w) (omega arith))) in
       recording-at s most (base + i) ∙ rw (c, b)
+
+pub window-shows : WindowTheorem
+window-shows s w r base window most i =
+    record {
+      packet = shown-packet s w r base window most i;
+      bad = λ e. shown s w r base window most i (λ p. differ (cc)) (λ p. differ (cc)) ∙ rw e;
+      end = λ e. cut-drop s base most i ∙ rw (window, e, append-nil w);
+    }

@@ -15,7 +15,8 @@ use borrow.Author.Tests.{ltb-false, leb-true, eqb-true, eqb-false, eq-eqb, ne-eq
 use Rattle.isdb_tlv.specs.Bytes.{be, withBit}
 use Rattle.isdb_tlv.specs.Walk.{more, turn}
 use Rattle.isdb_tlv.proofs.Walk.{Ahead, walk-at, run-more, plus, one-more as one-more-item}
-use Rattle.isdb_tlv.specs.Messages.{noTableIds, wordOf, has, withWord, insert, insertAll, setOf, member, listedAt, listedFrom, tableIdAt, walkedFrom, messageOf, behind, messageIn, prefixedAt, messageAt, messageStep, item, messagesFrom}
+use Rattle.isdb_tlv.specs.Messages.{noTableIds, wordOf, has, withWord, insert, insertAll, setOf, listedAt, listedFrom, tableIdAt, walkedFrom, messageOf, behind, messageIn, prefixedAt, messageAt, messageStep, item, messagesFrom}
+use Rattle.isdb_tlv.specs.Facts.{member, SetIsList}
 use Rattle.isdb_tlv.specs.declared.mmtp.TableIds.{TableIds}
 use Rattle.isdb_tlv.specs.declared.mmtp.Message.{Message}
 use Rattle.isdb_tlv.specs.declared.mmtp.MaybeMessage.{MaybeMessage}
@@ -73,7 +74,7 @@ word-none k = simp cond-same
 
 module _ (x : ℕ) (hx : x < 256) where
   -- putting an id in adds that id and no other
-  pub has-insert : (id : ℕ) (t : TableIds) → id < 256 → has (insert id t) x ≡ cond (eqb x id) true (has t x)
+  has-insert : (id : ℕ) (t : TableIds) → id < 256 → has (insert id t) x ≡ cond (eqb x id) true (has t x)
   unfolding has insert
   has-insert id t h =
       either (eqb (x / 64) (id / 64))
@@ -95,10 +96,9 @@ module _ (x : ℕ) (hx : x < 256) where
       has-all ids (insert id t) (λ i. h (suc i))
       ∙ rw (has-insert id t (h 0)) (either (eqb x id) (λ e. rw (e, cond-same (member x ids) true)) (λ e. rw e))
 
-  -- the set of a list of ids has those of the list and no others
-  pub has-set : (ids : List ℕ) → ((i : ℕ) → getD ids i 0 < 256) → has (setOf ids) x ≡ member x ids
-  unfolding setOf
-  has-set ids h = has-all ids noTableIds h ∙ rw has-none (either (member x ids) (λ e. rw e) (λ e. rw e))
+pub has-set : SetIsList
+unfolding setOf
+has-set x hx ids h = has-all x hx ids noTableIds h ∙ rw (has-none x hx) (either (member x ids) (λ e. rw e) (λ e. rw e))
 
 pub insert-both : (a b : List ℕ) (t : TableIds) → insertAll (a ++ b) t ≡ insertAll b (insertAll a t)
 insert-both [] b t = refl

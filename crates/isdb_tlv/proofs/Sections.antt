@@ -9,7 +9,7 @@ use lib.ListN.{length, getD, take, drop}
 use borrow.Author.Tests.{ltb-false, lt-ltb, le-ltb}
 use Rattle.isdb_tlv.specs.Crc.{crcOf}
 use Rattle.isdb_tlv.specs.Walk.{Next, turn}
-use Rattle.isdb_tlv.specs.Si.{isTlvSi, tableId, wholeSize, sectionAt, found, scanAt, sectionsFrom, sectionsOf, first, nextSection, onward}
+use Rattle.isdb_tlv.specs.Si.{isTlvSi, tableId, wholeSize, sectionAt, found, scanAt, sectionsFrom, first, nextSection, onward}
 use Rattle.isdb_tlv.specs.declared.si.Section.{Section}
 use Rattle.isdb_tlv.specs.declared.si.MaybeSection.{MaybeSection}
 use Rattle.isdb_tlv.specs.declared.si.MaybeSection.the-variants.{None, Some}
@@ -107,8 +107,3 @@ module _ (s : List ℕ) where
   pub next-lies : (at : ℕ) → Found s at (nextSection s at)
   unfolding nextSection
   next-lies at = steps (suc (length s - at)) at (omega arith) .lies
-
-  -- stepping from the start goes through all
-  pub sections-all : sectionsOf s ≡ onward s (nextSection s 0)
-  unfolding sectionsOf
-  sections-all = sections-step 0

@@ -1,4 +1,4 @@
--- The definitions that the contracts cite, a file a module; then one for each standard.
+-- The definitions that the contracts cite, a file a module; one for each standard; and facts that a reader may ask.
 pub mod Guards
 pub mod Bytes
 pub mod Walk
@@ -14,3 +14,4 @@ pub mod Rfc791
 pub mod Rfc8200
 pub mod StdB32
 pub mod Iso23008
+pub mod Facts

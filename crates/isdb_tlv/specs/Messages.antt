@@ -4,7 +4,7 @@ use Prim.Native.Nat.{ℕ, _+_, _-_, _*_, _/_, _%_, _^_}
 use mathlib.Core.List.{List, [], _∷_, _++_}
 use mathlib.Core.Option.{Option}
 use mathlib.Core.Option as Option
-use mathlib.Core.Bool.{Bool, true, false}
+use mathlib.Core.Bool.{Bool}
 use lib.ListN.{length, take, drop, getD}
 use Rattle.isdb_tlv.specs.Guards.{if_then_else_, _<?_, _≤?_, _=?_, _≠?_}
 use Rattle.isdb_tlv.specs.Bytes.{be, withBit}
@@ -46,15 +46,9 @@ abbrev pub insertAll : List ℕ → TableIds → TableIds
 insertAll [] t = t
 insertAll (id ∷ ids) t = insertAll ids (insert id t)
 
+-- where all are below 256, the set has these and no others (SetIsList of specs/Facts)
 unfoldable pub setOf : List ℕ → TableIds
 setOf ids = insertAll ids noTableIds
-
--- whether an id is in a list: where all are below 256, `has (setOf ids) x` is `member x ids` (has-set of proofs/Messages.antt)
-abbrev pub member : ℕ → List ℕ → Bool
-member x [] = false
-member x (y ∷ l) =
-    if x =? y then true
-    else member x l
 
 -- the messages' ids (Table 4-6); CA, 0x8001, lies between the last two
 abbrev pub paMessageId : ℕ
