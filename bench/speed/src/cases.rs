@@ -30,15 +30,21 @@ fn kept(sections: usize) -> Feed {
 }
 
 fn media(ids: usize, sections: usize) -> Case {
-    let packets = (0..BATCH).map(|i| make::whole_unit(0xF100 + (i % ids) as u16)).collect();
+    let packets = (0..BATCH).map(|i| make::whole_unit(0xF100 + (i % ids) as u16, make::UNIT)).collect();
     let plural = if ids == 1 { "" } else { "s" };
     let name = format!("media packet, a whole unit, {ids} id{plural}, {sections} sections kept");
     Case { before: kept(sections), ..case(name, packets, [BATCH, 0, 0]) }
 }
 
-fn objects() -> Case {
-    let packets = (0..4).flat_map(|_| make::object(0xF100, 100_000)).collect();
-    case("media packet, a part of an object of 100,000 bytes", packets, [4, 0, 0])
+fn objects(count: usize, bytes: usize) -> Case {
+    let packets = (0..count).flat_map(|_| make::object(0xF100, bytes)).collect();
+    case(format!("media packet, a part of an object of {bytes} bytes"), packets, [count, 0, 0])
+}
+
+/// Whole units of so many bytes, one packet each.
+pub fn units(bytes: usize) -> Case {
+    let packets = (0..16).map(|_| make::whole_unit(0xF100, bytes)).collect();
+    case(format!("media packet, a whole unit of {bytes} bytes (memcpy of the unit alone for the Rust)"), packets, [16, 0, 0])
 }
 
 /// 32 keys in turn, each with another version in every turn, or always with the same.
@@ -67,7 +73,7 @@ pub fn all() -> Vec<Case> {
     let mut cases: Vec<Case> = [0, 100, 300, 512].map(|sections| media(8, sections)).into();
     cases.extend([1, 32, 64].map(|ids| media(ids, 0)));
     cases.push(media(64, 512));
-    cases.extend([objects(), eits(false), eits(true), pa(), control()]);
+    cases.extend([objects(32, 10_000), objects(4, 100_000), objects(1, 1_000_000), eits(false), eits(true), pa(), control()]);
     cases.push(scan("false starts that run past the end (FEh)", &[0xFE], BATCH));
     cases.push(scan("false starts that their CRC refuses", &[0xFE, 0x81, 0x40], 8));
     cases

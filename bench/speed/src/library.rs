@@ -4,10 +4,10 @@ use std::hint::black_box;
 
 pub type Numbers = [u64; 16];
 
-pub const LIMITS: [u64; 8] = [64, 32, 512, 131_072, 65_536, 4_096, u32::MAX as u64, 0];
+pub const LIMITS: [u64; 8] = [64, 32, 512, 1_048_576, 65_536, 4_096, u32::MAX as u64, 0];
 const STATE: usize = 13_144;
 const ROWS: usize = 36 * 512;
-const OUT: usize = 524_288;
+pub const OUT: usize = 1_048_576;
 const LINES: usize = 16 * 512;
 
 /// A host reads so much at once.

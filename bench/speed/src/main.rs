@@ -45,6 +45,9 @@ fn all(rounds: usize, words: &str) -> Result<(), String> {
         let name = c.name.clone();
         row(&measure::case(c, rounds).map_err(|e| format!("{name}: {e}"))?);
     }
+    for c in [1_000, 10_000, 60_000].map(cases::units).into_iter().filter(|c| c.name.contains(words)) {
+        row(&measure::copies(c, rounds)?);
+    }
     for n in [16, 256, 4096, 65_536].into_iter().filter(|&n| measure::crc_name(n).contains(words)) {
         row(&measure::crc_alone(n, rounds)?);
     }

@@ -3,8 +3,10 @@ use crate::crc;
 use crate::feed::Bytes;
 
 pub const PACKET: usize = 1400;
-/// Bytes of a timed unit in a packet of that size: IP 3, MMTP 12, payload header 8, unit header 14.
-const UNIT: usize = PACKET - 37;
+/// Where a timed unit's data starts in a packet: behind IP 3, MMTP 12, payload header 8, unit header 14.
+pub const UNIT_AT: usize = 37;
+/// Bytes of a timed unit in a packet of that size.
+pub const UNIT: usize = PACKET - UNIT_AT;
 
 /// Bytes behind their length in `width` bytes.
 fn counted(width: usize, b: &[u8]) -> Vec<u8> {
@@ -32,8 +34,8 @@ fn unit(packet_id: u16, part: u8, data: &[u8]) -> Bytes {
     mmtp(0, packet_id, &counted(2, &body))
 }
 
-pub fn whole_unit(packet_id: u16) -> Bytes {
-    unit(packet_id, 0, &text(UNIT))
+pub fn whole_unit(packet_id: u16, bytes: usize) -> Bytes {
+    unit(packet_id, 0, &text(bytes))
 }
 
 /// An object of so many bytes, divided over packets.

@@ -2,7 +2,7 @@
 use crate::both::{Both, same};
 use crate::cases::Case;
 use crate::feed::{Feed, Step};
-use crate::{crc, library};
+use crate::{crc, library, make};
 use std::hint::black_box;
 use std::time::Instant;
 
@@ -73,6 +73,19 @@ pub fn case(c: Case, rounds: usize) -> Result<Times, String> {
     std::mem::swap(&mut second.library, &mut both.library);
     both.same_known()?;
     Ok(Times { name, bytes, rust, library, many: Some(many) })
+}
+
+/// A case of whole units, with the time of a memcpy of each packet's unit where the Rust's stands.
+pub fn copies(c: Case, rounds: usize) -> Result<Times, String> {
+    let (feed, mut out) = (c.feed.clone(), vec![0; library::OUT]);
+    let mut copy = |s: &Step| {
+        let unit = &s.packet.data[make::UNIT_AT..];
+        out[..unit.len()].copy_from_slice(unit);
+        black_box(&mut out);
+    };
+    let mut copied = feed.clone();
+    let [rust] = best_of(rounds, [&mut || pass(&mut copied, &mut copy)]);
+    Ok(Times { rust, ..case(c, rounds)? })
 }
 
 /// Nanoseconds a call. Each call starts where the last one's result says, so that they stand one behind the other.

@@ -8,7 +8,7 @@ use native.Mathlib.Nat.{add-zero, mul-zero, not-suc-le-zero}
 use native.Mathlib.Numerals.{add-one}
 use native.Mathlib.Omega.{arith}
 use lib.ListN.{length, getD, take, drop, set, length-append, length-take, length-drop, take-append-drop, List·getD-append}
-use lib.Seq.{length-take-le, drop-length, take-append-seam, drop-append-seam, take-append-add, drop-append-add, getD-append-add, getD-take, getD-drop, drop-drop, drop-append-le, take-all, take-suc, take-take, set-split, ext-getD, take-at, drop-at}
+use lib.Seq.{length-take-le, drop-length, take-append-seam, drop-append-seam, take-append-add, drop-append-add, getD-append-add, getD-take, getD-drop, drop-drop, drop-append-le, take-all, take-suc, take-add, take-take, set-split, ext-getD, take-at, drop-at}
 use borrow.Rule.Slice.PartMut.{putMid}
 use Rattle.isdb_tlv.specs.Bytes.{be, putBe}
 use Rattle.isdb_tlv.specs.Fields.{bytesOf, Field, written, puts}
@@ -151,6 +151,37 @@ copy-next at k b l m m′ h lt e d =
     ∙ ap (λ n. over (at + n) z (over at (take k b) l)) (sym t)
     ∙ over-next at (take k b) z l (omega arith)
     ∙ ap (λ (r : List ℕ). over at r l) (sym (rw add-one (take-suc b k 0 lt)))
+
+-- one of a loop that copies blocks `p` of at most so many bytes
+module _ (at k n most : ℕ) (b l m p : List ℕ) (f : at + length b ≤ length l) (k≤ : k ≤ length b) (en : n ≡ min (length b - k) most)
+    (ep : p ≡ take n (drop k b)) (em : length m ≡ length l) where
+  length-block : length p ≡ n
+  length-block = rw ep (length-take-le n (drop k b) (rw (length-drop k b) (omega arith)))
+
+  pub block-fits : (length p ≤ most) × (at + k + length p ≤ length m)
+  block-fits = let e = length-block in (omega arith, omega arith)
+
+  pub block-next : m ≡ over at (take k b) l → (m′ : List ℕ) → m′ ≡ over (at + k) p m
+      → (k + n ≤ length b) × ((length m′ ≡ length l) × (m′ ≡ over at (take (k + n) b) l))
+  block-next e m′ d =
+      let t : length (take k b) ≡ k = length-take-le k b k≤ in
+      let u : length p ≡ n = length-block in
+      let same : m′ ≡ over at (take (k + n) b) l =
+      d ∙ rw e (ap (λ i. over (at + i) p (over at (take k b) l)) (sym t)
+      ∙ over-next at (take k b) p l (omega arith)
+      ∙ ap (λ (r : List ℕ). over at r l) (rw ep (sym (take-add k n b)))) in
+      (omega arith, (ap length d ∙ length-over (at + k) p m (omega arith) ∙ em, same))
+
+-- what goes through another place first
+module _ (b z t p : List ℕ) (n : ℕ) (h : length b ≤ length z) (e : n ≡ length b) (d : t ≡ over 0 b z) (q : p ≡ take n (drop 0 t)) where
+  through : p ≡ b
+  through = q ∙ rw (e, d) (part-over 0 b z (omega arith))
+
+  pub through-fits : (at : ℕ) (s : List ℕ) → at + length b ≤ length s → at + length p ≤ length s
+  through-fits at s f = rw through f
+
+  pub through-over : (at : ℕ) (s r : List ℕ) → r ≡ over at p s → r ≡ over at b s
+  through-over at s r f = f ∙ rw through refl
 
 pub copied : (at k : ℕ) (b l m : List ℕ) → length b ≤ k → m ≡ over at (take k b) l → m ≡ over at b l
 copied at k b l m h e = rw (take-all k b h) at e

@@ -1,7 +1,7 @@
 // Places of one size, one behind the other, each with a name of 4 bytes at its start: a packet id or a section's key. And
 // areas, of which each place has one.
 ghost use mathlib.Core.Path.{_≡_};
-ghost use Prim.Native.Nat.{_+_, _*_, _≤_, _<_};
+ghost use Prim.Native.Nat.{_+_, _*_, _≤_, _<_, min};
 ghost use lib.ListN.{length};
 ghost use Rattle.isdb_tlv.specs.Bytes.{be, putBe};
 ghost use Rattle.isdb_mmt.specs.Memory.Lent.{part, over, flag as flagAt, namesFrom, among, distinct, cellOf, amongMarked, foundFrom, placeForName};
@@ -211,8 +211,8 @@ pub(crate) fn in_area(s: &[u8], i: usize, area: usize, n: usize) -> &[u8]
     bytes::part(s, i * area, n)
 }
 
-// Some bytes, from a place on.
-pub(crate) fn put_bytes(s: &mut [u8], at: usize, b: &[u8])
+// Some bytes, from a place on, one after the other.
+fn put_each(s: &mut [u8], at: usize, b: &[u8])
     requires { ⌜ at + length (now b) ≤ length (now s) ⌝ }
     ensures { λ r. ⌜ now (s .exit) ≡ over at (now (b .entry)) (now (s .entry)) ⌝ }
 {
@@ -220,6 +220,43 @@ pub(crate) fn put_bytes(s: &mut [u8], at: usize, b: &[u8])
     while k < b.len() {
         s[at + k] = b[k];
         k += 1;
+    }
+}
+
+// So many bytes are copied at once.
+const BLOCK: usize = 4096;
+
+fn in_block(n: usize) -> usize
+    ensures { λ r. ⌜ r ≡ min n 4096 ⌝ }
+{
+    if n < BLOCK {
+        return n;
+    }
+    BLOCK
+}
+
+// By way of an array that nothing else shares. The compiler knows then that neither copy overlaps, makes them one call of memmove, and
+// leaves the array out; of a copy from slice to slice it does not know that.
+fn put_block(s: &mut [u8], at: usize, b: &[u8])
+    requires { ⌜ (length (now b) ≤ 4096) × (at + length (now b) ≤ length (now s)) ⌝ }
+    ensures { λ r. ⌜ now (s .exit) ≡ over at (now (b .entry)) (now (s .entry)) ⌝ }
+{
+    let n = b.len();
+    let mut block = [0u8; 4096];
+    put_each(&mut block, 0, b);
+    put_each(s, at, bytes::part(&block, 0, n));
+}
+
+// Some bytes, from a place on.
+pub(crate) fn put_bytes(s: &mut [u8], at: usize, b: &[u8])
+    requires { ⌜ at + length (now b) ≤ length (now s) ⌝ }
+    ensures { λ r. ⌜ now (s .exit) ≡ over at (now (b .entry)) (now (s .entry)) ⌝ }
+{
+    let mut k = 0;
+    while k < b.len() {
+        let n = in_block(b.len() - k);
+        put_block(s, at + k, bytes::part(b, k, n));
+        k += n;
     }
 }
 

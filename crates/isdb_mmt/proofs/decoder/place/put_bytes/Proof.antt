@@ -1,8 +1,8 @@
 use borrow.Author.Needs.{needs}
-use Rattle.isdb_mmt.proofs.Lent.{over-none, copy-next, copied}
+use Rattle.isdb_mmt.proofs.Lent.{over-none, block-fits, block-next, copied}
 use Rattle.isdb_mmt.specs.Memory.Lent.{over}
 use mathlib.Core.Path.{_≡_, refl, sym}
-use lib.ListN.{length, take, length-set}
+use lib.ListN.{length, take}
 use Prim.Native.Nat.{_-_, _≤_}
 use Rattle.isdb_mmt.proofs.decoder.place.put_bytes.Statement.{statement}
 use Rattle.isdb_mmt.proofs.decoder.place.put_bytes.Tie as tie
@@ -16,8 +16,17 @@ abbrev μ-loop : tie.MeasureT-loop
 loop-holds : tie.Need-loop-holds Inv-loop μ-loop
 loop-holds c = (search needs, (refl, sym (over-none _ _)))
 
+put-block-requires : tie.Need-put-block-requires Inv-loop μ-loop
+put-block-requires c κs =
+    let i = c .before .before .before .before .loop .inv in
+    let start = c .before .before .before .before .before .before .before in
+    block-fits _ _ _ _ _ (start .args .s .now) (c .before .before .before .before .loop .s) _
+    (start .pre) (i .0) (c .before .before .in-block .ensures) (c .part .ensures) (i .1 .0)
+
 loop-again : tie.Need-loop-again Inv-loop μ-loop
-loop-again c = (search needs, (search (needs, length-set), copy-next _ _ _ _ _ _ (search needs) (c .before .loop-test .taken) (c .before .before .loop .inv .1 .1) refl))
+loop-again c =
+    let i = c .before .before .before .before .before .before .before .loop .inv in
+    block-next _ _ _ _ _ _ _ _ (search needs) (i .0) (c .before .before .before .before .before .in-block .ensures) (c .before .before .before .part .ensures) (i .1 .0) (i .1 .1) _ (c .before .before .put-block .ensures)
 
 returns : tie.Need-returns Inv-loop μ-loop
 returns c = search (needs, copied)
@@ -30,8 +39,10 @@ put-bytes-spec =
     μ-loop
     loop-holds
     (λ c. search needs)
+    (λ c κs. search needs)
     (λ c. search needs)
-    (λ c. search needs)
+    (λ c κs. search needs)
+    put-block-requires
     (λ c. search needs)
     (λ c. search needs)
     loop-again
