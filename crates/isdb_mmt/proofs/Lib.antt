@@ -84,6 +84,7 @@ pub mod LeftAlone
 pub mod PlainTests
 pub mod PlainStores
 pub mod PlainPushes
+pub mod PartPushes
 pub mod PushAllCalls
 pub mod Useless
 pub mod Outs

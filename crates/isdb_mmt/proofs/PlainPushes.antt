@@ -1,5 +1,5 @@
 -- A plain packet pushed: it is answered, committed and handed out as every media packet is. Assumes nothing.
-use Prim.Native.Nat.{ℕ, _+_, _-_, _*_, _≤_, _<_}
+use Prim.Native.Nat.{ℕ, _+_, _-_, _*_, _≤_}
 use mathlib.Core.Path.{_≡_, refl, sym, ap, _∙_, subst}
 use mathlib.Core.Bool.{Bool, true, false, not, _&&_}
 use mathlib.Core.List.{List, [], _∷_}
@@ -17,7 +17,7 @@ use Rattle.isdb_mmt.specs.Decoder.Maps.{one}
 use Rattle.isdb_mmt.specs.Decoder.Objects.{Rec}
 use Rattle.isdb_mmt.specs.Memory.Lent.{over}
 use Rattle.isdb_mmt.specs.Formats.Part.{partOf}
-use Rattle.isdb_mmt.specs.Formats.Mpu.{payloadHeaderFields, payloadHeader, declaredOf, unitsOf}
+use Rattle.isdb_mmt.specs.Formats.Mpu.{payloadHeaderFields, declaredOf, unitsOf}
 use Rattle.isdb_mmt.specs.Memory.Layout.{tableIds}
 use Rattle.isdb_mmt.specs.Memory.Session.{Session, limitsOf, countersOf, mediaAt}
 use Rattle.isdb_mmt.specs.Memory.Check.{sound, lengthsOf}
@@ -32,7 +32,7 @@ use Rattle.isdb_mmt.specs.Pushes.Giving.{unitRec, unitRecs, Gave}
 use Rattle.isdb_mmt.specs.Pushes.MediaCommit.{placeIn, passesOn, fitsNumber, numberOf, accepted, answerOf, CanCommitAll, CanTake, Committed, stateAfter}
 use Rattle.isdb_mmt.specs.Pushes.Push.{Input, input, PacketPushed, Pushed}
 use Rattle.isdb_mmt.specs.Pushes.PushAllSteps.{MayBeKnown}
-use Rattle.isdb_mmt.specs.Pushes.Plain.{payloadStart, isMpu, isUnit, unitBytes, isNext, plainHeader, nextOf, NextAt, CanStorePlain, CanPushUnit, WholeUnit, RoomForUnit, UnitPushed, CanTryPlain, PlainPushed}
+use Rattle.isdb_mmt.specs.Pushes.Plain.{payloadStart, wholeUnit, isMpu, isUnit, unitBytes, isNext, plainHeader, nextOf, NextAt, FreeHeader, CanStorePlain, CanPushUnit, WholeUnit, RoomForUnit, UnitPushed, CanTryPlain, PlainPushed}
 use Rattle.isdb_mmt.specs.declared.mpu.PayloadHeader.{PayloadHeader}
 use Rattle.isdb_mmt.specs.declared.mpu.MaybeHeader.{MaybeHeader}
 use Rattle.isdb_mmt.specs.declared.mpu.MaybeHeader.the-variants.{None as noPayload, Some as payload}
@@ -47,7 +47,7 @@ use Rattle.isdb_mmt.specs.declared.decoder.reassembler.MediaEffect.{Medi
 use Rattle.isdb_mmt.specs.declared.decoder.reassembler.MediaOutcome.{MediaOutcome}
 use Rattle.isdb_mmt.specs.declared.decoder.records.Answer.{Answer}
 use Rattle.isdb_mmt.specs.declared.decoder.plain.Plain.{Plain}
-use Rattle.isdb_mmt.specs.declared.decoder.plain.Plain.the-variants.{No, Yes}
+use Rattle.isdb_mmt.specs.declared.decoder.plain.Plain.the-variants.{No, Yes, Grown}
 use Rattle.isdb_mmt.proofs.Guards.{yes}
 use Rattle.isdb_mmt.proofs.Names.{true-not-false}
 use Rattle.isdb_mmt.proofs.Checks.{sound-session, is-sound}
@@ -55,17 +55,17 @@ use Rattle.isdb_mmt.proofs.MediaCommits.{one-row, one-data, can-take, c
 use Rattle.isdb_mmt.proofs.MediaPushes.{can-all, pushed-yes}
 use Rattle.isdb_mmt.proofs.Taking.{media-pushed}
 use Rattle.isdb_mmt.proofs.Pushing.{push-taken}
-use Rattle.isdb_mmt.proofs.PlainTests.{mpu-facts, plain-media, unit-facts, unit-header, header-facts, declared-long, unit-there, unitHere, one-unit, unit-data, unit-length, header-at, NextFacts, next-facts, own-id}
+use Rattle.isdb_mmt.proofs.PlainTests.{mpu-facts, plain-media, unit-facts, unit-header, whole-facts, declared-long, unit-there, unitHere, one-unit, unit-data, unit-length, header-at, NextFacts, next-facts, own-id}
 
 -- ---- what it does to its place
+
+start-free : (m : Media) (n : ℕ) → m .held ≡ false → startOf m n ≡ begun false noObject 0
+unfolding startOf
+start-free m n e = rw e
 
 module _ (m : Media) (n mpu : ℕ) (next : isNext m n mpu ≡ true) (x : PayloadHeader) (ex : x .«mpu_sequence_number» ≡ mpu) where
   abbrev facts : NextFacts m n mpu
   facts = next-facts m n mpu next
-
-  start-is : startOf m n ≡ begun false noObject 0
-  unfolding startOf
-  start-is = rw (facts .free)
 
   none-lost : lostIn m n ≡ 0
   unfolding lostIn gapIn
@@ -83,10 +83,36 @@ module _ (m : Media) (n mpu : ℕ) (next : isNext m n mpu ≡ true) (x : Payload
   unfolding firstMpu
   first-is = rw (facts .mpu-seen)
 
-  module _ (t : MediaEffect) (h : t .held ≡ false) (o : t .object ≡ noObject) (d : t .drops ≡ 0) (k : t .records ≡ 1) where
-    place-next : placeAfter (m .«packet_id») m n false (payload x) false t ≡ nextOf m n
-    unfolding placeAfter nextOf statsAfter summed addsOf
-    place-next =
+  pub more : (a b : ℕ) → b ≡ 0 → a + b ≡ a
+  more a b e = omega arith
+
+  -- what it leaves, with what it did to the object and how many units it handed out
+  module _ (t : MediaEffect) (d : t .drops ≡ 0) (held : Bool) (eh : t .held ≡ held) (o : Object) (eo : t .object ≡ o) (units : ℕ) (eu : m .stats .mfus + t .records ≡ units) where
+    pub place-with : placeAfter (m .«packet_id») m n false (payload x) false t
+        ≡ record {
+          «packet_id» = m .«packet_id»;
+          seen = true;
+          sequence = n;
+          «mpu_seen» = true;
+          mpu = m .mpu;
+          «first_mpu» = m .«first_mpu»;
+          held = held;
+          object = o;
+          stats =
+              record {
+                packets = m .stats .packets + 1;
+                «packets_lost» = m .stats .«packets_lost»;
+                «scrambled_packets» = m .stats .«scrambled_packets»;
+                mfus = units;
+                «scrambled_mfus» = m .stats .«scrambled_mfus»;
+                «mfus_dropped» = m .stats .«mfus_dropped»;
+                mpus = m .stats .mpus;
+                «mpu_sequence_jumps» = m .stats .«mpu_sequence_jumps»;
+                malformed = m .stats .malformed;
+              };
+        }
+    unfolding placeAfter statsAfter summed addsOf
+    place-with =
         λ i.
         record {
           «packet_id» = m .«packet_id»;
@@ -95,14 +121,14 @@ module _ (m : Media) (n mpu : ℕ) (next : isNext m n mpu ≡ true) (x : Payload
           «mpu_seen» = true;
           mpu = (ex ∙ sym (facts .same)) i;
           «first_mpu» = first-is i;
-          held = h i;
-          object = o i;
+          held = eh i;
+          object = eo i;
           stats =
               record {
                 packets = m .stats .packets + 1;
                 «packets_lost» = more (m .stats .«packets_lost») (lostIn m n) none-lost i;
                 «scrambled_packets» = more (m .stats .«scrambled_packets») 0 refl i;
-                mfus = ap (λ v. m .stats .mfus + v) k i;
+                mfus = eu i;
                 «scrambled_mfus» = more (m .stats .«scrambled_mfus») 0 refl i;
                 «mfus_dropped» = more (m .stats .«mfus_dropped») (t .drops) d i;
                 mpus = more (m .stats .mpus) (one (newIn m (payload x))) (ap one none-new) i;
@@ -110,42 +136,57 @@ module _ (m : Media) (n mpu : ℕ) (next : isNext m n mpu ≡ true) (x : Payload
                 malformed = more (m .stats .malformed) 0 refl i;
               };
         }
-      where
-        more : (a b : ℕ) → b ≡ 0 → a + b ≡ a
-        more a b e = omega arith
 
 -- ---- the payload
 
--- the two answers
-abbrev isLeft : Plain → Bool
+-- a clear payload is not passed on
+pub not-on : (pass : Bool) → pass && false ≡ false
+not-on true = refl
+not-on false = refl
+
+-- the answers
+abbrev pub isLeft : Plain → Bool
 isLeft No = true
 isLeft (Yes n) = false
+isLeft Grown = false
+
+abbrev pub isGrown : Plain → Bool
+isGrown No = false
+isGrown (Yes n) = false
+isGrown Grown = true
 
 abbrev bytesTaken : Plain → ℕ
 bytesTaken No = 0
 bytesTaken (Yes n) = n
+bytesTaken Grown = 0
 
 pub unit-left : (s : Session) (h : Header) (b rows out : Bytes) → UnitPushed s h b rows out No s rows out
-unit-left s h b rows out = record { same = λ e. (refl, (refl, refl)); taken = λ n e. true-not-false true refl (ap isLeft e) }
+unit-left s h b rows out =
+    record { same = λ e. (refl, (refl, refl)); taken = λ n e. true-not-false true refl (ap isLeft e); grown = λ e. true-not-false true refl (ap isLeft e) }
 
 pub plain-left : (s : Session) (x : Input) → PlainPushed s x No s (x .rows) (x .out)
-plain-left s x = record { same = λ e. (refl, (refl, refl)); taken = λ n e. true-not-false true refl (ap isLeft e) }
+plain-left s x =
+    record { same = λ e. (refl, (refl, refl)); taken = λ n e. true-not-false true refl (ap isLeft e); grown = λ e. true-not-false true refl (ap isLeft e) }
 
 -- the code that comes so far
-module _ (st ot ob me ta : List ℕ) (h : Header) (b rows out : Bytes) (can : CanPushUnit (lent st ot ob me ta) h b)
+module _ (st ot ob me ta : List ℕ) (h : Header) (b rows out : Bytes) (can : CanPushUnit wholeUnit (lent st ot ob me ta) h b)
     (row : rowSize ≤ length rows) (k : ℕ) (ek : k ≡ be 2 b 0) (room : k - 20 ≤ length out)
     (mpu : ℕ) (em : mpu ≡ be 4 b 4) (f : Found) (w : NextAt st (h .«packet_id») (h .sequence) mpu f) (i : ℕ) (ef : f ≡ At i)
-    (hd : MaybeHeader) (ehd : hd ≡ payloadHeader b) (x : PayloadHeader) (exd : hd ≡ payload x) where
+    (hd : MaybeHeader) (ehd : FreeHeader st i b hd) (x : PayloadHeader) (exd : hd ≡ payload x) where
   place : NextAt st (h .«packet_id») (h .sequence) mpu (At i)
   place = rw ef at w
+
+  header : FreeHeader st i b (payload x)
+  header = rw exd at ehd
 
   pub whole-unit : WholeUnit (lent st ot ob me ta) h b rows out i x
   whole-unit =
       record {
         can = can;
         own = place .0;
-        next = ap (λ v. isNext (mediaAt st i) (h .sequence) v) (sym em) ∙ place .1;
-        header = sym ehd ∙ exd;
+        next = ap (λ v. isNext (mediaAt st i) (h .sequence) v) (sym em) ∙ place .1 .0;
+        free = header .0;
+        header = header .1;
         row = row;
         room = rw ek at room;
       }
@@ -155,11 +196,12 @@ module _ (st ot ob me ta : List ℕ) (h : Header) (b rows out : Bytes) (can : Ca
   unit-told s′ rows′ out′ p =
       record {
         same = λ e. true-not-false false (ap isLeft e) refl;
+        grown = λ e. true-not-false false (ap isGrown e) refl;
         taken = λ n e. subst (λ v. MediaPushed (lent st ot ob me ta) rows out (mediaOf h b) 0 1 v s′ rows′ out′) (ap (λ v. v - 20) (sym ek) ∙ ap bytesTaken e) p;
       }
 
 module _ (st ot ob me ta : List ℕ) (h : Header) (b rows out : Bytes) (i : ℕ) (x : PayloadHeader) (whole : WholeUnit (lent st ot ob me ta) h b rows out i x) where
-  abbrev can : CanPushUnit (lent st ot ob me ta) h b
+  abbrev can : CanPushUnit wholeUnit (lent st ot ob me ta) h b
   can = whole .can
 
   abbrev k : ℕ
@@ -172,7 +214,7 @@ module _ (st ot ob me ta : List ℕ) (h : Header) (b rows out : Bytes) (i : ℕ)
   r = mediaOutcome m (h .sequence) (h .«scramble_info») (h .rap) b
 
   header-is : payload x ≡ payload (payloadHeaderFields b)
-  header-is = sym (whole .header) ∙ unit-header b (can .unit)
+  header-is = sym (whole .header) ∙ unit-header wholeUnit b (can .unit)
 
   x-is : x ≡ payloadHeaderFields b
   x-is = ap (λ (y : MaybeHeader). headerGiven y) header-is
@@ -185,7 +227,7 @@ module _ (st ot ob me ta : List ℕ) (h : Header) (b rows out : Bytes) (i : ℕ)
   y = payloadHeaderFields b
 
   long : 22 ≤ length (declaredOf b)
-  long = unit-there b (can .unit)
+  long = unit-there wholeUnit b (can .unit)
 
   abbrev t : MediaEffect
   t = completeUnit (begun false noObject 0) (unitHere (declaredOf b) long .«data») (length (partOf (declaredOf b) (unitHere (declaredOf b) long .«data»)))
@@ -193,22 +235,17 @@ module _ (st ot ob me ta : List ℕ) (h : Header) (b rows out : Bytes) (i : ℕ)
   outcome-here : r ≡ outcomeWith false true (payload y) t
   unfolding mediaOutcome outcomeBy unitsOutcome unitsEffect withEachUnit withUnit
   outcome-here =
-      let g = header-facts b (can .unit) in
-      rw (start-is m (h .sequence) (be 4 b 4) (whole .next) y (g .mpu), can .clear, unit-header b (can .unit), g .kind, g .whole, g .timed, g .single, one-unit (declaredOf b) long)
+      let g = whole-facts b (can .unit) in
+      rw (start-free m (h .sequence) (whole .free), can .clear, unit-header wholeUnit b (can .unit), g .kind, g .division, g .timed, g .single, one-unit (declaredOf b) long)
 
   data-long : length (partOf (declaredOf b) (unitHere (declaredOf b) long .«data»)) ≡ k - 20
-  data-long = unit-length (declaredOf b) long ∙ omega (arith, declared-long b (can .unit))
+  data-long = unit-length (declaredOf b) long ∙ omega (arith, declared-long wholeUnit b (can .unit))
 
   abbrev l : Limits
   l = limitsOf st
 
   abbrev a : Answer
   a = answerOf (Own i) l (h .«scramble_info») r (length b) (length rows) (length out)
-
-  -- a clear payload is not passed on
-  not-on : (pass : Bool) → pass && false ≡ false
-  not-on true = refl
-  not-on false = refl
 
   answer-is : a ≡ accepted 1 (k - 20)
   unfolding answerOf passesOn numberOf fitsNumber completeUnit
@@ -235,10 +272,10 @@ module _ (st ot ob me ta : List ℕ) (h : Header) (b rows out : Bytes) (i : ℕ)
   module _ (q : Bytes) (eq : q ≡ declaredOf b) where
     pub can-give : RoomForUnit q rows out
     can-give =
-        let n = declared-long b (can .unit) in
+        let n = declared-long wholeUnit b (can .unit) in
         rw eq (record {
           long = long;
-          short = omega (arith, n, unit-facts b (can .unit) .there, can .can .long);
+          short = omega (arith, n, unit-facts wholeUnit b (can .unit) .there, can .can .long);
           row = whole .row;
           room = omega (arith, n, whole .room);
         })
@@ -256,10 +293,10 @@ module _ (st ot ob me ta : List ℕ) (h : Header) (b rows out : Bytes) (i : ℕ)
     id-is = own-id st (h .«packet_id») i (whole .own)
 
     after-is : placeAfter (h .«packet_id») m (h .sequence) (h .«scramble_info») (r .header) (r .bad) (r .units) ≡ nextOf m (h .sequence)
-    unfolding completeUnit
+    unfolding completeUnit nextOf
     after-is =
         rw (outcome-here, can .clear, ← id-is)
-        (place-next m (h .sequence) (be 4 b 4) (whole .next) y (header-facts b (can .unit) .mpu) t refl refl refl refl)
+        (place-with m (h .sequence) (be 4 b 4) (whole .next) y (whole-facts b (can .unit) .mpu) t refl false refl noObject refl (m .stats .mfus + 1) refl)
 
     pub unit-pushed : (rows′ out′ : Bytes) → Gave q true false (h .«packet_id») (x .«mpu_sequence_number») (h .rap) rows out rows′ out′
         → (st′ : List ℕ) → st′ ≡ stateAfter st (nextOf (mediaAt st i) (h .sequence)) (Own i)
@@ -267,7 +304,7 @@ module _ (st ot ob me ta : List ℕ) (h : Header) (b rows out : Bytes) (i : ℕ)
     unit-pushed rows′ out′ g st′ es =
         let done : Committed (i * l .«mfu_area») (l .«pass_scrambled») m h b ob rows out ob rows′ out′ =
         commit-taken (i * l .«mfu_area») (l .«pass_scrambled») m r h b ob rows out (canAll .commit) y (ap (λ (z : MediaOutcome). z .header) outcome-here) (ap (λ (z : MediaOutcome). z .taken) outcome-here) ob rows′ out′
-        (complete-done y (i * l .«mfu_area») m r h b ob rows out canTake (header-facts b (can .unit) .whole) q eq rows′ out′ (rw (header-facts b (can .unit) .timed, header-facts b (can .unit) .single) (rw x-is at g))) in
+        (complete-done y (i * l .«mfu_area») m r h b ob rows out canTake (whole-facts b (can .unit) .division) q eq rows′ out′ (rw (whole-facts b (can .unit) .timed, whole-facts b (can .unit) .single) (rw x-is at g))) in
         rw answer-is at
         (pushed-yes st ot ob me ta h b rows out (can .can) l refl (Own i) own m place-here r refl a refl zero-is st′ ob rows′ out′
         (record { commit = done; store = es ∙ ap (λ (z : Media). stateAfter st z (Own i)) (sym after-is) }))
@@ -342,16 +379,16 @@ module _ (kind : ℕ) (b : Bytes) (r : Bool) (er : r ≡ isMpu kind b) (yes-mpu 
   long-packet = mpu-facts kind b is-mpu .long
 
   module _ (st ot ob me ta : List ℕ) (can : CanTryPlain (lent st ot ob me ta)) (short : length b ≤ 65535) (p : Bytes) (ep : p ≡ drop payloadStart b)
-      (u : Bool) (eu : u ≡ isUnit p) (yes-unit : not u ≡ false) (h : Header) (eh : h ≡ plainHeader b) where
+      (h : Header) (eh : h ≡ plainHeader b) where
     abbrev s : Session
     s = lent st ot ob me ta
 
-    pub can-unit : CanPushUnit s h p
-    can-unit =
+    pub can-unit : (flags : ℕ) (u : Bool) → u ≡ isUnit flags p → u ≡ true → CanPushUnit flags s h p
+    can-unit flags u eu yes-unit =
         record {
           can = record { sound = can .session; long = omega (arith, ap length ep, length-drop payloadStart b, short) };
           clear = ap (λ (x : Header). x .«scramble_info») eh;
-          unit = yes eu yes-unit;
+          unit = sym eu ∙ yes-unit;
         }
 
     abbrev x : Bytes → Bytes → Input
@@ -372,12 +409,17 @@ module _ (kind : ℕ) (b : Bytes) (r : Bool) (er : r ≡ isMpu kind b) (yes-mpu 
     plain-pushed may em yes-may o rows out t s′ rows′ out′ w =
         record {
           same = w .same;
-          taken = λ n e.
-              push-taken s (x rows out) true (sym sound-here) refl short may em yes-may (can .lent .state) (can .lent .objects) (can .lent .messages)
-              (can .lent .tables) o (accepted 1 n) s′ rows′ out′
-              (subst (λ (y : Packet). PacketPushed s rows out y 0 1 n s′ rows′ out′) (sym packet-is)
-              (media-pushed s (can .session) rows out (mediaOf h p) 0 1 n s′ rows′ out′ (w .taken n e)));
+          taken = λ n e. whole-packet 1 n (w .taken n e);
+          grown = λ e. whole-packet 0 0 (w .grown e);
         }
+      where
+        whole-packet : (records bytes : ℕ) → MediaPushed s rows out (mediaOf h p) 0 records bytes s′ rows′ out′
+            → Pushed s (x rows out) 0 records bytes s′ rows′ out′
+        whole-packet records bytes m =
+            push-taken s (x rows out) true (sym sound-here) refl short may em yes-may (can .lent .state) (can .lent .objects) (can .lent .messages)
+            (can .lent .tables) o (accepted records bytes) s′ rows′ out′
+            (subst (λ (y : Packet). PacketPushed s rows out y 0 records bytes s′ rows′ out′) (sym packet-is)
+            (media-pushed s (can .session) rows out (mediaOf h p) 0 records bytes s′ rows′ out′ m))
 
 -- ---- the call
 
@@ -399,21 +441,25 @@ module _ (st ot ob me ta : List ℕ) where
   pub can-try-asked : length ot ≡ tableIds → (r : Bool) → r ≡ sound given → not r ≡ false → Octets st → Octets ob → Octets me → Octets ta → CanTryPlain given
   can-try-asked n r er e o1 o2 o3 o4 = can-with n (yes er e) o1 o2 o3 o4
 
-  module _ (kind : ℕ) (b rows out : Bytes) (t : Plain) (st′ : List ℕ) (rows′ out′ : Bytes) (w : PlainPushed given (input kind b rows out) t (lent st′ ot ob me ta) rows′ out′) where
+  module _ (kind : ℕ) (b rows out : Bytes) (t : Plain) (st′ ob′ : List ℕ) (rows′ out′ : Bytes) (w : PlainPushed given (input kind b rows out) t (lent st′ ot ob′ me ta) rows′ out′) where
     pub plain-taken : (n : ℕ) → t ≡ Yes n → (a : Answer) → a ≡ accepted 1 n
-        → Pushed given (input kind b rows out) (a .number) (a .records) (a .bytes) (lent st′ ot ob me ta) rows′ out′
+        → Pushed given (input kind b rows out) (a .number) (a .records) (a .bytes) (lent st′ ot ob′ me ta) rows′ out′
     plain-taken n e a ea = rw ea (w .taken n e)
 
+    pub plain-grown : t ≡ Grown → (a : Answer) → a ≡ accepted 0 0
+        → Pushed given (input kind b rows out) (a .number) (a .records) (a .bytes) (lent st′ ot ob′ me ta) rows′ out′
+    plain-grown e a ea = rw ea (w .grown e)
+
     module _ (no-plain : t ≡ No) where
-      as-before : (lent st′ ot ob me ta ≡ given) × ((rows′ ≡ rows) × (out′ ≡ out))
+      as-before : (lent st′ ot ob′ me ta ≡ given) × ((rows′ ≡ rows) × (out′ ≡ out))
       as-before = w .same no-plain
 
-      pub still-known : (known : Bool) → MayBeKnown known given → not known ≡ false → MayBeKnown true (lent st′ ot ob me ta)
+      pub still-known : (known : Bool) → MayBeKnown known given → not known ≡ false → MayBeKnown true (lent st′ ot ob′ me ta)
       still-known known may e = record { others = may .others; session = λ z. ap sound (as-before .0) ∙ may .session (yes refl e) }
 
-      pub still-asked : length ot ≡ tableIds → (r : Bool) → r ≡ sound given → not r ≡ false → MayBeKnown true (lent st′ ot ob me ta)
+      pub still-asked : length ot ≡ tableIds → (r : Bool) → r ≡ sound given → not r ≡ false → MayBeKnown true (lent st′ ot ob′ me ta)
       still-asked n r er e = record { others = n; session = λ z. ap sound (as-before .0) ∙ yes er e }
 
-      pub then-pushed : (n k l : ℕ) (s″ : Session) (rows″ out″ : Bytes) → Pushed (lent st′ ot ob me ta) (input kind b rows′ out′) n k l s″ rows″ out″
+      pub then-pushed : (n k l : ℕ) (s″ : Session) (rows″ out″ : Bytes) → Pushed (lent st′ ot ob′ me ta) (input kind b rows′ out′) n k l s″ rows″ out″
           → Pushed given (input kind b rows out) n k l s″ rows″ out″
       then-pushed n k l s″ rows″ out″ p = rw (as-before .0, as-before .1 .0, as-before .1 .1) at p

@@ -2,21 +2,23 @@
 use Prim.Native.Nat.{ℕ, _+_, _-_, _*_, _≤_}
 use mathlib.Core.Path.{_≡_, refl, sym, ap, _∙_}
 use mathlib.Core.Logic.{inl}
-use mathlib.Core.List.{List, [], _∷_}
+use mathlib.Core.Bool.{Bool}
+use mathlib.Core.List.{List, [], _∷_, _++_}
 use native.Mathlib.Omega.{arith}
 use lib.ListN.{length, take, drop, length-drop}
 use lib.Seq.{length-take-le}
 use borrow.Rule.Slice.PartMut.{putMid}
 use Rattle.isdb_tlv.specs.Bytes.{be, putBe}
 use Rattle.isdb_tlv.specs.Fields.{Field, field, written, puts, fourFields}
+use Rattle.isdb_tlv.proofs.Numbers.{length-putBe}
 use Rattle.isdb_tlv.proofs.Fields.{length-written}
 use Rattle.isdb_mmt.specs.Memory.Layout.{countersPlace, mediaPlaces, mediaSize, heldPlace, objectPlace, statsPlace}
-use Rattle.isdb_mmt.specs.Memory.Lent.{part, over}
-use Rattle.isdb_mmt.specs.Memory.Session.{countersOf, statsOf, mediaPlaceOf, mediaFields, mediaAt}
+use Rattle.isdb_mmt.specs.Memory.Lent.{part, over, flag, flagByte}
+use Rattle.isdb_mmt.specs.Memory.Session.{countersOf, heldObjectOf, statsOf, mediaPlaceOf, mediaFields, mediaAt}
 use Rattle.isdb_mmt.specs.Memory.Octets.{Octets}
 use Rattle.isdb_mmt.specs.Pushes.MediaPush.{withPackets}
 use Rattle.isdb_mmt.specs.Pushes.MediaCommit.{stateAfter}
-use Rattle.isdb_mmt.specs.Pushes.Plain.{nextOf, CanRaise, CanStoreNext, CanStorePlain}
+use Rattle.isdb_mmt.specs.Pushes.Plain.{nextOf, grownOf, CanRaise, CanStoreNext, CanStorePlain}
 use Rattle.isdb_mmt.specs.declared.decoder.place.PlaceFor.the-variants.{Own}
 use Rattle.isdb_mmt.specs.declared.decoder.media.Media.{Media}
 use Rattle.isdb_mmt.proofs.Lent.{length-over, be-apart, put-none, puts-whole}
@@ -94,9 +96,65 @@ module _ (p : List ℕ) (n : ℕ) (l1 l2 l3 l4 : List ℕ)
           a ∙ sym (left-alone steps 0 p p o (λ j b. refl)) ∙ ap (λ (fs : List Field). puts 0 fs p) fields-are
           ∙ puts-whole (mediaFields (nextOf (mediaPlaceOf p) n)) p (can .long)
 
+-- ---- the place, with a middle part
+
+module _ (p : List ℕ) (n k : ℕ) (rap : Bool) (er : rap ≡ flag p (objectPlace + 4)) (l1 l2 l3 l4 l5 : List ℕ)
+    (e1 : l1 ≡ puts 4 (fourFields 0x1410 1 n 1 0) p)
+    (e2 : l2 ≡ putBe 1 heldPlace 1 l1)
+    (e3 : l3 ≡ putBe 1 (objectPlace + 4) (flagByte rap) l2)
+    (e4 : l4 ≡ putBe 1 (objectPlace + 5) 1 l3)
+    (e5 : l5 ≡ puts (objectPlace + 20) (fourFields 0x1440 0 0 k 0) l4) where
+  abbrev laidOut : List ℕ
+  laidOut =
+      putBe 4 44 k (putBe 4 40 0 (putBe 1 39 0 (putBe 1 24 1 (putBe 1 23 (flagByte (flag p 23)) (putBe 1 18 1 (putBe 1 9 1 (putBe 4 5 n (putBe 1 4 1 p))))))))
+
+  laid-is : l5 ≡ laidOut
+  laid-is =
+      let a1 : l1 ≡ putBe 1 9 1 (putBe 4 5 n (putBe 1 4 1 p)) = e1 ∙ put-none 10 0 (putBe 1 9 1 (putBe 4 5 n (putBe 1 4 1 p))) in
+      let a4 : l4 ≡ putBe 1 24 1 (putBe 1 23 (flagByte (flag p 23)) (putBe 1 18 1 (putBe 1 9 1 (putBe 4 5 n (putBe 1 4 1 p))))) =
+      e4 ∙ ap (putBe 1 24 1) (e3 ∙ ap (λ (b : Bool). putBe 1 23 (flagByte b) l2) er ∙ ap (putBe 1 23 (flagByte (flag p 23))) (e2 ∙ ap (putBe 1 18 1) a1)) in
+      e5 ∙ put-none 48 0 (putBe 4 44 k (putBe 4 40 0 (putBe 1 39 0 l4))) ∙ ap (λ (l : List ℕ). putBe 4 44 k (putBe 4 40 0 (putBe 1 39 0 l))) a4
+
+  abbrev firstSteps : List Step
+  firstSteps =
+      leave 4 ∷ store 1 1 ∷ store 4 n ∷ store 1 1 ∷ leave 4 ∷ leave 4 ∷ store 1 1
+      ∷ leave 4 ∷ store 1 (flagByte (flag p 23)) ∷ store 1 1 ∷ leave 4 ∷ leave 4 ∷ leave 4 ∷ leave 1 ∷ leave 1 ∷ store 1 0 ∷ store 4 0 ∷ store 4 k ∷ []
+
+  grown-behind : Octets p → be 8 l5 statsPlace ≡ be 8 p statsPlace
+  grown-behind o =
+      ap (λ (l : List ℕ). be 8 l statsPlace) (laid-is ∙ sym (left-alone firstSteps 0 p p o (λ j b. refl)))
+      ∙ be-puts 8 (standing 0 firstSteps p) 0 p statsPlace (omega arith)
+
+  grown-long : length l5 ≡ length p
+  grown-long = ap length laid-is ∙ stepped-long
+    where
+      stepped-long : length laidOut ≡ length p
+      stepped-long =
+          length-putBe 4 44 k _ ∙ length-putBe 4 40 0 _ ∙ length-putBe 1 39 0 _ ∙ length-putBe 1 24 1 _ ∙ length-putBe 1 23 (flagByte (flag p 23)) _
+          ∙ length-putBe 1 18 1 _ ∙ length-putBe 1 9 1 _ ∙ length-putBe 4 5 n _ ∙ length-putBe 1 4 1 p
+
+  module _ (can : CanStoreNext p) (o : Octets p) where
+    pub can-raise-grown : CanRaise l5 statsPlace
+    can-raise-grown = record { there = omega (arith, grown-long, can .long); small = omega (arith, grown-behind o, can .packets) }
+
+    abbrev allSteps : List Step
+    allSteps =
+        firstSteps ++ (store 8 (be 8 p statsPlace + 1) ∷ leave 8 ∷ leave 8 ∷ leave 8 ∷ leave 8 ∷ leave 8 ∷ leave 8 ∷ leave 8 ∷ leave 8 ∷ [])
+
+    grown-fields : standing 0 allSteps p ≡ mediaFields (grownOf (mediaPlaceOf p) n k)
+    unfolding grownOf mediaPlaceOf heldObjectOf statsOf
+    grown-fields = refl
+
+    pub stored-grown : (l6 : List ℕ) → l6 ≡ puts statsPlace (field 8 (be 8 l5 statsPlace + 1) ∷ []) l5
+        → l6 ≡ written (mediaFields (grownOf (mediaPlaceOf p) n k))
+    stored-grown l6 e6 =
+        let a : l6 ≡ putBe 8 48 (be 8 p 48 + 1) laidOut = e6 ∙ ap (λ v. putBe 8 48 (v + 1) l5) (grown-behind o) ∙ ap (putBe 8 48 (be 8 p 48 + 1)) laid-is in
+        a ∙ sym (left-alone allSteps 0 p p o (λ j b. refl)) ∙ ap (λ (fs : List Field). puts 0 fs p) grown-fields
+        ∙ puts-whole (mediaFields (grownOf (mediaPlaceOf p) n k)) p (can .long)
+
 -- ---- the state
 
-module _ (s : List ℕ) (i n : ℕ) (can : CanStorePlain s i) where
+module _ (s : List ℕ) (i : ℕ) (can : CanStorePlain s i) where
   abbrev at : ℕ
   at = mediaPlaces + mediaSize * i
 
@@ -112,15 +170,16 @@ module _ (s : List ℕ) (i n : ℕ) (can : CanStorePlain s i) where
       let k : length (part at mediaSize s) ≡ mediaSize = length-take-le mediaSize (drop at s) (rw length-drop (omega (arith, can .long, can .index))) in
       rw there-is (record { long = k; packets = can .modest .packets; mfus = can .modest .mfus })
 
-  abbrev next : Media
-  next = nextOf (mediaAt s i) n
+  -- the place with what a packet makes of it
+  module _ (after : Media → Media) (m : List ℕ) (em : m ≡ written (mediaFields (after (mediaPlaceOf there)))) where
+    abbrev next : Media
+    next = after (mediaAt s i)
 
-  module _ (m : List ℕ) (em : m ≡ written (mediaFields (nextOf (mediaPlaceOf there) n))) where
     abbrev s1 : List ℕ
     s1 = putMid at (at + mediaSize - at) s m
 
     s1-is : s1 ≡ over at (written (mediaFields next)) s
-    s1-is = sent (mediaFields next) at s (em ∙ ap (λ (p : List ℕ). written (mediaFields (nextOf (mediaPlaceOf p) n))) there-is)
+    s1-is = sent (mediaFields next) at s (em ∙ ap (λ (p : List ℕ). written (mediaFields (after (mediaPlaceOf p)))) there-is)
 
     fits : at + length (written (mediaFields next)) ≤ length s
     fits = omega (arith, length-written (mediaFields next), can .long, can .index)
@@ -132,12 +191,28 @@ module _ (s : List ℕ) (i n : ℕ) (can : CanStorePlain s i) where
     unfolding countersOf
     counted = ap (λ (l : List ℕ). be 8 l countersPlace) s1-is ∙ be-apart at (written (mediaFields next)) s fits 8 countersPlace (inl (omega arith))
 
-    pub can-raise-all : CanRaise s1 countersPlace
-    can-raise-all = record { there = omega (arith, s1-long, can .long); small = omega (arith, counted, can .packets) }
+    raise-all : CanRaise s1 countersPlace
+    raise-all = record { there = omega (arith, s1-long, can .long); small = omega (arith, counted, can .packets) }
 
-    pub stored-plain : (s2 : List ℕ) → s2 ≡ puts countersPlace (field 8 (be 8 s1 countersPlace + 1) ∷ []) s1 → s2 ≡ stateAfter s next (Own i)
+    stored-after : (s2 : List ℕ) → s2 ≡ puts countersPlace (field 8 (be 8 s1 countersPlace + 1) ∷ []) s1 → s2 ≡ stateAfter s next (Own i)
     unfolding stateAfter
-    stored-plain s2 e =
+    stored-after s2 e =
         e ∙ ap (λ v. puts countersPlace (field 8 (v + 1) ∷ []) s1) counted
         ∙ stored (field 8 (countersOf s .«tlv_packets» + 1) ∷ []) countersPlace s1 (omega (arith, s1-long, can .long)) refl
         ∙ ap (withPackets (countersOf s .«tlv_packets» + 1)) s1-is
+
+  module _ (n : ℕ) (m : List ℕ) (em : m ≡ written (mediaFields (nextOf (mediaPlaceOf there) n))) where
+    pub can-raise-plain : CanRaise (putMid at (at + mediaSize - at) s m) countersPlace
+    can-raise-plain = raise-all (λ p. nextOf p n) m em
+
+    pub stored-plain : (s2 : List ℕ) → s2 ≡ puts countersPlace (field 8 (be 8 (putMid at (at + mediaSize - at) s m) countersPlace + 1) ∷ []) (putMid at (at + mediaSize - at) s m)
+        → s2 ≡ stateAfter s (nextOf (mediaAt s i) n) (Own i)
+    stored-plain = stored-after (λ p. nextOf p n) m em
+
+  module _ (n k : ℕ) (m : List ℕ) (em : m ≡ written (mediaFields (grownOf (mediaPlaceOf there) n k))) where
+    pub can-raise-part : CanRaise (putMid at (at + mediaSize - at) s m) countersPlace
+    can-raise-part = raise-all (λ p. grownOf p n k) m em
+
+    pub stored-part : (s2 : List ℕ) → s2 ≡ puts countersPlace (field 8 (be 8 (putMid at (at + mediaSize - at) s m) countersPlace + 1) ∷ []) (putMid at (at + mediaSize - at) s m)
+        → s2 ≡ stateAfter s (grownOf (mediaAt s i) n k) (Own i)
+    stored-part = stored-after (λ p. grownOf p n k) m em

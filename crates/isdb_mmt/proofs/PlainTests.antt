@@ -12,7 +12,7 @@ use lib.ListN.{length, getD, take, drop, length-drop}
 use lib.Seq.{getD-take, getD-drop, drop-drop, take-all, length-take-le}
 use borrow.Author.Tests.{lt-ltb, le-ltb, le-leb, lt-leb, eq-eqb, ne-eqb, ltb-false, leb-false, eqb-true, eqb-false}
 use mir.Val.{Fits}
-use mir.Syntax.{w64}
+use mir.Syntax.{w32, w64}
 use Rattle.isdb_tlv.specs.Bytes.{be}
 use Rattle.isdb_tlv.proofs.Numbers.{be-take, be-drop}
 use Rattle.isdb_tlv.proofs.Guards.{either}
@@ -30,16 +30,19 @@ use Rattle.isdb_tlv.specs.declared.mmtp.Parsed.the-variants.{Some as somePacket
 use Rattle.isdb_mmt.specs.Decoder.Packet.{Bytes, media, mediaOf, byType, mmtpIn, datagramIn, byKind, classify}
 use Rattle.isdb_mmt.specs.Formats.Part.{partOf}
 use Rattle.isdb_mmt.specs.Formats.Mpu.{fragmentType, indicator, payloadHeaderFields, payloadHeader, declaredOf, mfuAt, timedUnit, unitIn, unitAt, unitStep, unitsFrom, unitsOf, follows}
-use Rattle.isdb_mmt.specs.Memory.Layout.{mostMediaIds, usedPlace, mediaPlaces, mediaSize, heldPlace}
+use Rattle.isdb_mmt.specs.Memory.Layout.{mostMediaIds, usedPlace, mediaPlaces, mediaSize, heldPlace, objectPlace}
 use Rattle.isdb_mmt.specs.Memory.Lent.{flag, namesFrom, foundFrom}
-use Rattle.isdb_mmt.specs.Memory.Session.{limitsOf, usedOf, mediaPlaceOf, mediaAt}
+use Rattle.isdb_mmt.specs.Memory.Session.{limitsOf, usedOf, heldObjectOf, mediaPlaceOf, mediaAt}
 use Rattle.isdb_mmt.specs.Memory.Check.{PlacesThere}
 use Rattle.isdb_mmt.specs.Pushes.MediaPush.{mediaPlaceFor}
-use Rattle.isdb_mmt.specs.Pushes.Plain.{payloadStart, isMpu, isUnit, isNext, plainHeader, NextAt}
+use Rattle.isdb_mmt.specs.Pushes.Plain.{payloadStart, wholeUnit, middlePart, isMpu, isUnit, isNext, growing, plainHeader, NextAt, FreeHeader, CanGrow, GrownAt}
 use Rattle.isdb_mmt.specs.declared.mpu.FragmentType.the-variants.{Mfu}
-use Rattle.isdb_mmt.specs.declared.mpu.FragmentationIndicator.the-variants.{Complete}
+use Rattle.isdb_mmt.specs.declared.mpu.FragmentationIndicator.{FragmentationIndicator}
+use Rattle.isdb_mmt.specs.declared.mpu.FragmentationIndicator.the-variants.{Complete, Middle}
 use Rattle.isdb_mmt.specs.declared.mpu.PayloadHeader.{PayloadHeader}
-use Rattle.isdb_mmt.specs.declared.mpu.MaybeHeader.the-variants.{Some as payload}
+use Rattle.isdb_mmt.specs.declared.mpu.MaybeHeader.{MaybeHeader}
+use Rattle.isdb_mmt.specs.declared.mpu.MaybeHeader.the-variants.{None as noPayload, Some as payload}
+use Rattle.isdb_mmt.specs.declared.maybe.MaybeU32.the-variants.{Some as someU32}
 use Rattle.isdb_mmt.specs.declared.mpu.Unit.{Unit as DataUnit}
 use Rattle.isdb_mmt.specs.declared.mpu.UnitStep.the-variants.{End, Unit as found}
 use Rattle.isdb_mmt.specs.declared.decoder.media.Media.{Media}
@@ -153,34 +156,34 @@ module _ (kind : ℕ) (b : Bytes) (f : MpuFacts kind b) where
 
 -- ---- the payload
 
-module _ (p : Bytes) where
-  pub no-header : length p < 22 → false ≡ isUnit p
+module _ (flags : ℕ) (p : Bytes) where
+  pub no-header : length p < 22 → false ≡ isUnit flags p
   unfolding isUnit
   no-header h = rw (lt-ltb (length p) 22 h)
 
   module _ (l : 22 ≤ length p) (n : ℕ) (e : n ≡ be 2 p 0) where
-    pub no-unit : n < 20 → false ≡ isUnit p
+    pub no-unit : n < 20 → false ≡ isUnit flags p
     unfolding isUnit
     no-unit h = rw (le-ltb (length p) 22 l, ← e, lt-ltb n 20 h)
 
     module _ (s : 20 ≤ n) where
-      pub cut-off : length p < n + 2 → false ≡ isUnit p
+      pub cut-off : length p < n + 2 → false ≡ isUnit flags p
       unfolding isUnit
       cut-off h = rw (le-ltb (length p) 22 l, ← e, le-ltb n 20 s, lt-ltb (length p) (n + 2) h)
 
-      pub by-flags : n + 2 ≤ length p → eqb (getD p 2 0) 0x28 ≡ isUnit p
+      pub by-flags : n + 2 ≤ length p → eqb (getD p 2 0) flags ≡ isUnit flags p
       unfolding isUnit
       by-flags h = rw (le-ltb (length p) 22 l, ← e, le-ltb n 20 s, le-ltb (length p) (n + 2) h)
 
-pub record UnitFacts (p : Bytes) : Type 0 where
+pub record UnitFacts (flags : ℕ) (p : Bytes) : Type 0 where
   pub long : 22 ≤ length p
   pub whole : 20 ≤ be 2 p 0
   pub there : be 2 p 0 + 2 ≤ length p
-  pub flags : getD p 2 0 ≡ 0x28
+  pub flags-are : getD p 2 0 ≡ flags
 
-pub unit-facts : (p : Bytes) → isUnit p ≡ true → UnitFacts p
+pub unit-facts : (flags : ℕ) (p : Bytes) → isUnit flags p ≡ true → UnitFacts flags p
 unfolding isUnit
-unit-facts p e =
+unit-facts flags p e =
     let a1 = was-left (ltb (length p) 22) _ e in
     let a2 = was-left (ltb (be 2 p 0) 20) _ (a1 .1) in
     let a3 = was-left (ltb (length p) (be 2 p 0 + 2)) _ (a2 .1) in
@@ -188,41 +191,47 @@ unit-facts p e =
       long = ltb-false (length p) 22 (a1 .0);
       whole = ltb-false (be 2 p 0) 20 (a2 .0);
       there = ltb-false (length p) (be 2 p 0 + 2) (a3 .0);
-      flags = eqb-true (getD p 2 0) 0x28 (a3 .1);
+      flags-are = eqb-true (getD p 2 0) flags (a3 .1);
     }
 
 -- so the length of its data is no less than 0
-pub data-there : (p : Bytes) → isUnit p ≡ true → (n : ℕ) → n ≡ be 2 p 0 → 20 ≤ n
-data-there p e n d = rw d (unit-facts p e .whole)
+pub data-there : (flags : ℕ) (p : Bytes) → isUnit flags p ≡ true → (n : ℕ) → n ≡ be 2 p 0 → 20 ≤ n
+data-there flags p e n d = rw d (unit-facts flags p e .whole)
 
-pub record HeaderFacts (p : Bytes) (x : PayloadHeader) : Type 0 where
+pub record HeaderFacts (p : Bytes) (f : FragmentationIndicator) (x : PayloadHeader) : Type 0 where
   pub kind : x .«fragment_type» ≡ Mfu
   pub timed : x .timed ≡ true
-  pub whole : x .fragmentation ≡ Complete
+  pub division : x .fragmentation ≡ f
   pub single : x .aggregated ≡ false
   pub mpu : x .«mpu_sequence_number» ≡ be 4 p 4
 
-module _ (p : Bytes) (e : isUnit p ≡ true) where
+pub whole-facts : (p : Bytes) → isUnit wholeUnit p ≡ true → HeaderFacts p Complete (payloadHeaderFields p)
+unfolding fragmentType indicator
+whole-facts p e =
+    let f = unit-facts wholeUnit p e .flags-are in
+    record { kind = rw f; timed = rw f; division = rw f; single = rw f; mpu = refl }
+
+pub middle-facts : (p : Bytes) → isUnit middlePart p ≡ true → HeaderFacts p Middle (payloadHeaderFields p)
+unfolding fragmentType indicator
+middle-facts p e =
+    let f = unit-facts middlePart p e .flags-are in
+    record { kind = rw f; timed = rw f; division = rw f; single = rw f; mpu = refl }
+
+module _ (flags : ℕ) (p : Bytes) (e : isUnit flags p ≡ true) where
   pub unit-header : payloadHeader p ≡ payload (payloadHeaderFields p)
   unfolding payloadHeader
   unit-header =
-      let f = unit-facts p e in
+      let f = unit-facts flags p e in
       rw (le-ltb (length p) 2 (omega (arith, f .long)), le-ltb (length p) (be 2 p 0 + 2) (f .there), le-ltb (length p) 8 (omega (arith, f .long)))
-
-  pub header-facts : HeaderFacts p (payloadHeaderFields p)
-  unfolding fragmentType indicator
-  header-facts =
-      let f = unit-facts p e .flags in
-      record { kind = rw f; timed = rw f; whole = rw f; single = rw f; mpu = refl }
 
   abbrev q : Bytes
   q = declaredOf p
 
   pub declared-long : length q ≡ be 2 p 0 + 2
-  declared-long = length-take-le (be 2 p 0 + 2) p (unit-facts p e .there)
+  declared-long = length-take-le (be 2 p 0 + 2) p (unit-facts flags p e .there)
 
   pub unit-there : 22 ≤ length q
-  unit-there = omega (arith, declared-long, unit-facts p e .whole)
+  unit-there = omega (arith, declared-long, unit-facts flags p e .whole)
 
 -- the one unit of declared bytes that are long enough for its header
 module _ (q : Bytes) (long : 22 ≤ length q) where
@@ -277,24 +286,18 @@ module _ (p : List ℕ) (n mpu : ℕ) (x : Bool) (ex : x ≡ flag p 4) where
     unfolding isNext mediaPlaceOf
     no-mpu u = rw (yes ex t, no ey u)
 
-    module _ (u : not y ≡ false) (z : Bool) (ez : z ≡ flag p heldPlace) where
-      pub one-held : z ≡ true → false ≡ isNext (mediaPlaceOf p) n mpu
+    module _ (u : not y ≡ false) (m : ℕ) (em : m ≡ be 4 p 10) where
+      pub other-mpu : (m ≡ mpu → ⊥) → false ≡ isNext (mediaPlaceOf p) n mpu
       unfolding isNext mediaPlaceOf
-      one-held v = rw (yes ex t, yes ey u, sym ez ∙ v)
+      other-mpu d = rw (yes ex t, yes ey u, ← em, ne-eqb m mpu d)
 
-      module _ (v : z ≡ false) (m : ℕ) (em : m ≡ be 4 p 10) where
-        pub other-mpu : (m ≡ mpu → ⊥) → false ≡ isNext (mediaPlaceOf p) n mpu
-        unfolding isNext mediaPlaceOf
-        other-mpu d = rw (yes ex t, yes ey u, sym ez ∙ v, ← em, ne-eqb m mpu d)
-
-        pub by-number : m ≡ mpu → (o : ℕ) → o ≡ be 4 p 5 → (r : Bool) → r ≡ follows o n → r ≡ isNext (mediaPlaceOf p) n mpu
-        unfolding isNext mediaPlaceOf
-        by-number d o eo r er = rw (yes ex t, yes ey u, sym ez ∙ v, ← em, eq-eqb m mpu d, ← eo) er
+      pub by-number : m ≡ mpu → (o : ℕ) → o ≡ be 4 p 5 → (r : Bool) → r ≡ follows o n → r ≡ isNext (mediaPlaceOf p) n mpu
+      unfolding isNext mediaPlaceOf
+      by-number d o eo r er = rw (yes ex t, yes ey u, ← em, eq-eqb m mpu d, ← eo) er
 
 pub record NextFacts (m : Media) (n mpu : ℕ) : Type 0 where
   pub seen : m .seen ≡ true
   pub mpu-seen : m .«mpu_seen» ≡ true
-  pub free : m .held ≡ false
   pub same : m .mpu ≡ mpu
   pub follows-on : follows (m .sequence) n ≡ true
 
@@ -303,9 +306,66 @@ unfolding isNext
 next-facts m n mpu e =
     let a1 = was-guarded (m .seen) _ e in
     let a2 = was-guarded (m .«mpu_seen») _ (a1 .1) in
-    let a3 = was-left (m .held) _ (a2 .1) in
-    let a4 = was-guarded (eqb (m .mpu) mpu) _ (a3 .1) in
-    record { seen = a1 .0; mpu-seen = a2 .0; free = a3 .0; same = eqb-true (m .mpu) mpu (a4 .0); follows-on = a4 .1 }
+    let a3 = was-guarded (eqb (m .mpu) mpu) _ (a2 .1) in
+    record { seen = a1 .0; mpu-seen = a2 .0; same = eqb-true (m .mpu) mpu (a3 .0); follows-on = a3 .1 }
+
+pub next-index : (l : List ℕ) (id n mpu i : ℕ) (f : Found) → NextAt l id n mpu f → f ≡ At i → i < mostMediaIds
+next-index l id n mpu i f w e = let h : NextAt l id n mpu (At i) = rw e at w in h .1 .1
+
+-- the object that it holds
+module _ (p : List ℕ) (x : Bool) (ex : x ≡ flag p heldPlace) where
+  pub none-held : not x ≡ true → false ≡ growing (mediaPlaceOf p)
+  unfolding growing mediaPlaceOf heldObjectOf
+  none-held t = rw (no ex t)
+
+  module _ (t : not x ≡ false) (y : Bool) (ey : y ≡ flag p (objectPlace + 5)) where
+    pub not-timed : not y ≡ true → false ≡ growing (mediaPlaceOf p)
+    unfolding growing mediaPlaceOf heldObjectOf
+    not-timed u = rw (yes ex t, no ey u)
+
+    pub by-item : not y ≡ false → (z : Bool) → z ≡ flag p (objectPlace + 20) → not z ≡ growing (mediaPlaceOf p)
+    unfolding growing mediaPlaceOf heldObjectOf
+    by-item u z ez = rw (yes ex t, yes ey u, ez)
+
+pub record GrowingFacts (m : Media) : Type 0 where
+  pub held : m .held ≡ true
+  pub timed : m .object .timed ≡ true
+  pub no-item : m .object .item ≡ false
+
+pub growing-facts : (m : Media) → growing m ≡ true → GrowingFacts m
+unfolding growing
+growing-facts m e =
+    let a1 = was-guarded (m .held) _ e in
+    let a2 = was-guarded (m .object .timed) _ (a1 .1) in
+    record { held = a1 .0; timed = a2 .0; no-item = is-false (m .object .item) (a2 .1) }
+  where
+    is-false : (b : Bool) → not b ≡ true → b ≡ false
+    is-false false h = refl
+    is-false true h = sym h
+
+-- its length with `n` bytes more
+module _ (l : List ℕ) (i n : ℕ) (can : CanGrow l i n) (p : List ℕ) (ep : p ≡ take mediaSize (drop (mediaPlaces + mediaSize * i) l)) (r : Bool) (er : r ≡ growing (mediaPlaceOf p)) (t : not r ≡ false)
+    (o : ℕ) (eo : o ≡ be 4 p (objectPlace + 25)) (a : ℕ) (ea : a ≡ be 8 l 24) (h : o + n ≤ a) where
+  pub length-cast : Fits w32 (o + n)
+  unfolding limitsOf
+  length-cast = record { fits = omega (arith, ea, can .area, h) }
+
+  pub has-grown : GrownAt l i n (someU32 (o + n))
+  unfolding limitsOf mediaPlaceOf heldObjectOf
+  has-grown = (
+    ap (λ (v : List ℕ). growing (mediaPlaceOf v)) (sym ep) ∙ yes er t,
+    (ap (λ v. v + n) (eo ∙ ap (λ (v : List ℕ). be 4 v (objectPlace + 25)) ep), omega (arith, ea, h)),
+  )
+
+-- a payload's header
+module _ (l : List ℕ) (i : ℕ) (b : Bytes) (p : List ℕ) (ep : p ≡ take mediaSize (drop (mediaPlaces + mediaSize * i) l)) (r : Bool) (er : r ≡ flag p heldPlace) (free : r ≡ false) where
+  none-here : mediaAt l i .held ≡ false
+  unfolding mediaPlaceOf
+  none-here = ap (λ (v : List ℕ). flag v heldPlace) (sym ep) ∙ sym er ∙ free
+
+  pub free-header : (h : MaybeHeader) → h ≡ payloadHeader b → FreeHeader l i b h
+  free-header noPayload e = tt
+  free-header (payload x) e = (none-here, sym e)
 
 -- a name that was found stands there
 pub found-name : (l : List ℕ) (size n at k x j : ℕ) → foundFrom k (namesFrom n size at l) x ≡ At j
@@ -369,5 +429,5 @@ module _ (s : List ℕ) (can : PlacesThere s) (k : ℕ) (ek : k ≡ be 4 s usedP
     unfolding mediaPlaceFor
     next-found n mpu p ep r er t = (
       sym (place-for-old s mediaSize (usedOf s .«media_ids») mediaPlaces (limitsOf s .«media_ids») id f (ef ∙ ap (λ v. foundFrom 0 (namesFrom v mediaSize mediaPlaces s) id) k-is) i at-i),
-      ap (λ (v : List ℕ). isNext (mediaPlaceOf v) n mpu) (sym ep) ∙ sym er ∙ t,
+      (ap (λ (v : List ℕ). isNext (mediaPlaceOf v) n mpu) (sym ep) ∙ sym er ∙ t, index-small),
     )

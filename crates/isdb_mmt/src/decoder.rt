@@ -171,7 +171,7 @@ pub(crate) fn push_in(
     take::take(state, others, objects, messages, tables, kind, b, rows, out)
 }
 
-// The same for one of many: where question 5 is known to be answered yes, the packet that is met most is tried first. `push_in` and
+// The same for one of many: where question 5 is known to be answered yes, the packets that are met most are tried first. `push_in` and
 // `plain::push_plain` have two callers each, which keeps the compiler from laying all that any packet needs into the loop of `push_all`.
 pub(crate) fn push_tried(
     state: &mut [u8],
@@ -208,6 +208,7 @@ pub(crate) fn push_tried(
     place::octets(tables);
     match plain::push_plain(state, others, objects, messages, tables, kind, b, rows, out) {
         Plain::Yes(n) => records::accepted(1, n as u64),
+        Plain::Grown => records::accepted(0, 0),
         Plain::No => push_in(
             state,
             others,
@@ -223,7 +224,7 @@ pub(crate) fn push_tried(
     }
 }
 
-// The same where nothing is known: the packet that is met most is tried first.
+// The same where nothing is known: the packets that are met most are tried first.
 fn push_asked(
     state: &mut [u8],
     others: &mut [u64],
@@ -247,6 +248,7 @@ fn push_asked(
     place::octets(tables);
     match plain::push_plain(state, others, objects, messages, tables, kind, b, rows, out) {
         Plain::Yes(n) => records::accepted(1, n as u64),
+        Plain::Grown => records::accepted(0, 0),
         Plain::No => push_in(
             state,
             others,

@@ -1,13 +1,15 @@
-// The packet that is met most, told by a few tests: compressed IP without a header, MMTP without packet counter and extension, one whole
-// timed unit, for an id whose place holds no object and whose last packet was the one before it, of the same MPU. Of the place a number and
-// two counts change then. What it leaves and hands out is what `take` would; any other packet is left to it.
+// The packets that are met most, told by a few tests: compressed IP without a header, MMTP without packet counter and extension, one timed
+// unit, for an id whose last packet was the one before it, of the same MPU. A whole unit where no object is held: of the place a number and
+// two counts change. A middle part where one is held and has room for it: a number, a count and the object's length. What such a packet
+// leaves and hands out is what `take` would; any other one is left to it.
 ghost use mathlib.Core.Path.{_≡_};
 ghost use mathlib.Core.Bool.{true, false};
-ghost use Prim.Native.Nat.{_+_, _≤_};
+ghost use Prim.Native.Nat.{_+_, _≤_, _<_};
 ghost use mathlib.Core.List.{[], _∷_};
 ghost use lib.ListN.{length};
 ghost use Rattle.isdb_tlv.specs.Bytes.{be};
 ghost use Rattle.isdb_tlv.specs.Fields.{field, written, puts};
+ghost use Rattle.isdb_mmt.specs.Memory.Layout.{mostMediaIds};
 ghost use Rattle.isdb_mmt.specs.Memory.Session.{mediaPlaceOf, mediaFields, mediaAt};
 ghost use Rattle.isdb_mmt.specs.Memory.Check.{PlacesThere};
 ghost use Rattle.isdb_mmt.specs.Memory.Opening.{lent};
@@ -17,12 +19,13 @@ ghost use Rattle.isdb_mmt.specs.Pushes.Giving.{Gave};
 ghost use Rattle.isdb_mmt.specs.Pushes.MediaPush.{MediaPushed};
 ghost use Rattle.isdb_mmt.specs.Pushes.MediaCommit.{stateAfter};
 ghost use Rattle.isdb_mmt.specs.declared.decoder.place.PlaceFor.the-variants.{Own};
-ghost use Rattle.isdb_mmt.specs.Pushes.Plain.{isMpu, isUnit, isNext, plainHeader, nextOf, CanRaise, CanStoreNext, CanStorePlain, NextAt, CanPushUnit, WholeUnit, unitBytes, RoomForUnit, UnitPushed, CanTryPlain, PlainPushed};
+ghost use Rattle.isdb_mmt.specs.Pushes.Plain.{wholeUnit, middlePart, isMpu, isUnit, isNext, growing, plainHeader, nextOf, grownOf, CanRaise, CanStoreNext, CanStorePlain, NextAt, FreeHeader, CanGrow, GrownAt, CanCommitPart, PartLaid, CanPushUnit, WholeUnit, unitBytes, RoomForUnit, UnitPushed, CanTryPlain, PlainPushed};
 use crate::decoder::layout::COUNTERS;
 use crate::decoder::layout::HELD;
 use crate::decoder::layout::MEDIA_PLACES;
 use crate::decoder::layout::MEDIA_SIZE;
 use crate::decoder::layout::OBJECT;
+use crate::decoder::layout::OBJECT_LENGTH;
 use crate::decoder::layout::STATS;
 use crate::decoder::layout::USED;
 use crate::decoder::media::Object;
@@ -32,6 +35,7 @@ use crate::decoder::place::flag;
 use crate::decoder::records;
 use crate::decoder::records::ROW_SIZE;
 use crate::decoder::take;
+use crate::maybe::MaybeU32;
 use crate::mpu;
 use crate::mpu::MaybeHeader;
 use crate::mpu::MfuHeader;
@@ -42,11 +46,17 @@ use isdb_tlv::mmtp::Header;
 use isdb_tlv::mmtp::MaybeControl;
 use isdb_tlv::mmtp::PayloadType;
 
-// Whether the packet was taken, and how many bytes of data it handed out: one record.
+// Whether the packet was taken, with one record and so many bytes of data handed out, or with none.
 pub(crate) enum Plain {
     No,
     Yes(usize),
+    Grown,
 }
+
+// The flags of a payload of one timed unit that is whole, and of a middle part of an object.
+const WHOLE: u8 = 0x28;
+
+const MIDDLE: u8 = 0x2C;
 
 // An MPU payload starts at 15.
 fn is_mpu(kind: u8, b: &[u8]) -> bool
@@ -71,9 +81,9 @@ fn is_mpu(kind: u8, b: &[u8]) -> bool
     b[4] % 64 == 0
 }
 
-// One whole timed unit is all that the payload holds.
-fn is_unit(p: &[u8]) -> bool
-    ensures { λ r. ⌜ r ≡ isUnit (now (p .entry)) ⌝ }
+// One timed unit is all that the payload holds, under these flags.
+fn is_unit(p: &[u8], flags: u8) -> bool
+    ensures { λ r. ⌜ r ≡ isUnit flags (now (p .entry)) ⌝ }
 {
     if p.len() < 22 {
         return false;
@@ -85,7 +95,7 @@ fn is_unit(p: &[u8]) -> bool
     if p.len() < n + 2 {
         return false;
     }
-    p[2] == 0x28
+    p[2] == flags
 }
 
 // Whether packet n of an MPU is the next one of a place.
@@ -96,9 +106,6 @@ fn is_next(p: &[u8], n: u32, mpu: u32) -> bool
         return false;
     }
     if !flag(p, 9) {
-        return false;
-    }
-    if flag(p, HELD) {
         return false;
     }
     if bytes::get_u32(p, 10) != mpu {
@@ -123,6 +130,47 @@ fn next_place(s: &[u8], id: u16, n: u32, mpu: u32) -> Found
             Found::Nothing
         }
     }
+}
+
+// Whether a place holds an object of timed units.
+fn grows(p: &[u8]) -> bool
+    ensures { λ r. ⌜ r ≡ growing (mediaPlaceOf (now (p .entry))) ⌝ }
+{
+    if !flag(p, HELD) {
+        return false;
+    }
+    if !flag(p, OBJECT + 5) {
+        return false;
+    }
+    !flag(p, OBJECT + 20)
+}
+
+// How long the object of place i is with n bytes more, where they have room in its area.
+fn grown_length(s: &[u8], i: usize, n: usize) -> MaybeU32
+    requires { ⌜ CanGrow (now s) i n ⌝ }
+    ensures { λ r. ⌜ GrownAt (now (s .entry)) i n r ⌝ }
+{
+    let p = bytes::part(s, MEDIA_PLACES + MEDIA_SIZE * i, MEDIA_SIZE);
+    if !grows(p) {
+        return MaybeU32::None;
+    }
+    let k = bytes::get_u32(p, OBJECT_LENGTH) as u64 + n as u64;
+    if place::long(s, 24) < k {
+        return MaybeU32::None;
+    }
+    MaybeU32::Some(k as u32)
+}
+
+// The header of a payload for place i, where it holds no object.
+fn unit_header(s: &[u8], i: usize, b: &[u8]) -> MaybeHeader
+    requires { ⌜ i < mostMediaIds ⌝ }
+    ensures { λ r. ⌜ FreeHeader (now (s .entry)) i (now (b .entry)) r ⌝ }
+{
+    let p = bytes::part(s, MEDIA_PLACES + MEDIA_SIZE * i, MEDIA_SIZE);
+    if flag(p, HELD) {
+        return MaybeHeader::None;
+    }
+    mpu::parse_header(b)
 }
 
 fn raise(s: &mut [u8], at: usize)
@@ -154,6 +202,70 @@ fn store_plain(s: &mut [u8], i: usize, n: u32)
     let end = at + MEDIA_SIZE;
     store_next(&mut s[at..end], n);
     raise(s, COUNTERS);
+}
+
+// With packet n the object has k bytes.
+fn store_grown(p: &mut [u8], n: u32, k: u32)
+    requires { ⌜ CanStoreNext (now p) ⌝ }
+    ensures { λ r. ⌜ now (p .exit) ≡ written (mediaFields (grownOf (mediaPlaceOf (now (p .entry))) n k)) ⌝ }
+{
+    place::octets(p);
+    let rap = flag(p, OBJECT + 4);
+    bytes::put4(p, 4, 0x1410, 1, n as u64, 1, 0);
+    bytes::put_u8(p, HELD, 1);
+    bytes::put_u8(p, OBJECT + 4, rap as u8);
+    bytes::put_u8(p, OBJECT + 5, 1);
+    bytes::put4(p, OBJECT + 20, 0x1440, 0, 0, k as u64, 0);
+    raise(p, STATS);
+}
+
+fn store_part(s: &mut [u8], i: usize, n: u32, k: u32)
+    requires { ⌜ CanStorePlain (now s) i ⌝ }
+    ensures { λ r. ⌜ now (s .exit) ≡ stateAfter (now (s .entry)) (grownOf (mediaAt (now (s .entry)) i) n k) (Own i) ⌝ }
+{
+    let at = MEDIA_PLACES + MEDIA_SIZE * i;
+    let end = at + MEDIA_SIZE;
+    store_grown(&mut s[at..end], n, k);
+    raise(s, COUNTERS);
+}
+
+// The data of a payload behind those of the object that place i holds, which has k bytes with them.
+fn commit_part(state: &mut [u8], objects: &mut [u8], b: &[u8], i: usize, n: u32, k: u32)
+    requires { ⌜ CanCommitPart (now state) (now objects) (now b) i k ⌝ }
+    ensures { λ r. ⌜ PartLaid (now (state .entry)) (now (objects .entry)) (now (b .entry)) i n k (now (state .exit)) (now (objects .exit)) ⌝ }
+{
+    let d = bytes::rest(mpu::declared(b), 22);
+    let area = place::long(state, 24) as usize;
+    place::put_in_area(objects, i, area, k as usize - d.len(), d);
+    store_part(state, i, n, k);
+}
+
+// A clear payload of one middle part. What is lent beside the state and the objects is not looked at.
+fn push_part(
+    state: &mut [u8],
+    others: &[u64],
+    objects: &mut [u8],
+    messages: &[u8],
+    tables: &[u8],
+    h: Header,
+    b: &[u8],
+    rows: &[u8],
+    out: &[u8],
+) -> Plain
+    requires { ⌜ CanPushUnit middlePart (lent (now state) (now others) (now objects) (now messages) (now tables)) h (now b) ⌝ }
+    ensures { λ r. ⌜ UnitPushed (lent (now (state .entry)) (now (others .entry)) (now (objects .entry)) (now (messages .entry)) (now (tables .entry))) h (now (b .entry)) (now (rows .entry)) (now (out .entry)) r (lent (now (state .exit)) (now (others .entry)) (now (objects .exit)) (now (messages .entry)) (now (tables .entry))) (now (rows .entry)) (now (out .entry)) ⌝ }
+{
+    let n = bytes::get_u16(b, 0) as usize - 20;
+    match next_place(state, h.packet_id, h.sequence, bytes::get_u32(b, 4)) {
+        Found::Nothing => Plain::No,
+        Found::At(i) => match grown_length(state, i, n) {
+            MaybeU32::None => Plain::No,
+            MaybeU32::Some(k) => {
+                commit_part(state, objects, b, i, h.sequence, k);
+                Plain::Grown
+            }
+        },
+    }
 }
 
 // The one unit that the declared bytes q hold: one record.
@@ -222,7 +334,7 @@ fn push_unit(
     rows: &mut [u8],
     out: &mut [u8],
 ) -> Plain
-    requires { ⌜ CanPushUnit (lent (now state) (now others) (now objects) (now messages) (now tables)) h (now p) ⌝ }
+    requires { ⌜ CanPushUnit wholeUnit (lent (now state) (now others) (now objects) (now messages) (now tables)) h (now p) ⌝ }
     ensures { λ r. ⌜ UnitPushed (lent (now (state .entry)) (now (others .entry)) (now (objects .entry)) (now (messages .entry)) (now (tables .entry))) h (now (p .entry)) (now (rows .entry)) (now (out .entry)) r (lent (now (state .exit)) (now (others .entry)) (now (objects .entry)) (now (messages .entry)) (now (tables .entry))) (now (rows .exit)) (now (out .exit)) ⌝ }
 {
     if rows.len() < ROW_SIZE {
@@ -234,7 +346,7 @@ fn push_unit(
     }
     match next_place(state, h.packet_id, h.sequence, bytes::get_u32(p, 4)) {
         Found::Nothing => Plain::No,
-        Found::At(i) => match mpu::parse_header(p) {
+        Found::At(i) => match unit_header(state, i, p) {
             MaybeHeader::None => Plain::No,
             MaybeHeader::Some(x) => {
                 commit_unit(
@@ -276,7 +388,7 @@ fn header_in(b: &[u8]) -> Header
 pub(crate) fn push_plain(
     state: &mut [u8],
     others: &[u64],
-    objects: &[u8],
+    objects: &mut [u8],
     messages: &[u8],
     tables: &[u8],
     kind: u8,
@@ -285,7 +397,7 @@ pub(crate) fn push_plain(
     out: &mut [u8],
 ) -> Plain
     requires { ⌜ CanTryPlain (lent (now state) (now others) (now objects) (now messages) (now tables)) ⌝ }
-    ensures { λ r. ⌜ PlainPushed (lent (now (state .entry)) (now (others .entry)) (now (objects .entry)) (now (messages .entry)) (now (tables .entry))) (input kind (now (b .entry)) (now (rows .entry)) (now (out .entry))) r (lent (now (state .exit)) (now (others .entry)) (now (objects .entry)) (now (messages .entry)) (now (tables .entry))) (now (rows .exit)) (now (out .exit)) ⌝ }
+    ensures { λ r. ⌜ PlainPushed (lent (now (state .entry)) (now (others .entry)) (now (objects .entry)) (now (messages .entry)) (now (tables .entry))) (input kind (now (b .entry)) (now (rows .entry)) (now (out .entry))) r (lent (now (state .exit)) (now (others .entry)) (now (objects .exit)) (now (messages .entry)) (now (tables .entry))) (now (rows .exit)) (now (out .exit)) ⌝ }
 {
     if !is_mpu(kind, b) {
         return Plain::No;
@@ -294,13 +406,16 @@ pub(crate) fn push_plain(
         return Plain::No;
     }
     let p = bytes::rest(b, 15);
-    if !is_unit(p) {
-        return Plain::No;
-    }
     if !take::may_take(state) {
         return Plain::No;
     }
     place::octets(b);
     let h = header_in(b);
-    push_unit(state, others, objects, messages, tables, h, p, rows, out)
+    if is_unit(p, WHOLE) {
+        return push_unit(state, others, objects, messages, tables, h, p, rows, out);
+    }
+    if is_unit(p, MIDDLE) {
+        return push_part(state, others, objects, messages, tables, h, p, rows, out);
+    }
+    Plain::No
 }

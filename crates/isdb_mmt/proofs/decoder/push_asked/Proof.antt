@@ -1,6 +1,6 @@
 use Rattle.isdb_mmt.proofs.Pushing.{push-five}
 use Rattle.isdb_mmt.proofs.PushAll.{unknown-session}
-use Rattle.isdb_mmt.proofs.PlainPushes.{can-try-asked, still-asked, plain-taken, then-pushed}
+use Rattle.isdb_mmt.proofs.PlainPushes.{can-try-asked, still-asked, plain-taken, plain-grown, then-pushed}
 use borrow.Author.Needs.{needs}
 use Rattle.isdb_mmt.proofs.decoder.push_asked.Statement.{statement}
 use Rattle.isdb_mmt.proofs.decoder.push_asked.Tie as tie
@@ -53,8 +53,14 @@ accepted-requires c κs = search needs
 enum-told : tie.Need-enum-told
 enum-told c = search needs
 
+accepted-requires-2 : tie.Need-accepted-requires-2
+accepted-requires-2 c κs = search needs
+
+enum-told-2 : tie.Need-enum-told-2
+enum-told-2 c = search needs
+
 push-in-requires : tie.Need-push-in-requires
-push-in-requires c κs = still-asked _ _ _ _ _ _ _ _ _ _ _ _ _ (c .before .before .before .before .before .before .before .before .before .before .before .before .before .before .before .push-plain .ensures) (c .before .before .before .before .before .before .before .enum-told .given .1) (c .before .before .before .before .before .before .before .before .before .before .before .before .before .before .before .before .before .before .before .before .before .before .before .before .before .before .before .before .before .before .before .before .before .before .before .before .before .before .before .before .before .before .before .before .before .before .pre) _ (c .before .before .before .before .before .before .before .before .before .before .before .before .before .before .before .before .before .before .before .before .before .before .before .before .before .before .before .before .before .before .before .before .holds-session .ensures) (c .before .before .before .before .before .before .before .before .before .before .before .before .before .before .before .before .before .before .before .before .before .before .before .before .before .before .before .before .before .before .before .if1 .left)
+push-in-requires c κs = still-asked _ _ _ _ _ _ _ _ _ _ _ _ _ _ (c .before .before .before .before .before .before .before .before .before .before .before .before .before .before .before .before .before .push-plain .ensures) (c .before .before .before .before .before .before .before .enum-told2 .given .1) (c .before .before .before .before .before .before .before .before .before .before .before .before .before .before .before .before .before .before .before .before .before .before .before .before .before .before .before .before .before .before .before .before .before .before .before .before .before .before .before .before .before .before .before .before .before .before .before .before .pre) _ (c .before .before .before .before .before .before .before .before .before .before .before .before .before .before .before .before .before .before .before .before .before .before .before .before .before .before .before .before .before .before .before .before .before .before .holds-session .ensures) (c .before .before .before .before .before .before .before .before .before .before .before .before .before .before .before .before .before .before .before .before .before .before .before .before .before .before .before .before .before .before .before .before .before .if1 .left)
 
 same-length-6 : tie.Need-same-length-6
 same-length-6 c = search needs
@@ -102,7 +108,31 @@ same-length-19 : tie.Need-same-length-19
 same-length-19 c = search needs
 
 returns-3 : tie.Need-returns-3
-returns-3 c = search (needs, then-pushed)
+returns-3 c = search (needs, plain-grown)
+
+same-length-20 : tie.Need-same-length-20
+same-length-20 c = search needs
+
+same-length-21 : tie.Need-same-length-21
+same-length-21 c = search needs
+
+same-length-22 : tie.Need-same-length-22
+same-length-22 c = search needs
+
+same-length-23 : tie.Need-same-length-23
+same-length-23 c = search needs
+
+same-length-24 : tie.Need-same-length-24
+same-length-24 c = search needs
+
+same-length-25 : tie.Need-same-length-25
+same-length-25 c = search needs
+
+same-length-26 : tie.Need-same-length-26
+same-length-26 c = search needs
+
+returns-4 : tie.Need-returns-4
+returns-4 c = search (needs, then-pushed)
 
 pub push-asked-spec : {M : Type 1} → statement M
 push-asked-spec =
@@ -124,6 +154,8 @@ push-asked-spec =
     enum-known-n
     accepted-requires
     enum-told
+    accepted-requires-2
+    enum-told-2
     push-in-requires
     same-length-6
     same-length-7
@@ -140,4 +172,12 @@ push-asked-spec =
     same-length-17
     same-length-18
     same-length-19
-    returns-3)
+    returns-3
+    same-length-20
+    same-length-21
+    same-length-22
+    same-length-23
+    same-length-24
+    same-length-25
+    same-length-26
+    returns-4)

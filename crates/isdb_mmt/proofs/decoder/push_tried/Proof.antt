@@ -1,4 +1,4 @@
-use Rattle.isdb_mmt.proofs.PlainPushes.{can-try-known, still-known, plain-taken, then-pushed}
+use Rattle.isdb_mmt.proofs.PlainPushes.{can-try-known, still-known, plain-taken, plain-grown, then-pushed}
 use borrow.Author.Needs.{needs}
 use Rattle.isdb_mmt.proofs.decoder.push_tried.Statement.{statement}
 use Rattle.isdb_mmt.proofs.decoder.push_tried.Tie as tie
@@ -54,8 +54,14 @@ accepted-requires c κs = search needs
 enum-told : tie.Need-enum-told
 enum-told c = search needs
 
+accepted-requires-2 : tie.Need-accepted-requires-2
+accepted-requires-2 c κs = search needs
+
+enum-told-2 : tie.Need-enum-told-2
+enum-told-2 c = search needs
+
 push-in-requires-2 : tie.Need-push-in-requires-2
-push-in-requires-2 c κs = still-known _ _ _ _ _ _ _ _ _ _ _ _ _ (c .before .before .before .before .before .before .before .before .before .before .before .before .before .before .before .push-plain .ensures) (c .before .before .before .before .before .before .before .enum-told .given .1) _ (c .before .before .before .before .before .before .before .before .before .before .before .before .before .before .before .before .before .before .before .before .before .before .before .before .before .before .before .before .before .before .before .before .before .before .before .before .before .before .before .before .pre) (c .before .before .before .before .before .before .before .before .before .before .before .before .before .before .before .before .before .before .before .before .before .before .before .before .before .before .before .before .before .before .before .if1 .left)
+push-in-requires-2 c κs = still-known _ _ _ _ _ _ _ _ _ _ _ _ _ _ (c .before .before .before .before .before .before .before .before .before .before .before .before .before .before .before .before .before .push-plain .ensures) (c .before .before .before .before .before .before .before .enum-told2 .given .1) _ (c .before .before .before .before .before .before .before .before .before .before .before .before .before .before .before .before .before .before .before .before .before .before .before .before .before .before .before .before .before .before .before .before .before .before .before .before .before .before .before .before .before .before .pre) (c .before .before .before .before .before .before .before .before .before .before .before .before .before .before .before .before .before .before .before .before .before .before .before .before .before .before .before .before .before .before .before .before .before .if1 .left)
 
 same-length-8 : tie.Need-same-length-8
 same-length-8 c = search needs
@@ -103,7 +109,31 @@ same-length-21 : tie.Need-same-length-21
 same-length-21 c = search needs
 
 returns-3 : tie.Need-returns-3
-returns-3 c = search (needs, then-pushed)
+returns-3 c = search (needs, plain-grown)
+
+same-length-22 : tie.Need-same-length-22
+same-length-22 c = search needs
+
+same-length-23 : tie.Need-same-length-23
+same-length-23 c = search needs
+
+same-length-24 : tie.Need-same-length-24
+same-length-24 c = search needs
+
+same-length-25 : tie.Need-same-length-25
+same-length-25 c = search needs
+
+same-length-26 : tie.Need-same-length-26
+same-length-26 c = search needs
+
+same-length-27 : tie.Need-same-length-27
+same-length-27 c = search needs
+
+same-length-28 : tie.Need-same-length-28
+same-length-28 c = search needs
+
+returns-4 : tie.Need-returns-4
+returns-4 c = search (needs, then-pushed)
 
 pub push-tried-spec : {M : Type 1} → statement M
 push-tried-spec =
@@ -126,6 +156,8 @@ push-tried-spec =
     enum-known-n
     accepted-requires
     enum-told
+    accepted-requires-2
+    enum-told-2
     push-in-requires-2
     same-length-8
     same-length-9
@@ -142,4 +174,12 @@ push-tried-spec =
     same-length-19
     same-length-20
     same-length-21
-    returns-3)
+    returns-3
+    same-length-22
+    same-length-23
+    same-length-24
+    same-length-25
+    same-length-26
+    same-length-27
+    same-length-28
+    returns-4)

@@ -1,4 +1,4 @@
-use Rattle.isdb_mmt.proofs.PlainTests.{data-there}
+use Rattle.isdb_mmt.proofs.PlainTests.{data-there, next-index}
 use Rattle.isdb_mmt.proofs.PlainPushes.{unit-left, whole-unit, unit-told}
 use borrow.Author.Needs.{needs}
 use Rattle.isdb_mmt.proofs.decoder.plain.push_unit.Statement.{statement}
@@ -31,8 +31,8 @@ enum-told c = search needs
 enum-known-i : tie.Need-enum-known-i
 enum-known-i c = search needs
 
-parse-header-requires : tie.Need-parse-header-requires
-parse-header-requires c κs = search needs
+unit-header-requires : tie.Need-unit-header-requires
+unit-header-requires c κs = search (needs, next-index)
 
 enum-told-2 : tie.Need-enum-told-2
 enum-told-2 c = search needs
@@ -41,7 +41,7 @@ enum-known-x : tie.Need-enum-known-x
 enum-known-x c = search needs
 
 commit-unit-requires : tie.Need-commit-unit-requires
-commit-unit-requires c κs = let a = c .before .before .before .before .before .before .before .before .before .before .before .before .before .before .before .before .before .before .before .before .before .before .before .before .args in whole-unit _ _ _ _ _ (a .h) _ (a .rows .now) (a .out .now) (c .before .before .before .before .before .before .before .before .before .before .before .before .before .before .before .before .before .before .before .before .before .before .before .before .pre) (c .before .before .before .before .before .before .before .before .before .before .before .before .before .before .before .if1 .left) _ (c .before .before .before .before .before .before .before .before .before .before .before .before .before .before .get-u16 .ensures) (c .before .before .before .before .before .before .before .before .before .before .before .before .before .if2 .left) _ (c .before .before .before .before .before .before .before .before .before .before .before .get-u32 .ensures) _ (c .before .before .before .before .before .before .before .before .before .before .next-place .ensures) _ (c .before .before .before .before .before .before .before .before .i .given .1) _ (c .before .before .before .before .before .before .parse-header .ensures) _ (c .before .before .before .before .x .given .1)
+commit-unit-requires c κs = let a = c .before .before .before .before .before .before .before .before .before .before .before .before .before .before .before .before .before .before .before .before .before .before .before .before .before .args in whole-unit _ _ _ _ _ (a .h) _ (a .rows .now) (a .out .now) (c .before .before .before .before .before .before .before .before .before .before .before .before .before .before .before .before .before .before .before .before .before .before .before .before .before .pre) (c .before .before .before .before .before .before .before .before .before .before .before .before .before .before .before .before .if1 .left) _ (c .before .before .before .before .before .before .before .before .before .before .before .before .before .before .before .get-u16 .ensures) (c .before .before .before .before .before .before .before .before .before .before .before .before .before .before .if2 .left) _ (c .before .before .before .before .before .before .before .before .before .before .before .before .get-u32 .ensures) _ (c .before .before .before .before .before .before .before .before .before .before .before .next-place .ensures) _ (c .before .before .before .before .before .before .before .before .before .i .given .1) _ (c .before .before .before .before .before .before .unit-header .ensures) _ (c .before .before .before .before .x .given .1)
 
 same-length : tie.Need-same-length
 same-length c = search needs
@@ -65,7 +65,7 @@ same-length-5 : tie.Need-same-length-5
 same-length-5 c = search needs
 
 returns-5 : tie.Need-returns-5
-returns-5 c = let a = c .before .before .before .before .before .before .before .before .before .before .before .before .before .before .before .before .before .before .before .before .before .before .before .before .before .before .before .before .before .before .before .args in unit-told _ _ _ _ _ (a .h) _ (a .rows .now) (a .out .now) (c .before .before .before .before .before .before .before .before .before .before .before .before .before .before .before .before .before .before .before .before .before .before .before .before .before .before .before .before .before .before .before .pre) (c .before .before .before .before .before .before .before .before .before .before .before .before .before .before .before .before .before .before .before .before .before .before .if1 .left) _ (c .before .before .before .before .before .before .before .before .before .before .before .before .before .before .before .before .before .before .before .before .before .get-u16 .ensures) (c .before .before .before .before .before .before .before .before .before .before .before .before .before .before .before .before .before .before .before .before .if2 .left) _ (c .before .before .before .before .before .before .before .before .before .before .before .before .before .before .before .before .before .before .get-u32 .ensures) _ (c .before .before .before .before .before .before .before .before .before .before .before .before .before .before .before .before .before .next-place .ensures) _ (c .before .before .before .before .before .before .before .before .before .before .before .before .before .before .before .i .given .1) _ (c .before .before .before .before .before .before .before .before .before .before .before .before .before .parse-header .ensures) _ (c .before .before .before .before .before .before .before .before .before .before .before .x .given .1) _ _ _ (c .before .before .before .before .before .before .commit-unit .ensures)
+returns-5 c = let a = c .before .before .before .before .before .before .before .before .before .before .before .before .before .before .before .before .before .before .before .before .before .before .before .before .before .before .before .before .before .before .before .before .args in unit-told _ _ _ _ _ (a .h) _ (a .rows .now) (a .out .now) (c .before .before .before .before .before .before .before .before .before .before .before .before .before .before .before .before .before .before .before .before .before .before .before .before .before .before .before .before .before .before .before .before .pre) (c .before .before .before .before .before .before .before .before .before .before .before .before .before .before .before .before .before .before .before .before .before .before .before .if1 .left) _ (c .before .before .before .before .before .before .before .before .before .before .before .before .before .before .before .before .before .before .before .before .before .before .get-u16 .ensures) (c .before .before .before .before .before .before .before .before .before .before .before .before .before .before .before .before .before .before .before .before .before .if2 .left) _ (c .before .before .before .before .before .before .before .before .before .before .before .before .before .before .before .before .before .before .before .get-u32 .ensures) _ (c .before .before .before .before .before .before .before .before .before .before .before .before .before .before .before .before .before .before .next-place .ensures) _ (c .before .before .before .before .before .before .before .before .before .before .before .before .before .before .before .before .i .given .1) _ (c .before .before .before .before .before .before .before .before .before .before .before .before .before .unit-header .ensures) _ (c .before .before .before .before .before .before .before .before .before .before .before .x .given .1) _ _ _ (c .before .before .before .before .before .before .commit-unit .ensures)
 
 pub push-unit-spec : {M : Type 1} → statement M
 push-unit-spec =
@@ -80,7 +80,7 @@ push-unit-spec =
     next-place-requires
     enum-told
     enum-known-i
-    parse-header-requires
+    unit-header-requires
     enum-told-2
     enum-known-x
     commit-unit-requires

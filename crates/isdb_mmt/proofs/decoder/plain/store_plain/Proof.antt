@@ -1,4 +1,4 @@
-use Rattle.isdb_mmt.proofs.PlainStores.{can-next, can-raise-all, stored-plain}
+use Rattle.isdb_mmt.proofs.PlainStores.{can-next, can-raise-plain, stored-plain}
 use borrow.Author.Needs.{needs}
 use Rattle.isdb_mmt.proofs.decoder.plain.store_plain.Statement.{statement}
 use Rattle.isdb_mmt.proofs.decoder.plain.store_plain.Tie as tie
@@ -25,7 +25,7 @@ store-next-requires : tie.Need-store-next-requires
 store-next-requires c κs = search (needs, can-next)
 
 raise-requires : tie.Need-raise-requires
-raise-requires c κs = search (needs, can-raise-all)
+raise-requires c κs = search (needs, can-raise-plain)
 
 same-length : tie.Need-same-length
 same-length c = search needs
