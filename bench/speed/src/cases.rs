@@ -70,7 +70,7 @@ fn scan(name: &str, pattern: &[u8], packets: usize) -> Case {
 }
 
 pub fn all() -> Vec<Case> {
-    let mut cases: Vec<Case> = [0, 100, 300, 512].map(|sections| media(8, sections)).into();
+    let mut cases: Vec<Case> = [0, 4, 100, 300, 512].map(|sections| media(8, sections)).into();
     cases.extend([1, 32, 64].map(|ids| media(ids, 0)));
     cases.push(media(64, 512));
     cases.extend([objects(32, 10_000), objects(4, 100_000), objects(1, 1_000_000), eits(false), eits(true), pa(), control()]);
