@@ -159,22 +159,12 @@ module _ (s : Session) (ok : Sound (s .state) (s .others) (lengthsOf s)) (id : �
       ap (orElse fresh) (absent (entries s) id 0 (ap (λ (ns : List ℕ). foundFrom 0 ns id) (entry-names s) ∙ e) .0)
 
   begins-blank : (place-for : PlaceFor) → assetOf id (view s) ≡ fresh → Begins s id place-for blank
+  unfolding every
   begins-blank place-for e =
       record {
         is = e ∙ sym (blank-fresh (part (indexOf place-for * limitsOf (s .state) .«mfu_area») 0 (s .objects)));
         held = λ t. true-not-false false t refl;
-        modest =
-            record {
-              packets = omega arith;
-              lost = omega arith;
-              scrambled = omega arith;
-              mfus = omega arith;
-              scrambledMfus = omega arith;
-              dropped = omega arith;
-              mpus = omega arith;
-              jumps = omega arith;
-              malformed = omega arith;
-            };
+        modest = modest-was (blank .stats) refl;
       }
 
   begins-at : (place-for : PlaceFor) → mediaPlaceFor (s .state) id ≡ place-for → Begins s id place-for (placeIn (s .state) place-for)
