@@ -24,40 +24,15 @@ module _ (q : Needs) (l : Limits) (u : Used) where
   asks-kept a b d r g =
       let r0 : rowSize * q .records ≤ 0 = omega arith in
       let g0 : q .dataBytes ≤ 0 = omega arith in
-      either (ltb (l .sections) (u .sections + q .sections)) (λ x. rw (le-leb _ _ a, le-leb _ _ b, lt-leb _ _ (ltb-true _ _ x), x) refl)
+      rw (le-leb _ _ a, le-leb _ _ b)
+      (either (ltb (l .sections) (u .sections + q .sections)) (λ x. rw (lt-leb _ _ (ltb-true _ _ x), x) refl)
       (λ x.
-      either (ltb (l .«message_area») (q .message))
-      (λ y. rw (le-leb _ _ a, le-leb _ _ b, le-leb _ _ (ltb-false _ _ x), le-leb _ _ d, lt-leb _ _ (ltb-true _ _ y), x, y) refl)
+      rw (le-leb _ _ (ltb-false _ _ x), le-leb _ _ d, x)
+      (either (ltb (l .«message_area») (q .message)) (λ y. rw (lt-leb _ _ (ltb-true _ _ y), y) refl)
       (λ y.
-      either (ltb (l .«table_area») (q .table))
-      (λ z.
-      rw (
-        le-leb _ _ a,
-        le-leb _ _ b,
-        le-leb _ _ (ltb-false _ _ x),
-        le-leb _ _ d,
-        le-leb _ _ (ltb-false _ _ y),
-        lt-leb _ _ (ltb-true _ _ z),
-        x,
-        y,
-        z,
-      )
-      refl)
-      (λ z.
-      rw (
-        le-leb _ _ a,
-        le-leb _ _ b,
-        le-leb _ _ (ltb-false _ _ x),
-        le-leb _ _ d,
-        le-leb _ _ (ltb-false _ _ y),
-        le-leb _ _ (ltb-false _ _ z),
-        le-leb _ _ r0,
-        le-leb _ _ g0,
-        x,
-        y,
-        z,
-      )
-      refl)))
+      rw (le-leb _ _ (ltb-false _ _ y), y)
+      (either (ltb (l .«table_area») (q .table)) (λ z. rw (lt-leb _ _ (ltb-true _ _ z), z) refl)
+      (λ z. rw (le-leb _ _ (ltb-false _ _ z), le-leb _ _ r0, le-leb _ _ g0, z) refl))))))
 
   -- where no table is kept, only a message
   pub asks-by : u .«media_ids» + q .mediaIds ≤ l .«media_ids» → u .«control_ids» + q .controlIds ≤ l .«control_ids» → u .sections + q .sections ≤ l .sections
