@@ -26,7 +26,7 @@ use Rattle.isdb_mmt.specs.Pushes.Records.{rowSize}
 use Rattle.isdb_mmt.specs.Memory.Octets.{Octets}
 use Rattle.isdb_mmt.specs.Memory.Lent.{part, over}
 use Rattle.isdb_mmt.specs.Memory.Session.{Session, limitsOf, usedOf, countersOf, countersFields}
-use Rattle.isdb_mmt.specs.Memory.Check.{mediaIn, controlsIn, sectionsIn, packetCounts, tableCounts, lengthsOf, Sound}
+use Rattle.isdb_mmt.specs.Memory.Check.{mediaIn, controlsIn, sectionsIn, tableCounts, lengthsOf, Sound}
 use Rattle.isdb_mmt.specs.Memory.View.{assetEntry, controlEntry, sectionEntry, viewBy, view}
 use Rattle.isdb_mmt.specs.Memory.Opening.{lent}
 use Rattle.isdb_mmt.specs.Pushes.MediaPush.{withUsed}
@@ -45,6 +45,7 @@ use Rattle.isdb_mmt.specs.declared.decoder.head.Used.{Used}
 use Rattle.isdb_mmt.specs.declared.decoder.table_outcome.Recent.{Recent}
 use Rattle.isdb_mmt.specs.declared.decoder.walk.WalkState.{WalkState}
 use Rattle.isdb_mmt.proofs.Checks.{count-was}
+use Rattle.isdb_mmt.proofs.Counting.{countable, state-countable}
 use Rattle.isdb_mmt.proofs.Questions.{asks-zero, asks-places, asks-areas}
 use Rattle.isdb_mmt.proofs.PlacesFor.{length-media, length-indexed}
 use Rattle.isdb_mmt.proofs.MessageLeaves.{length-controls, length-sections}
@@ -70,18 +71,7 @@ module _ (state others objects messages tables : List ℕ) (b : Bytes) (can : Ca
   c₁ = packetCounted (countersOf state) 0 0 0
 
   pub control-countable : (c : Counters) → c ≡ countersOf state → Countable c 0 0 0
-  control-countable c e =
-      let cs = packetCounts (countersOf state) in
-      rw e
-      (record {
-        packets = count-was cs 0 (ok .packets);
-        «ip_errors» = count-was cs 1 (ok .packets);
-        «non_mmtp» = count-was cs 2 (ok .packets);
-        ntp = count-was cs 3 (ok .packets);
-        oneIp = omega arith;
-        oneNon = omega arith;
-        oneTime = omega arith;
-      })
+  control-countable c e = countable state c e 0 0 0 (state-countable s ok 0 0 0 (omega arith) (omega arith) (omega arith))
 
   abbrev ix₀ : List ℕ
   ix₀ = part sectionPlaces indexSize state

@@ -1,5 +1,5 @@
 -- The count of a packet, in the state's bytes. Assumes nothing.
-use Prim.Native.Nat.{ℕ}
+use Prim.Native.Nat.{ℕ, _≤_}
 use mathlib.Core.Path.{_≡_, sym, ap, _∙_, subst}
 use mathlib.Core.Bool.{true}
 use mathlib.Core.List.{List}
@@ -7,13 +7,33 @@ use Rattle.isdb_tlv.specs.Fields.{written}
 use Rattle.isdb_mmt.specs.Decoder.Model.{packetCounted}
 use Rattle.isdb_mmt.specs.Memory.Layout.{timePlace, countersPlace}
 use Rattle.isdb_mmt.specs.Memory.Lent.{over}
-use Rattle.isdb_mmt.specs.Memory.Session.{countersOf, countersFields, timeFields}
+use Rattle.isdb_mmt.specs.Memory.Session.{Session, countersOf, countersFields, timeFields}
+use Rattle.isdb_mmt.specs.Memory.Check.{lengthsOf, Sound, packetCounts}
 use Rattle.isdb_mmt.specs.Pushes.Leaves.{withCounters, withTime}
 use Rattle.isdb_mmt.specs.Pushes.Route.{timeGiven}
 use Rattle.isdb_mmt.specs.Pushes.Counted.{Countable, StateCountable}
 use Rattle.isdb_mmt.specs.declared.maybe.MaybeU64.{MaybeU64}
 use Rattle.isdb_mmt.specs.declared.maybe.MaybeU64.the-variants.{Some as someU64}
 use Rattle.isdb_mmt.specs.declared.decoder.counts.Counters.{Counters}
+use Rattle.isdb_mmt.proofs.Checks.{count-was}
+
+pub state-countable : (s : Session) → Sound (s .state) (s .others) (lengthsOf s) → (ip non time : ℕ) → ip ≤ 1 → non ≤ 1 → time ≤ 1
+    → StateCountable (s .state) ip non time
+state-countable s ok ip non time a b c =
+    let cs = packetCounts (countersOf (s .state)) in
+    record {
+      long = ok .there .long;
+      counts =
+          record {
+            packets = count-was cs 0 (ok .packets);
+            «ip_errors» = count-was cs 1 (ok .packets);
+            «non_mmtp» = count-was cs 2 (ok .packets);
+            ntp = count-was cs 3 (ok .packets);
+            oneIp = a;
+            oneNon = b;
+            oneTime = c;
+          };
+    }
 
 module _ (l : List ℕ) (c : Counters) (e : c ≡ countersOf l) where
   pub countable : (ip non time : ℕ) → StateCountable l ip non time → Countable c ip non time

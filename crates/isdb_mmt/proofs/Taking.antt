@@ -1,5 +1,5 @@
 -- A packet that is taken, arm by arm: what each arm leaves and answers is what is asked of the packet. Assumes nothing.
-use Prim.Native.Nat.{ℕ, _≤_}
+use Prim.Native.Nat.{ℕ}
 use mathlib.Core.Path.{_≡_, refl, sym, ap, _∙_, subst}
 use mathlib.Core.Option.{Option}
 use mathlib.Core.List.{List, [], map}
@@ -17,7 +17,7 @@ use Rattle.isdb_mmt.specs.Decoder.Packet.{Bytes, MpuPacket, Packet, ipEr
 use Rattle.isdb_mmt.specs.Decoder.Model.{packetCounted, pushed, gives}
 use Rattle.isdb_mmt.specs.Decoder.Needs.{needs}
 use Rattle.isdb_mmt.specs.Memory.Session.{Session, countersOf}
-use Rattle.isdb_mmt.specs.Memory.Check.{lengthsOf, Sound, packetCounts}
+use Rattle.isdb_mmt.specs.Memory.Check.{lengthsOf, Sound}
 use Rattle.isdb_mmt.specs.Memory.View.{viewBy, view}
 use Rattle.isdb_mmt.specs.Memory.Opening.{lent}
 use Rattle.isdb_mmt.specs.Pushes.Counted.{StateCountable}
@@ -30,30 +30,13 @@ use Rattle.isdb_mmt.specs.declared.maybe.MaybeU64.{MaybeU64}
 use Rattle.isdb_mmt.specs.declared.decoder.records.Answer.{Answer}
 use Rattle.isdb_mmt.specs.declared.decoder.route.Route.{Route}
 use Rattle.isdb_mmt.specs.declared.decoder.route.Route.the-variants as Route
-use Rattle.isdb_mmt.proofs.Checks.{count-was}
+use Rattle.isdb_mmt.proofs.Counting.{state-countable}
 use Rattle.isdb_mmt.proofs.Questions.{asks-zero, quiet-pushed, media-asks}
 use Rattle.isdb_mmt.proofs.Routes.{route-is}
 
 -- ---- packets that are only counted
 
 module _ (s : Session) (ok : Sound (s .state) (s .others) (lengthsOf s)) where
-  pub state-countable : (ip non time : ℕ) → ip ≤ 1 → non ≤ 1 → time ≤ 1 → StateCountable (s .state) ip non time
-  state-countable ip non time a b c =
-      let cs = packetCounts (countersOf (s .state)) in
-      record {
-        long = ok .there .long;
-        counts =
-            record {
-              packets = count-was cs 0 (ok .packets);
-              «ip_errors» = count-was cs 1 (ok .packets);
-              «non_mmtp» = count-was cs 2 (ok .packets);
-              ntp = count-was cs 3 (ok .packets);
-              oneIp = a;
-              oneNon = b;
-              oneTime = c;
-            };
-      }
-
   -- no place, no area, no output
   fits-ip : Fits s 0 0 ipError
   unfolding needs pushed gives
