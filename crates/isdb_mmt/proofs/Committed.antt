@@ -17,7 +17,7 @@ use Rattle.isdb_mmt.specs.Decoder.Packet.{Bytes}
 use Rattle.isdb_mmt.specs.Decoder.Maps.{find, put, one, isSome}
 use Rattle.isdb_mmt.specs.Memory.Lent.{foundFrom, indexed}
 use Rattle.isdb_mmt.specs.Formats.Section.{length12}
-use Rattle.isdb_mmt.specs.Decoder.Kept.{Section, sectionOf, Kept, Table, emptyTable, mptTable, pltTable, totTable, truncatedSection, aSection, otherTable, otherVersion, keepIf, keep, tableCounted, sectionIncrements, changes, tableIncrements, mptAfter, stored, tableRead}
+use Rattle.isdb_mmt.specs.Decoder.Kept.{Section, sectionOf, Kept, Table, emptyTable, mptTable, pltTable, totTable, truncatedSection, aSection, otherTable, otherVersion, keepIf, keep, withTableCounts, tableCounted, sectionIncrements, changes, tableIncrements, mptAfter, stored, tableRead}
 use Rattle.isdb_mmt.specs.Decoder.Needs.{tableArea}
 use Rattle.isdb_mmt.specs.declared.decoder.place.Found.{Found}
 use Rattle.isdb_mmt.specs.declared.decoder.place.Found.the-variants.{At, Nothing as notFound}
@@ -185,21 +185,7 @@ module _ (m : Bytes) (a : Areas) (c : Counters) (d : PendingTables) (at : ℕ) w
       record {
         mpt = mpt;
         store = record { plt = plt; tot = tot; kept = kept; others = others };
-        counters =
-            record {
-              «tlv_packets» = c .«tlv_packets»;
-              «ip_errors» = c .«ip_errors»;
-              «non_mmtp» = c .«non_mmtp»;
-              ntp = c .ntp;
-              tables = tables;
-              «crc_errors» = crc;
-              malformed = malformed;
-              «version_changes» = changed;
-              «orphan_fragments» = c .«orphan_fragments»;
-              oversize = c .oversize;
-              «message_malformed» = c .«message_malformed»;
-              «split_errors» = breaks;
-            };
+        counters = withTableCounts c tables crc malformed changed (c .«message_malformed») breaks;
         longest = longest;
       }
 

@@ -27,6 +27,7 @@ use Rattle.isdb_mmt.specs.Decoder.Maps.{isSome}
 use Rattle.isdb_mmt.specs.declared.decoder.section.KeptSection.{KeptSection}
 use Rattle.isdb_mmt.specs.declared.decoder.table_outcome.Recent.{Recent}
 use Rattle.isdb_mmt.specs.declared.decoder.walk.WalkState.{WalkState}
+use Rattle.isdb_mmt.specs.Decoder.Kept.{withTableCounts}
 use Rattle.isdb_mmt.specs.declared.decoder.counts.Counters.{Counters}
 use Rattle.isdb_mmt.proofs.Applied.{log-places}
 
@@ -146,20 +147,4 @@ module _ (m t : Bytes) (area : ℕ) where
 pub counters-are : (ix log others : List ℕ) (c : Counters) (r : WalkState) → r .«message_malformed» ≡ c .«message_malformed»
     → countersWith c r ≡ (committedCounters c (pendingOf ix log others r))
 counters-are ix log others c r e =
-    ap
-    (λ n.
-    record {
-      «tlv_packets» = c .«tlv_packets»;
-      «ip_errors» = c .«ip_errors»;
-      «non_mmtp» = c .«non_mmtp»;
-      ntp = c .ntp;
-      tables = r .tables;
-      «crc_errors» = r .«crc_errors»;
-      malformed = r .malformed;
-      «version_changes» = r .«version_changes»;
-      «orphan_fragments» = c .«orphan_fragments»;
-      oversize = c .oversize;
-      «message_malformed» = n;
-      «split_errors» = r .«split_errors»;
-    })
-    e
+    ap (λ n. withTableCounts c (r .tables) (r .«crc_errors») (r .malformed) (r .«version_changes») n (r .«split_errors»)) e

@@ -17,6 +17,7 @@ use Rattle.isdb_tlv.proofs.Guards.{either}
 use Rattle.isdb_mmt.specs.Decoder.Packet.{MpuPacket, media as mediaPacket, Bytes, PayloadUnit, readable}
 use Rattle.isdb_mmt.specs.Decoder.Maps.{find, put, orElse, isSome}
 use Rattle.isdb_mmt.specs.Decoder.Objects.{newMpu, mpuAfter, rangeAfter, mpuIn, Mfu, Asset, fresh, assetAfter, unitEffect, afterUnit, afterUnits, gap, afterHeaders}
+use Rattle.isdb_mmt.specs.Decoder.Kept.{withPacketCounts}
 use Rattle.isdb_mmt.specs.Decoder.Model.{assetOf, pushed, packetCounted}
 use Rattle.isdb_mmt.specs.Decoder.Needs.{heldLength, needs}
 use Rattle.isdb_mmt.specs.Memory.Lent.{part, over, namesFrom, foundFrom, indexed}
@@ -115,21 +116,7 @@ module _ (l : List ℕ) (long : 13144 ≤ length l) (tc : usedOf l .«control_id
 
 -- the counters with another count of packets
 abbrev pub counting : ℕ → Counters → Counters
-counting n c =
-    record {
-      «tlv_packets» = n;
-      «ip_errors» = c .«ip_errors»;
-      «non_mmtp» = c .«non_mmtp»;
-      ntp = c .ntp;
-      tables = c .tables;
-      «crc_errors» = c .«crc_errors»;
-      malformed = c .malformed;
-      «version_changes» = c .«version_changes»;
-      «orphan_fragments» = c .«orphan_fragments»;
-      oversize = c .oversize;
-      «message_malformed» = c .«message_malformed»;
-      «split_errors» = c .«split_errors»;
-    }
+counting n c = withPacketCounts c n (c .«orphan_fragments») (c .oversize) (c .«message_malformed»)
 
 pub packets-back : (n : ℕ) (l : List ℕ) → n < 256 ^ 8 → 13144 ≤ length l → countersOf (withPackets n l) ≡ counting n (countersOf l)
 unfolding countersOf

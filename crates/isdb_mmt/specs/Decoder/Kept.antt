@@ -174,6 +174,42 @@ zeros =
       «split_errors» = 0;
     }
 
+-- with other counts of packets and of fragments
+abbrev pub withPacketCounts : Counters → (packets orphans oversizes bad : ℕ) → Counters
+withPacketCounts c packets orphans oversizes bad =
+    record {
+      «tlv_packets» = packets;
+      «ip_errors» = c .«ip_errors»;
+      «non_mmtp» = c .«non_mmtp»;
+      ntp = c .ntp;
+      tables = c .tables;
+      «crc_errors» = c .«crc_errors»;
+      malformed = c .malformed;
+      «version_changes» = c .«version_changes»;
+      «orphan_fragments» = orphans;
+      oversize = oversizes;
+      «message_malformed» = bad;
+      «split_errors» = c .«split_errors»;
+    }
+
+-- with other counts of what tables raise
+abbrev pub withTableCounts : Counters → (tables crc malformed changes bad breaks : ℕ) → Counters
+withTableCounts c tables crc malformed changes bad breaks =
+    record {
+      «tlv_packets» = c .«tlv_packets»;
+      «ip_errors» = c .«ip_errors»;
+      «non_mmtp» = c .«non_mmtp»;
+      ntp = c .ntp;
+      tables = tables;
+      «crc_errors» = crc;
+      malformed = malformed;
+      «version_changes» = changes;
+      «orphan_fragments» = c .«orphan_fragments»;
+      oversize = c .oversize;
+      «message_malformed» = bad;
+      «split_errors» = breaks;
+    }
+
 -- what a table adds to the counts
 pub record Increments : Type 0 where
   pub «crc_errors» : ℕ
@@ -187,20 +223,8 @@ increments c m v b = record { «crc_errors» = c; malformed = m; «version_chang
 -- a table more, with what it adds
 unfoldable pub tableCounted : Counters → Increments → Counters
 tableCounted c x =
-    record {
-      «tlv_packets» = c .«tlv_packets»;
-      «ip_errors» = c .«ip_errors»;
-      «non_mmtp» = c .«non_mmtp»;
-      ntp = c .ntp;
-      tables = c .tables + 1;
-      «crc_errors» = c .«crc_errors» + x .«crc_errors»;
-      malformed = c .malformed + x .malformed;
-      «version_changes» = c .«version_changes» + x .«version_changes»;
-      «orphan_fragments» = c .«orphan_fragments»;
-      oversize = c .oversize;
-      «message_malformed» = c .«message_malformed»;
-      «split_errors» = c .«split_errors» + x .breaks;
-    }
+    withTableCounts c (c .tables + 1) (c .«crc_errors» + x .«crc_errors») (c .malformed + x .malformed) (c .«version_changes» + x .«version_changes»)
+    (c .«message_malformed») (c .«split_errors» + x .breaks)
 
 -- a section: a bad header or CRC is counted; a section of the kept version is passed over; another counts a version change
 -- before its body is read

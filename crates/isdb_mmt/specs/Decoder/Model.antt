@@ -10,7 +10,7 @@ use Rattle.isdb_mmt.specs.Decoder.Packet.{Bytes, MessagePacket, Packet, 
 use Rattle.isdb_mmt.specs.Decoder.Maps.{find, put, orElse, one}
 use Rattle.isdb_mmt.specs.Decoder.Objects.{fresh, assetAfter, mediaGives, Asset, Rec}
 use Rattle.isdb_mmt.specs.Decoder.Reassembly.{idle, reassemblyAfter, messageCompleted, orphan, oversize, cutOfAll, short, Reassembly}
-use Rattle.isdb_mmt.specs.Decoder.Kept.{zeros, mptAfterAll, storedAll, countedAll, KeptTables}
+use Rattle.isdb_mmt.specs.Decoder.Kept.{zeros, withPacketCounts, mptAfterAll, storedAll, countedAll, KeptTables}
 use Rattle.isdb_mmt.specs.Decoder.GivenTables.{tablesGiven, controlTables}
 
 -- what is known of a control id: the message being joined, and the kept MPT
@@ -75,20 +75,7 @@ packetCounted c ip non time =
 
 unfoldable pub messageCounted : Counters → ℕ → ℕ → ℕ → Counters
 messageCounted c orphans oversizes bad =
-    record {
-      «tlv_packets» = c .«tlv_packets»;
-      «ip_errors» = c .«ip_errors»;
-      «non_mmtp» = c .«non_mmtp»;
-      ntp = c .ntp;
-      tables = c .tables;
-      «crc_errors» = c .«crc_errors»;
-      malformed = c .malformed;
-      «version_changes» = c .«version_changes»;
-      «orphan_fragments» = c .«orphan_fragments» + orphans;
-      oversize = c .oversize + oversizes;
-      «message_malformed» = c .«message_malformed» + bad;
-      «split_errors» = c .«split_errors»;
-    }
+    withPacketCounts c (c .«tlv_packets») (c .«orphan_fragments» + orphans) (c .oversize + oversizes) (c .«message_malformed» + bad)
 
 -- the counters that message.rs keeps, for a message packet
 unfoldable pub reassemblyCounted : Counters → Reassembly → MessagePacket → Counters

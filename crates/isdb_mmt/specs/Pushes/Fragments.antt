@@ -10,6 +10,7 @@ use Rattle.isdb_mmt.specs.Decoder.Packet.{Bytes}
 use Rattle.isdb_mmt.specs.Decoder.Maps.{isSome, one}
 use Rattle.isdb_mmt.specs.Formats.Message.{fragmentOf}
 use Rattle.isdb_mmt.specs.Decoder.Reassembly.{PartialMessage, mostMessage}
+use Rattle.isdb_mmt.specs.Decoder.Kept.{withPacketCounts}
 use Rattle.isdb_mmt.specs.Decoder.Needs.{partialLength}
 use Rattle.isdb_mmt.specs.Memory.Lent.{over}
 use Rattle.isdb_mmt.specs.Memory.Layout.{mostCount}
@@ -154,20 +155,7 @@ faultsOf Whole = faults false false false
 -- a packet more, and what is counted of its fragment
 abbrev pub countedWith : Counters → ℕ → ℕ → ℕ → Counters
 countedWith c orphans oversizes bad =
-    record {
-      «tlv_packets» = c .«tlv_packets» + 1;
-      «ip_errors» = c .«ip_errors»;
-      «non_mmtp» = c .«non_mmtp»;
-      ntp = c .ntp;
-      tables = c .tables;
-      «crc_errors» = c .«crc_errors»;
-      malformed = c .malformed;
-      «version_changes» = c .«version_changes»;
-      «orphan_fragments» = c .«orphan_fragments» + orphans;
-      oversize = c .oversize + oversizes;
-      «message_malformed» = c .«message_malformed» + bad;
-      «split_errors» = c .«split_errors»;
-    }
+    withPacketCounts c (c .«tlv_packets» + 1) (c .«orphan_fragments» + orphans) (c .oversize + oversizes) (c .«message_malformed» + bad)
 
 abbrev pub fragmentCounted : FragmentOutcome → Counters → Counters
 fragmentCounted f c = countedWith c (one (faultsOf f .orphan)) (one (faultsOf f .oversize)) (one (faultsOf f .malformed))

@@ -11,7 +11,7 @@ use Rattle.isdb_mmt.specs.Memory.Layout.{mostSections, mostMessageArea, 
 use Rattle.isdb_mmt.specs.Decoder.Packet.{Bytes}
 use Rattle.isdb_mmt.specs.Memory.Lent.{part, indexed}
 use Rattle.isdb_mmt.specs.Memory.View.{given}
-use Rattle.isdb_mmt.specs.Decoder.Kept.{Kept, Table, aSection, sectionOf}
+use Rattle.isdb_mmt.specs.Decoder.Kept.{Kept, Table, aSection, sectionOf, withTableCounts}
 use Rattle.isdb_mmt.specs.declared.part.Part.{Part}
 use Rattle.isdb_mmt.specs.declared.decoder.section.KeptSection.{KeptSection}
 use Rattle.isdb_mmt.specs.declared.decoder.table_outcome.Recent.{Recent}
@@ -178,21 +178,7 @@ pub record Areas : Type 0 where
   pub tot : ℕ
 
 abbrev pub committedCounters : Counters → PendingTables → Counters
-committedCounters c d =
-    record {
-      «tlv_packets» = c .«tlv_packets»;
-      «ip_errors» = c .«ip_errors»;
-      «non_mmtp» = c .«non_mmtp»;
-      ntp = c .ntp;
-      tables = d .tables;
-      «crc_errors» = d .«crc_errors»;
-      malformed = d .malformed;
-      «version_changes» = d .changes;
-      «orphan_fragments» = c .«orphan_fragments»;
-      oversize = c .oversize;
-      «message_malformed» = c .«message_malformed»;
-      «split_errors» = d .breaks;
-    }
+committedCounters c d = withTableCounts c (d .tables) (d .«crc_errors») (d .malformed) (d .changes) (c .«message_malformed») (d .breaks)
 
 unfoldable pub committed : Bytes → Areas → Counters → PendingTables → TableState
 committed m a c d =

@@ -11,6 +11,7 @@ use Rattle.isdb_tlv.specs.Guards.{if_then_else_, _<?_}
 use Rattle.isdb_tlv.specs.Bytes.{be}
 use Rattle.isdb_mmt.specs.Memory.Layout.{mostSections, mostControlIds, mostTableArea, mostCount, tableIds, countersPlace, sectionPlaces, sectionSize, stateSize}
 use Rattle.isdb_mmt.specs.Decoder.Packet.{Bytes, Packet, control}
+use Rattle.isdb_mmt.specs.Decoder.Kept.{withPacketCounts, withTableCounts}
 use Rattle.isdb_mmt.specs.Memory.Lent.{part, over}
 use Rattle.isdb_mmt.specs.Memory.Session.{limitsOf, usedOf, latestOf, countersFields}
 use Rattle.isdb_mmt.specs.Pushes.MediaPush.{withUsed}
@@ -45,21 +46,7 @@ startOf c used mpt plt tot =
     }
 
 abbrev pub countersWith : Counters → WalkState → Counters
-countersWith c g =
-    record {
-      «tlv_packets» = c .«tlv_packets»;
-      «ip_errors» = c .«ip_errors»;
-      «non_mmtp» = c .«non_mmtp»;
-      ntp = c .ntp;
-      tables = g .tables;
-      «crc_errors» = g .«crc_errors»;
-      malformed = g .malformed;
-      «version_changes» = g .«version_changes»;
-      «orphan_fragments» = c .«orphan_fragments»;
-      oversize = c .oversize;
-      «message_malformed» = g .«message_malformed»;
-      «split_errors» = g .«split_errors»;
-    }
+countersWith c g = withTableCounts c (g .tables) (g .«crc_errors») (g .malformed) (g .«version_changes») (g .«message_malformed») (g .«split_errors»)
 
 -- none is there
 abbrev pub noRecent : Recent
@@ -133,21 +120,7 @@ pub record SectionsLeft (state tables ix log mine : List ℕ) (c : Counters) (g 
 
 -- counters with more messages or tables of messages that are cut short
 abbrev pub malformedMore : Counters → ℕ → Counters
-malformedMore c k =
-    record {
-      «tlv_packets» = c .«tlv_packets»;
-      «ip_errors» = c .«ip_errors»;
-      «non_mmtp» = c .«non_mmtp»;
-      ntp = c .ntp;
-      tables = c .tables;
-      «crc_errors» = c .«crc_errors»;
-      malformed = c .malformed;
-      «version_changes» = c .«version_changes»;
-      «orphan_fragments» = c .«orphan_fragments»;
-      oversize = c .oversize;
-      «message_malformed» = c .«message_malformed» + k;
-      «split_errors» = c .«split_errors»;
-    }
+malformedMore c k = withPacketCounts c (c .«tlv_packets») (c .«orphan_fragments») (c .oversize) (c .«message_malformed» + k)
 
 -- the counts that tables raise
 pub record CountsFit (c : Counters) : Type 0 where
