@@ -10,22 +10,24 @@ use Rattle.isdb_tlv.specs.Guards.{if_then_else_, _<?_}
 use Rattle.isdb_mmt.specs.Decoder.Packet.{Bytes, MessagePacket, message}
 use Rattle.isdb_mmt.specs.Memory.Lent.{part, namesFrom, placesFrom, foundFrom}
 use Rattle.isdb_mmt.specs.Memory.Layout.{controlPlaces, controlSize, sectionPlaces, sectionSize}
-use Rattle.isdb_mmt.specs.Memory.Session.{Session, limitsOf, usedOf, controlAt, controlPlaceOf, sectionPlaceOf}
+use Rattle.isdb_mmt.specs.Memory.Session.{Session, limitsOf, usedOf, countersOf, controlAt, controlPlaceOf, sectionPlaceOf}
 use Rattle.isdb_mmt.specs.Memory.Check.{Sound, lengthsOf, controlsIn, controlSound, mediaIn, sectionsIn}
 use Rattle.isdb_mmt.specs.Pushes.Leaves.{withSections, keptOver, latestOver, messageIn, messageAt, messageLeaves, packetLeaves, controlPlaceFor, joinedIn, bytesOver, usedFor}
-use Rattle.isdb_mmt.specs.Pushes.Fragments.{laidBy, areaBy, fragmentOutcome, joinedBy, controlWith}
+use Rattle.isdb_mmt.specs.Pushes.Fragments.{laidBy, areaBy, fragmentOutcome, joinedBy, controlWith, Faults, faultsOf, countedWith, fragmentCounted}
 use Rattle.isdb_mmt.specs.Pushes.FragmentPush.{blankPlace, withReassembly, withCounts}
-use Rattle.isdb_mmt.specs.Decoder.Maps.{put, orElse, isSome}
-use Rattle.isdb_mmt.specs.Decoder.Reassembly.{idle, reassemblyAfter}
-use Rattle.isdb_mmt.specs.Decoder.Model.{State, Control as ControlState, controlOf, idleControl, reassemblyOf, pushed, gives}
+use Rattle.isdb_mmt.specs.Pushes.Start.{malformedMore}
+use Rattle.isdb_mmt.specs.Decoder.Maps.{put, orElse, isSome, one}
+use Rattle.isdb_mmt.specs.Decoder.Reassembly.{idle, reassemblyAfter, messageCompleted, cutOfAll}
+use Rattle.isdb_mmt.specs.Decoder.Model.{State, Control as ControlState, controlOf, idleControl, reassemblyOf, packetCounted, messageCounted, reassemblyCounted, pushed, gives}
 use Rattle.isdb_mmt.specs.Memory.View.{given, controlStateOf, controlEntry, keptTableAt, viewBy, view, assetEntry, sectionEntry}
-use Rattle.isdb_mmt.specs.Decoder.Kept.{mptAfterAll}
+use Rattle.isdb_mmt.specs.Decoder.Kept.{withPacketCounts, mptAfterAll}
 use Rattle.isdb_mmt.specs.Decoder.GivenTables.{tablesGiven}
 use Rattle.isdb_mmt.specs.Memory.PlacesOf.{tableLength, controlFor, latestFor}
 use Rattle.isdb_mmt.specs.Decoder.Needs.{needs, tablesNeed}
 use Rattle.isdb_mmt.specs.Pushes.Push.{asksOf, QuietPushed}
 use Rattle.isdb_mmt.specs.Memory.Opening.{lent}
 use Rattle.isdb_mmt.specs.declared.decoder.limits.Limits.{Limits}
+use Rattle.isdb_mmt.specs.declared.decoder.counts.Counters.{Counters}
 use Rattle.isdb_mmt.specs.declared.decoder.control.Control.{Control}
 use Rattle.isdb_mmt.specs.declared.decoder.messages.FragmentOutcome.{FragmentOutcome}
 use Rattle.isdb_mmt.specs.declared.decoder.place.PlaceFor.the-variants.{Own, Free, NoneFree}
@@ -36,6 +38,7 @@ use Rattle.isdb_mmt.proofs.Lent.{length-names, length-places}
 use Rattle.isdb_mmt.proofs.Names.{true-not-false}
 use Rattle.isdb_mmt.proofs.Limits.{passed}
 use Rattle.isdb_mmt.proofs.Checks.{control-was, place-was}
+use Rattle.isdb_mmt.proofs.Counting.{counted-alone}
 use Rattle.isdb_mmt.proofs.Views.{keys, FoundAt, found-at, absent}
 use Rattle.isdb_mmt.proofs.PlacesFor.{place-for-was-old, place-for-was-new, length-indexed, getD-indexed, length-media, place-for-was-full}
 use Rattle.isdb_mmt.proofs.MessageLeaves.{controlEntries, control-names, length-controls}
@@ -182,6 +185,18 @@ module _ (s : Session) (ok : Sound (s .state) (s .others) (lengthsOf s)) (x : Me
   pub mpt-before : controlOf (x .id) v .mpt ≡ given (c .mpt) t
   unfolding controlStateOf
   mpt-before = ap (λ (y : ControlState). y .mpt) (at .is)
+
+  -- what is counted of it, where `k` messages or tables that it makes whole are cut short
+  pub counts-after : (k : ℕ) → cutOfAll (messageCompleted (reassemblyOf (x .id) v) x) .malformed ≡ k
+      → reassemblyCounted (packetCounted (v .counters) 0 0 0) (reassemblyOf (x .id) v) x ≡ malformedMore (fragmentCounted f (countersOf (s .state))) k
+  unfolding reassemblyCounted messageCounted view viewBy
+  counts-after k e =
+      let a = countersOf (s .state) in
+      let z : Faults = faultsOf f in
+      let sum : a .«message_malformed» + (one (z .malformed) + k) ≡ a .«message_malformed» + one (z .malformed) + k = omega arith in
+      ap (λ (y : Counters). reassemblyCounted y (reassemblyOf (x .id) v) x) (counted-alone a)
+      ∙ (λ j. countedWith a (one (does .«orphan_fragments» j)) (one (does .oversize j)) (one (does .shorts j) + e j))
+      ∙ ap (withPacketCounts a (a .«tlv_packets» + 1) (a .«orphan_fragments» + one (z .orphan)) (a .oversize + one (z .oversize))) sum
 
   pub length-assets : length (v .assets) ≡ usedOf (s .state) .«media_ids»
   unfolding view viewBy

@@ -1,9 +1,11 @@
 -- The count of a packet, in the state's bytes. Assumes nothing.
-use Prim.Native.Nat.{ℕ, _≤_}
-use mathlib.Core.Path.{_≡_, sym, ap, _∙_, subst}
+use Prim.Native.Nat.{ℕ, _+_, _≤_}
+use mathlib.Core.Path.{_≡_, refl, sym, ap, _∙_, subst}
 use mathlib.Core.Bool.{true}
 use mathlib.Core.List.{List}
+use native.Mathlib.Nat.{add-zero}
 use Rattle.isdb_tlv.specs.Fields.{written}
+use Rattle.isdb_mmt.specs.Decoder.Kept.{withPacketCounts}
 use Rattle.isdb_mmt.specs.Decoder.Model.{packetCounted}
 use Rattle.isdb_mmt.specs.Memory.Layout.{timePlace, countersPlace}
 use Rattle.isdb_mmt.specs.Memory.Lent.{over}
@@ -34,6 +36,15 @@ state-countable s ok ip non time a b c =
             oneTime = c;
           };
     }
+
+-- the counters with another count of packets
+abbrev pub counting : ℕ → Counters → Counters
+counting n c = withPacketCounts c n (c .«orphan_fragments») (c .oversize) (c .«message_malformed»)
+
+-- a packet with nothing counted beside it
+pub counted-alone : (c : Counters) → packetCounted c 0 0 0 ≡ counting (c .«tlv_packets» + 1) c
+unfolding packetCounted
+counted-alone c = rw (add-zero (c .«ip_errors»), add-zero (c .«non_mmtp»), add-zero (c .ntp)) refl
 
 module _ (l : List ℕ) (c : Counters) (e : c ≡ countersOf l) where
   pub countable : (ip non time : ℕ) → StateCountable l ip non time → Countable c ip non time

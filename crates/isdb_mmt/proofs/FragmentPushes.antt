@@ -20,13 +20,13 @@ use Rattle.isdb_mmt.specs.Memory.Layout.{usedPlace, latestPlace, counter
 use Rattle.isdb_mmt.specs.Memory.Session.{Session, limitsOf, usedOf, usedFields, latestOf, latestFields, countersOf, countersFields, controlFields, controlAt}
 use Rattle.isdb_mmt.specs.Memory.Check.{PlacesThere, packetCounts, tableCounts, Sound, lengthsOf}
 use Rattle.isdb_mmt.specs.Pushes.Leaves.{controlPlaceFor, usedFor, withControl, withSections, withLatest, withCounters, stateOfTables, bytesOver, keptOver, latestOver, messageIn, messageAt, messageLeaves, packetLeaves}
-use Rattle.isdb_mmt.specs.Pushes.Fragments.{laidBy, areaBy, fragmentCounted, CanCount, fragmentOutcome, completes, joinedBy, controlWith, faultsOf}
+use Rattle.isdb_mmt.specs.Pushes.Fragments.{laidBy, areaBy, fragmentCounted, CanCount, fragmentOutcome, completes, joinedBy, controlWith}
 use Rattle.isdb_mmt.specs.Pushes.FragmentPush.{blankPlace, placeIn, PlaceForThere, normalLatest, withMore, withReassembly, withCounts, placeNext, stateNext, CanStoreReassembly, CanJoinAt, JoinedAt, CanJoin, lengthIf, receivedFragment}
-use Rattle.isdb_mmt.specs.Decoder.Maps.{isSome, one}
-use Rattle.isdb_mmt.specs.Decoder.Reassembly.{PartialMessage, cutOfAll, short, messageCompleted}
-use Rattle.isdb_mmt.specs.Decoder.Model.{State, Control as ControlState, controlOf, reassemblyOf, pushed, packetCounted, messageCounted, reassemblyCounted, gives}
+use Rattle.isdb_mmt.specs.Decoder.Maps.{isSome}
+use Rattle.isdb_mmt.specs.Decoder.Reassembly.{PartialMessage, cutOfAll}
+use Rattle.isdb_mmt.specs.Decoder.Model.{State, Control as ControlState, controlOf, reassemblyOf, pushed, packetCounted, reassemblyCounted, gives}
 use Rattle.isdb_mmt.specs.Memory.View.{keptTableAt, viewBy, view, given}
-use Rattle.isdb_mmt.specs.Decoder.Kept.{Table, tableRead, storedAll, mptAfterAll, KeptTables, countedAll}
+use Rattle.isdb_mmt.specs.Decoder.Kept.{withPacketCounts, Table, tableRead, storedAll, mptAfterAll, KeptTables, countedAll}
 use Rattle.isdb_mmt.specs.Decoder.GivenTables.{tablesGiven}
 use Rattle.isdb_mmt.specs.Memory.PlacesOf.{tableLength, controlFor, latestFor}
 use Rattle.isdb_mmt.specs.Decoder.Needs.{needs, tablesNeed}
@@ -49,7 +49,7 @@ use Rattle.isdb_mmt.proofs.Checks.{count-was}
 use Rattle.isdb_mmt.proofs.PlacesFor.{place-for-was-old}
 use Rattle.isdb_mmt.proofs.Fragments.{Does, none-whole}
 use Rattle.isdb_mmt.proofs.Unchanged.{laid-same, given-length, is-there, sections-same, tables-same, latest-same}
-use Rattle.isdb_mmt.proofs.ControlPlaces.{used-after, no-place, Sits, sits-old, sits-new, length-all, does, own, place-after, mpt-before, length-kept, controls-more, messages-are}
+use Rattle.isdb_mmt.proofs.ControlPlaces.{used-after, no-place, Sits, sits-old, sits-new, length-all, does, own, place-after, mpt-before, counts-after, length-kept, controls-more, messages-are}
 use Rattle.isdb_mmt.proofs.Quiet.{asks-by}
 use Rattle.isdb_mmt.proofs.TableOutcomes.{found-within}
 
@@ -184,33 +184,13 @@ module _ (s : Session) (ok : Sound (s .state) (s .others) (lengthsOf s)) (x : Me
       ap (λ (y : ControlState). y .mpt) (own s ok x i k c at f ef) ∙ ap (mptAfterAll (controlOf (x .id) v .mpt)) none-given ∙ mpt-before s ok x i k c at f ef
 
   counters-are : (n .counters) ≡ fragmentCounted f (countersOf (s .state))
-  unfolding pushed countedAll reassemblyCounted messageCounted packetCounted cutOfAll view viewBy
+  unfolding pushed countedAll cutOfAll
   counters-are =
-      let a : Counters = countersOf (s .state) in
-      let reassembly = reassemblyOf (x .id) v in
-      let bad : a .«message_malformed» + (one (short x) + cutOfAll (messageCompleted reassembly x) .malformed) ≡ a .«message_malformed» + one (faultsOf f .malformed) =
-      ap (λ (o : Option PartialMessage). a .«message_malformed» + (one (short x) + cutOfAll o .malformed)) (done .whole ∙ none-whole f c m b part-only)
-      ∙ ap (λ y. a .«message_malformed» + (one y + 0)) (done .shorts) ∙ ap (λ y. a .«message_malformed» + y) (add-zero (one (faultsOf f .malformed))) in
-      let «orphan_fragments» = ap (λ y. a .«orphan_fragments» + one y) (done .«orphan_fragments») in
-      let oversize = ap (λ y. a .oversize + one y) (done .oversize) in
-      let e : (reassemblyCounted (packetCounted (v .counters) 0 0 0) reassembly x) ≡ fragmentCounted f a =
-      λ j.
-      record {
-        «tlv_packets» = a .«tlv_packets» + 1;
-        «ip_errors» = add-zero (a .«ip_errors») j;
-        «non_mmtp» = add-zero (a .«non_mmtp») j;
-        ntp = add-zero (a .ntp) j;
-        tables = a .tables;
-        «crc_errors» = a .«crc_errors»;
-        malformed = a .malformed;
-        «version_changes» = a .«version_changes»;
-        «orphan_fragments» = «orphan_fragments» j;
-        oversize = oversize j;
-        «message_malformed» = bad j;
-        «split_errors» = a .«split_errors»;
-      } in
-      ap (λ (ts : List Table). (countedAll (controlOf (x .id) v .mpt) (v .store) (reassemblyCounted (packetCounted (v .counters) 0 0 0) reassembly x) ts)) none-given
-      ∙ e
+      let r = reassemblyOf (x .id) v in
+      let d : Counters = fragmentCounted f (countersOf (s .state)) in
+      ap (λ (ts : List Table). (countedAll (controlOf (x .id) v .mpt) (v .store) (reassemblyCounted (packetCounted (v .counters) 0 0 0) r x) ts)) none-given
+      ∙ counts-after s ok x i k c at f ef 0 (ap (λ (o : Option PartialMessage). cutOfAll o .malformed) (done .whole ∙ none-whole f c m b part-only))
+      ∙ ap (withPacketCounts d (d .«tlv_packets») (d .«orphan_fragments») (d .oversize)) (add-zero (d .«message_malformed»))
 
   place-is : controlFor (x .id) (controlOf (x .id) n) ≡ placeNext (x .id) (x .number) c f b
   place-is =

@@ -17,7 +17,6 @@ use Rattle.isdb_tlv.proofs.Guards.{either}
 use Rattle.isdb_mmt.specs.Decoder.Packet.{MpuPacket, media as mediaPacket, Bytes, PayloadUnit, readable}
 use Rattle.isdb_mmt.specs.Decoder.Maps.{find, put, orElse, isSome}
 use Rattle.isdb_mmt.specs.Decoder.Objects.{newMpu, mpuAfter, rangeAfter, mpuIn, Mfu, Asset, fresh, assetAfter, unitEffect, afterUnit, afterUnits, gap, afterHeaders}
-use Rattle.isdb_mmt.specs.Decoder.Kept.{withPacketCounts}
 use Rattle.isdb_mmt.specs.Decoder.Model.{assetOf, pushed, packetCounted}
 use Rattle.isdb_mmt.specs.Decoder.Needs.{heldLength, needs}
 use Rattle.isdb_mmt.specs.Memory.Lent.{part, over, namesFrom, foundFrom, indexed}
@@ -39,6 +38,7 @@ use Rattle.isdb_mmt.proofs.Sessions.{media, controls, sections, inUse, 
 use Rattle.isdb_mmt.proofs.Views.{keys, FoundAt, found-at, absent, indexed-set, indexed-snoc, indexed-same, area-apart}
 use Rattle.isdb_mmt.proofs.Limits.{passed}
 use Rattle.isdb_mmt.proofs.Checks.{media-was, count-was}
+use Rattle.isdb_mmt.proofs.Counting.{counting, counted-alone}
 use lib.Seq.{length-take-le}
 use Rattle.isdb_mmt.specs.declared.mpu.PayloadHeader.{PayloadHeader}
 use Rattle.isdb_mmt.proofs.StateWrites.{used-other}
@@ -113,10 +113,6 @@ module _ (l : List ℕ) (long : 13144 ≤ length l) (tc : usedOf l .«control_id
           controls = sym (named .controls (withUsed u l)) ∙ used-other l long u f controls ec ∙ named .controls l;
           sections = sym (named .sections (withUsed u l)) ∙ used-other l long u f sections es ∙ named .sections l;
         }
-
--- the counters with another count of packets
-abbrev pub counting : ℕ → Counters → Counters
-counting n c = withPacketCounts c n (c .«orphan_fragments») (c .oversize) (c .«message_malformed»)
 
 pub packets-back : (n : ℕ) (l : List ℕ) → n < 256 ^ 8 → 13144 ≤ length l → countersOf (withPackets n l) ≡ counting n (countersOf l)
 unfolding countersOf
@@ -429,13 +425,9 @@ module _ (s : Session) (st′ ob′ : List ℕ) (es : List (ℕ × Asset)) where
         time = view s .time;
         counters = packetCounted (view s .counters) 0 0 0;
       }
-  unfolding view viewBy packetCounted
+  unfolding view viewBy
   view-from k ea ec =
       let l = limitsOf (s .state) in
-      let c = countersOf (s .state) in
-      let z1 = sym (add-zero (c .«ip_errors»)) in
-      let z2 = sym (add-zero (c .«non_mmtp»)) in
-      let z3 = sym (add-zero (c .ntp)) in
       ap (λ (x : Limits). viewBy x after) (k .limits)
       ∙ (λ i.
       record {
@@ -452,29 +444,17 @@ module _ (s : Session) (st′ ob′ : List ℕ) (es : List (ℕ × Asset)) where
         time = given (k .time i .seen) (k .time i .timestamp);
         counters = (ec i);
       })
-      ∙ (λ i.
+      ∙ ap
+      (λ (x : Counters).
       record {
         passing = l .«pass_scrambled»;
         assets = es;
         controls = view s .controls;
         store = view s .store;
         time = view s .time;
-        counters =
-            record {
-              «tlv_packets» = c .«tlv_packets» + 1;
-              «ip_errors» = z1 i;
-              «non_mmtp» = z2 i;
-              ntp = z3 i;
-              tables = c .tables;
-              «crc_errors» = c .«crc_errors»;
-              malformed = c .malformed;
-              «version_changes» = c .«version_changes»;
-              «orphan_fragments» = c .«orphan_fragments»;
-              oversize = c .oversize;
-              «message_malformed» = c .«message_malformed»;
-              «split_errors» = c .«split_errors»;
-            };
+        counters = x;
       })
+      (sym (counted-alone (countersOf (s .state))))
 
 -- what a media packet leaves is what the model's state is after it, where the asset fits its place and its object its area
 module _ (s : Session) (m : MpuPacket) (ok : Sound (s .state) (s .others) (lengthsOf s)) (tied : Tied (assetNext s m))

@@ -5,7 +5,7 @@ use mathlib.Core.Bool.{Bool, true, false, not}
 use mathlib.Core.Option.{Option, some}
 use mathlib.Core.List.{List, _++_, map}
 use native.Mathlib.Omega.{arith}
-use native.Mathlib.Nat.{add-zero, mul-le-mul-right}
+use native.Mathlib.Nat.{mul-le-mul-right}
 use lib.Dec.{ltb}
 use lib.ListN.{length, getD, take, drop, length-take, length-drop, length-append}
 use mir.Syntax.{w8}
@@ -15,21 +15,21 @@ use Rattle.isdb_tlv.specs.Guards.{if_then_else_, _<?_}
 use Rattle.isdb_tlv.proofs.Guards.{either, cond-elim}
 use Rattle.isdb_mmt.specs.Memory.Layout.{mostSections, mostMessageArea, tableIds, controlPlaces, controlSize, sectionPlaces, sectionSize}
 use Rattle.isdb_mmt.specs.Decoder.Packet.{Bytes, MessagePacket, message}
-use Rattle.isdb_mmt.specs.Decoder.Maps.{one, isSome}
-use Rattle.isdb_mmt.specs.Decoder.Reassembly.{PartialMessage, Reassembly, mostMessage, short, cutOf, cutOfAll, messageCompleted}
+use Rattle.isdb_mmt.specs.Decoder.Maps.{isSome}
+use Rattle.isdb_mmt.specs.Decoder.Reassembly.{PartialMessage, Reassembly, mostMessage, cutOf, cutOfAll, messageCompleted}
 use Rattle.isdb_mmt.specs.Decoder.Kept.{KeptTables, Table, tableRead, mptAfterAll, storedAll, countedAll}
 use Rattle.isdb_mmt.specs.Decoder.GivenTables.{tablesGiven}
-use Rattle.isdb_mmt.specs.Decoder.Model.{State, Control as ControlState, packetCounted, messageCounted, reassemblyCounted, controlOf, reassemblyOf, pushed}
+use Rattle.isdb_mmt.specs.Decoder.Model.{State, Control as ControlState, controlOf, reassemblyOf, pushed}
 use Rattle.isdb_mmt.specs.Decoder.Needs.{needs, tablesNeed}
 use Rattle.isdb_mmt.specs.Memory.Lent.{part, over, namesFrom}
 use Rattle.isdb_mmt.specs.Memory.Session.{Session, limitsOf, usedOf, countersOf, controlPlaceOf, controlAt}
 use Rattle.isdb_mmt.specs.Memory.Check.{packetCounts, tableCounts, controlSound, controlsIn, lengthsOf, Sound}
-use Rattle.isdb_mmt.specs.Memory.View.{given, viewBy, view}
+use Rattle.isdb_mmt.specs.Memory.View.{given, view}
 use Rattle.isdb_mmt.specs.Memory.Opening.{lent}
 use Rattle.isdb_mmt.specs.Memory.PlacesOf.{tableLength, latestFor}
 use Rattle.isdb_mmt.specs.Pushes.Leaves.{sectionRows, bytesOver, keptOver, latestOver, controlPlaceFor, messageAt, messageIn, packetLeaves}
 use Rattle.isdb_mmt.specs.Pushes.Push.{asksOf, QuietPushed}
-use Rattle.isdb_mmt.specs.Pushes.Fragments.{fragmentOutcome, byDivision, flagsIn, continued, inSequence, grownLength, joinedBy, noneJoined, controlWith, laidBy, areaBy, wholeBy, completes, faultsOf, fragmentCounted, CanCount}
+use Rattle.isdb_mmt.specs.Pushes.Fragments.{fragmentOutcome, byDivision, flagsIn, continued, inSequence, grownLength, joinedBy, noneJoined, controlWith, laidBy, areaBy, wholeBy, completes, fragmentCounted, CanCount}
 use Rattle.isdb_mmt.specs.Pushes.FragmentPush.{placeIn, withReassembly, withCounts}
 use Rattle.isdb_mmt.specs.Pushes.TableOutcome.{indexSize}
 use Rattle.isdb_mmt.specs.Pushes.Commit.{putAreas, loggedFrom, CanStoreAreas}
@@ -52,7 +52,7 @@ use Rattle.isdb_mmt.proofs.Limits.{Passed, passed}
 use Rattle.isdb_mmt.proofs.Checks.{count-was, place-was, control-was}
 use Rattle.isdb_mmt.proofs.PlacesFor.{place-for-was-old}
 use Rattle.isdb_mmt.proofs.Fragments.{Does}
-use Rattle.isdb_mmt.proofs.ControlPlaces.{Sits, sits-old, sits-new, does, own, mpt-before, asks-message, leaves-parts, length-kept, no-place}
+use Rattle.isdb_mmt.proofs.ControlPlaces.{Sits, sits-old, sits-new, does, own, mpt-before, counts-after, asks-message, leaves-parts, length-kept, no-place}
 use Rattle.isdb_mmt.proofs.TableOutcomes.{found-within}
 use Rattle.isdb_mmt.proofs.Loaded.{can-go}
 use Rattle.isdb_mmt.proofs.MessageTables.{message-can, message-full, message-grows, message-used, message-longest, message-others, message-counters, message-areas-can, message-rows, message-mpt-there, message-mpt-long, message-latest, message-areas}
@@ -339,38 +339,11 @@ module _ (s : Session) (x : MessagePacket) (y : ReceivedFragment) (i k : ℕ) (i
   abbrev c₁ : Counters
   c₁ = malformedMore c₀ (cutOf j .malformed)
 
-  reassembly-counts : reassemblyCounted (packetCounted (v .counters) 0 0 0) reassembly x ≡ c₁
-  unfolding reassemblyCounted messageCounted packetCounted view viewBy cutOfAll
-  reassembly-counts =
-      let «orphan_fragments» = ap (λ z. a₀ .«orphan_fragments» + one z) (done .«orphan_fragments») in
-      let oversize = ap (λ z. a₀ .oversize + one z) (done .oversize) in
-      let bad : a₀ .«message_malformed» + (one (short x) + cutOfAll (messageCompleted reassembly x) .malformed) ≡ a₀ .«message_malformed» + one (faultsOf f .malformed) + cutOf j .malformed =
-      ap (λ (o : Option PartialMessage). a₀ .«message_malformed» + (one (short x) + cutOfAll o .malformed)) gives-is
-      ∙ ap (λ z. a₀ .«message_malformed» + (one z + cutOf j .malformed)) (done .shorts)
-      ∙ assoc (a₀ .«message_malformed») (one (faultsOf f .malformed)) (cutOf j .malformed) in
-      λ q.
-      record {
-        «tlv_packets» = a₀ .«tlv_packets» + 1;
-        «ip_errors» = add-zero (a₀ .«ip_errors») q;
-        «non_mmtp» = add-zero (a₀ .«non_mmtp») q;
-        ntp = add-zero (a₀ .ntp) q;
-        tables = a₀ .tables;
-        «crc_errors» = a₀ .«crc_errors»;
-        malformed = a₀ .malformed;
-        «version_changes» = a₀ .«version_changes»;
-        «orphan_fragments» = «orphan_fragments» q;
-        oversize = oversize q;
-        «message_malformed» = bad q;
-        «split_errors» = a₀ .«split_errors»;
-      }
-    where
-      assoc : (p q r : ℕ) → p + (q + r) ≡ p + q + r
-      assoc p q r = omega arith
-
   counters-is : n .counters ≡ countedAll mptB (v .store) c₁ ts
-  unfolding pushed
+  unfolding pushed cutOfAll
   counters-is =
-      ap (λ (z : Counters). countedAll (controlOf (x .id) v .mpt) (v .store) z (tablesGiven reassembly x)) reassembly-counts
+      ap (λ (z : Counters). countedAll (controlOf (x .id) v .mpt) (v .store) z (tablesGiven reassembly x))
+      (counts-after s ok x i k c at f (fragment .outcome) (cutOf j .malformed) (ap (λ (o : Option PartialMessage). cutOfAll o .malformed) gives-is))
       ∙ ap (λ (o : Option Bytes). countedAll o (v .store) c₁ (tablesGiven reassembly x)) (mpt-before s ok x i k c at f (fragment .outcome))
       ∙ ap (λ (zs : List Table). countedAll mptB (v .store) c₁ zs) given-is
 
