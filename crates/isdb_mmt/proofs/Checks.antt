@@ -12,7 +12,7 @@ use mir.Syntax.{w8}
 use borrow.Author.Tests.{eq-eqb, ne-eqb, le-leb, leb-true, ltb-true, ltb-false, eqb-true}
 use lib.Dec.{leb, ltb}
 use lib.Bits.{bitOr, or-add-and, and-le-l, and-le-r}
-use lib.ListN.{length, getD, take, drop, length-drop, drop-of-length-le}
+use lib.ListN.{length, getD, take, drop, drop-of-length-le}
 use lib.Seq.{drop-cons, length-take-le}
 use Rattle.isdb_mmt.specs.Memory.Lent.{part, flag, placesFrom, namesFrom, distinct, every}
 use Rattle.isdb_mmt.specs.Memory.Session.{Session, limitsOf, usedOf, latestOf, countersOf, mediaPlaceOf, heldObjectOf, statsOf, controlPlaceOf, sectionPlaceOf}
@@ -30,6 +30,7 @@ use Rattle.isdb_tlv.specs.Guards.{_≤?_, _=?_}
 use Rattle.isdb_tlv.specs.Bytes.{be}
 use Rattle.isdb_tlv.proofs.Numbers.{be-lt, be-add}
 use Rattle.isdb_tlv.proofs.Guards.{either, cond-same}
+use Rattle.isdb_mmt.proofs.Lent.{length-part}
 use Rattle.isdb_mmt.proofs.Names.{true-not-false}
 use Rattle.isdb_mmt.proofs.Guards.{no, yes, both, not-both, guard-holds, guard-fails, was-both, was-guarded}
 use Rattle.isdb_mmt.proofs.Limits.{passed}
@@ -106,7 +107,7 @@ pub media-length : (n i at : ℕ) (s : List ℕ) → n ≤ mostMediaIds → stat
     → length (take (at + mediaSize - at) (drop at s)) ≡ mediaSize
 media-length n i at s m h e b =
     let d : at + mediaSize - at ≡ mediaSize = omega arith in
-    rw d (length-take-le mediaSize (drop at s) (rw length-drop (omega arith)))
+    rw d (length-part at mediaSize s (omega arith))
 
 next : (size n i at : ℕ) (s : List ℕ) → i < n
     → placesFrom (n - i) size at s ≡ take (at + size - at) (drop at s) ∷ placesFrom (n - (i + 1)) size (at + size) s

@@ -6,9 +6,9 @@ use mathlib.Core.List.{List, [], _∷_, _++_, map}
 use native.Mathlib.Omega.{arith}
 use native.Mathlib.Nat.{add-zero, mul-le-mul-right, zero-add}
 use lib.Dec.{eqb}
-use lib.Seq.{drop-cons, length-take-le}
+use lib.Seq.{drop-cons}
 use native.Mathlib.Numerals.{add-one}
-use lib.ListN.{length, getD, take, drop, length-append, length-take, length-drop, take-append-drop}
+use lib.ListN.{length, getD, take, drop, length-append, length-take}
 use borrow.Author.Tests.{eqb-false, eq-eqb, ne-eqb, not-true, not-false}
 use Rattle.isdb_tlv.proofs.Guards.{either}
 use Rattle.isdb_mmt.specs.Decoder.Packet.{Bytes}
@@ -20,7 +20,7 @@ use Rattle.isdb_tlv.specs.Fields.{written}
 use Rattle.isdb_tlv.proofs.Fields.{length-written}
 use Rattle.isdb_mmt.specs.declared.decoder.section.KeptSection.{KeptSection}
 use Rattle.isdb_mmt.specs.Pushes.TableOutcome.{placeAt, indexOf}
-use Rattle.isdb_mmt.proofs.Lent.{length-over, over-next}
+use Rattle.isdb_mmt.proofs.Lent.{length-over, over-next, over-same}
 use Rattle.isdb_mmt.proofs.Views.{area-apart}
 use Rattle.isdb_mmt.specs.Pushes.PendingTables.{Logged, logged, withLog, bytesAt, committedEntry, committedRecent}
 use Rattle.isdb_mmt.specs.Formats.Part.{partOf}
@@ -33,14 +33,6 @@ use Rattle.isdb_mmt.specs.declared.decoder.table_outcome.Recent.{Recent}
 use Rattle.isdb_mmt.specs.declared.decoder.walk.WalkState.{WalkState}
 use Rattle.isdb_mmt.proofs.Joined.{pieces}
 use Rattle.isdb_mmt.specs.Pushes.Commit.{putOne, putTables, putRecent, putAreas, EntryFits, AllFit, loggedFrom, CanPut, CanStore, CanStoreOne, CanStoreRecent, CanStoreAreas, CanStoreState}
-
-over-own : (at n : ℕ) (l : Bytes) → at + n ≤ length l → over at (part at n l) l ≡ l
-unfolding over
-over-own at n l h =
-    let e : length (part at n l) ≡ n = length-take-le n (drop at l) (omega (arith, length-drop at l)) in
-    ap (λ k. take at l ++ (part at n l ++ drop k (drop at l))) e
-    ∙ ap (λ (z : Bytes). take at l ++ z) (take-append-drop n (drop at l))
-    ∙ take-append-drop at l
 
 module _ (area : ℕ) (m : Bytes) where
   -- one table
@@ -82,7 +74,7 @@ module _ (area : ℕ) (m : Bytes) where
       → putOne (i * area) e m t ≡ over (i * area) (bytesAt m t₀ (i * area) (e .from) (e .place .length)) t
   one-laid i e f t₀ t w h =
       either (eqb (e .from) 0)
-      (λ q. rw q (sym (ap (λ (b : Bytes). over (i * area) b t) (sym h) ∙ over-own (i * area) (e .place .length) t (omega (arith, f .small)))))
+      (λ q. rw q (sym (ap (λ (b : Bytes). over (i * area) b t) (sym h) ∙ over-same (i * area) (e .place .length) t)))
       (λ q. rw q)
 
   -- so the commit lays all that is kept
@@ -152,7 +144,7 @@ module _ (area : ℕ) (m : Bytes) where
       (λ q.
       let k = f q in
       either (eqb (r .from) 0)
-      (λ z. rw (q, z) (sym (ap (λ (b : Bytes). over (i * area) b t) (sym (h (r .length) k)) ∙ over-own (i * area) (r .length) t (omega arith))))
+      (λ z. rw (q, z) (sym (ap (λ (b : Bytes). over (i * area) b t) (sym (h (r .length) k)) ∙ over-same (i * area) (r .length) t)))
       (λ z. rw (q, z)))
       (λ q. rw q)
 

@@ -34,7 +34,7 @@ use Rattle.isdb_mmt.specs.declared.decoder.place.PlaceFor.the-variants.{
 use Rattle.isdb_mmt.specs.declared.decoder.place.Found.the-variants.{At, Nothing}
 use Rattle.isdb_mmt.specs.declared.decoder.messages.Joined.{Joined}
 use Rattle.isdb_mmt.specs.declared.decoder.place.PlaceFor.{PlaceFor}
-use Rattle.isdb_mmt.proofs.Lent.{length-names, length-places}
+use Rattle.isdb_mmt.proofs.Lent.{length-part, length-names, length-places}
 use Rattle.isdb_mmt.proofs.Names.{true-not-false}
 use Rattle.isdb_mmt.proofs.Limits.{passed}
 use Rattle.isdb_mmt.proofs.Checks.{control-was, place-was}
@@ -45,7 +45,6 @@ use Rattle.isdb_mmt.proofs.MessageLeaves.{controlEntries, control-names
 use Rattle.isdb_mmt.proofs.Maps.{find-put}
 use Rattle.isdb_mmt.proofs.Fragments.{Does, outcome-does}
 use Rattle.isdb_mmt.proofs.Quiet.{asks-none, asks-kept}
-use Rattle.isdb_mmt.proofs.Stays.{part-length}
 
 -- ---- the place before the packet, and what is known of its id
 
@@ -162,7 +161,7 @@ module _ (s : Session) (ok : Sound (s .state) (s .others) (lengthsOf s)) (x : Me
 
   pub does : Does (reassemblyOf (x .id) v) x c m f
   does =
-      let e = outcome-does c m t (λ j. part-length (i * lim .«message_area») (c .length) (s .messages) (at .joins j)) x in
+      let e = outcome-does c m t (λ j. length-part (i * lim .«message_area») (c .length) (s .messages) (at .joins j)) x in
       subst (λ (y : ControlState). Does (y .reassembly) x c m f) (sym (at .is)) (subst (Does (controlStateOf c m t .reassembly) x c m) (sym ef) e)
 
   pub own : controlOf (x .id) n

@@ -7,8 +7,7 @@ use mathlib.Core.List.{List, [], _++_, map}
 use native.Mathlib.Omega.{arith}
 use native.Mathlib.Nat.{add-zero, mul-le-mul-right, zero-max}
 use lib.Dec.{ltb}
-use lib.ListN.{length, getD, take, drop, replicate, length-replicate, length-drop}
-use lib.Seq.{length-take-le}
+use lib.ListN.{length, getD, take, drop, replicate, length-replicate}
 use mir.Syntax.{w8}
 use mir.Val.{Fits as FitsIn}
 use borrow.Author.Tests.{le-leb, lt-leb, ltb-true, ltb-false, le-ltb}
@@ -44,6 +43,7 @@ use Rattle.isdb_mmt.specs.declared.decoder.counts.Counters.{Counters}
 use Rattle.isdb_mmt.specs.declared.decoder.head.Used.{Used}
 use Rattle.isdb_mmt.specs.declared.decoder.table_outcome.Recent.{Recent}
 use Rattle.isdb_mmt.specs.declared.decoder.walk.WalkState.{WalkState}
+use Rattle.isdb_mmt.proofs.Lent.{length-part}
 use Rattle.isdb_mmt.proofs.Checks.{count-was}
 use Rattle.isdb_mmt.proofs.Counting.{countable, state-countable}
 use Rattle.isdb_mmt.proofs.Questions.{asks-zero, asks-places, asks-areas}
@@ -89,7 +89,7 @@ module _ (state others objects messages tables : List ℕ) (b : Bytes) (can : Ca
       record {
         copies =
             record {
-              indexLong = length-take-le indexSize (drop sectionPlaces state) (omega (arith, length-drop sectionPlaces state, ok .there .long));
+              indexLong = length-part sectionPlaces indexSize state (omega (arith, ok .there .long));
               logLong = length-replicate {A = ℕ} mostSections 0;
               othersLong = can .othersLong;
               used = ok .there .sections;

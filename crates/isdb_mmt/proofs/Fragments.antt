@@ -1,12 +1,12 @@
 -- What becomes of a fragment, by the place of its id, is what the model does. Assumes nothing.
-use Prim.Native.Nat.{ℕ, zero, suc, _+_, _-_, _*_, _≤_, _<_}
+use Prim.Native.Nat.{ℕ, _+_, _-_, _*_, _≤_, _<_}
 use mathlib.Core.Path.{_≡_, refl, sym, ap, _∙_}
 use mathlib.Core.Bool.{Bool, true, false, not, cond, _&&_}
 use mathlib.Core.Option.{Option, none, some}
-use mathlib.Core.List.{List, [], _∷_, _++_}
+use mathlib.Core.List.{_++_}
 use native.Mathlib.Omega.{arith}
 use lib.Dec.{ltb, leb}
-use lib.ListN.{length, take, drop, length-append, length-drop, take-append-drop}
+use lib.ListN.{length, drop, length-append, length-drop}
 use borrow.Author.Tests.{le-ltb, le-leb, lt-leb, ltb-true, ltb-false, not-true, not-false}
 use Rattle.isdb_tlv.proofs.Guards.{cond-elim}
 use Rattle.isdb_mmt.specs.Decoder.Packet.{Bytes, MessagePacket}
@@ -26,7 +26,7 @@ use Rattle.isdb_mmt.specs.declared.decoder.control.Control.{Control}
 use Rattle.isdb_mmt.specs.declared.decoder.messages.FragmentOutcome.{FragmentOutcome}
 use Rattle.isdb_mmt.specs.declared.decoder.messages.FragmentOutcome.the-variants.{Short, Undivided, First, Orphan, Oversize, Grown, Whole}
 use Rattle.isdb_mmt.specs.declared.decoder.messages.Joined.{Joined}
-use Rattle.isdb_mmt.proofs.Lent.{over-next}
+use Rattle.isdb_mmt.proofs.Lent.{over-same, over-grown}
 use Rattle.isdb_mmt.proofs.Names.{true-not-false}
 
 -- ---- the code's tests
@@ -38,24 +38,6 @@ outcome-by c n b x d r h e f g =
     g
     ∙ ap (λ (y : Division). byDivision y c n b) (sym f ∙ ap (λ (y : Fragment). y .division) e)
     ∙ sym (ap (λ (t : Bool). cond t Short (byDivision (flagsIn b .division) c n b)) (le-ltb _ _ h))
-
--- ---- bytes that lie there already
-
-same-tail : (n : ℕ) (d : List ℕ) → take n d ++ drop (length (take n d)) d ≡ d
-same-tail zero d = refl
-same-tail (suc n) [] = refl
-same-tail (suc n) (x ∷ d) = ap (λ (r : List ℕ). x ∷ r) (same-tail n d)
-
-pub over-same : (at n : ℕ) (l : List ℕ) → over at (part at n l) l ≡ l
-unfolding over
-over-same at n l = ap (λ (x : List ℕ). take at l ++ x) (same-tail n (drop at l)) ∙ take-append-drop at l
-
--- more behind them
-pub over-grown : (at n : ℕ) (m d l : List ℕ) → m ≡ part at n l → length m ≡ n → at + n + length d ≤ length l → over at (m ++ d) l ≡ over (at + n) d l
-over-grown at n m d l e h w =
-    sym (over-next at m d l (omega (arith, h)))
-    ∙ ap (λ (x : List ℕ). over (at + length m) d x) (ap (λ (x : List ℕ). over at x l) e ∙ over-same at n l)
-    ∙ ap (λ k. over (at + k) d l) h
 
 -- ---- the gap rule
 

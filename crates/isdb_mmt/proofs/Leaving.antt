@@ -7,7 +7,7 @@ use native.Mathlib.Omega.{arith}
 use native.Mathlib.Nat.{zero-add, mul-le-mul-right}
 use lib.Dec.{eqb}
 use lib.ListN.{length, getD, take, drop, length-drop}
-use lib.Seq.{getD-drop, take-all, take-add, take-suc, drop-drop, length-take-le}
+use lib.Seq.{getD-drop, take-all, take-add, take-suc, drop-drop}
 use borrow.Author.Tests.{eqb-false}
 use Rattle.isdb_tlv.specs.Bytes.{be}
 use Rattle.isdb_tlv.specs.Fields.{bytesOf, written}
@@ -29,6 +29,7 @@ use Rattle.isdb_mmt.specs.declared.decoder.table_outcome.Recent.{Recent}
 use Rattle.isdb_mmt.specs.declared.decoder.walk.WalkState.{WalkState}
 use Rattle.isdb_mmt.specs.Decoder.Kept.{withTableCounts}
 use Rattle.isdb_mmt.specs.declared.decoder.counts.Counters.{Counters}
+use Rattle.isdb_mmt.proofs.Lent.{length-part}
 use Rattle.isdb_mmt.proofs.Applied.{log-places}
 
 -- ---- a place written again is what it was
@@ -85,7 +86,7 @@ unfolding placesFrom
 flat-places ix o zero at h = refl
 flat-places ix o (suc n) at h =
     let p : Bytes = part at sectionSize ix in
-    let lp : length p ≡ sectionSize = length-take-le sectionSize (drop at ix) (omega (arith, length-drop at ix)) in
+    let lp : length p ≡ sectionSize = length-part at sectionSize ix (omega arith) in
     let e : sectionSize + sectionSize * n ≡ sectionSize * suc n = omega arith in
     ap (λ (l : Bytes). l ++ flat (map sectionPlaceOf (placesFrom n sectionSize (at + sectionSize) ix))) (place-again p lp (octets-part ix o at sectionSize))
     ∙ ap (λ (l : Bytes). p ++ l) (flat-places ix o n (at + sectionSize) (omega arith))
@@ -100,7 +101,7 @@ module _ (m t : Bytes) (area : ℕ) where
       → length (bytesAt m t (i * area) (e .from) (e .place .length)) ≡ e .place .length
   entry-long i e f w =
       either (eqb (e .from) 0)
-      (λ q. rw q (length-take-le (e .place .length) (drop (i * area) t) (omega (arith, f .small, length-drop (i * area) t))))
+      (λ q. rw q (length-part (i * area) (e .place .length) t (omega (arith, f .small))))
       (λ q. rw q (f .within (eqb-false (e .from) 0 q)))
 
   rows-of : (es : List Logged) (i : ℕ) → AllFit area m es → (i + length es) * area ≤ length t
@@ -138,7 +139,7 @@ module _ (m t : Bytes) (area : ℕ) where
         (λ q.
         rw q
         (either (eqb (r .from) 0)
-        (λ z. rw z (sym (length-take-le (r .length) (drop (i * area) t) (omega (arith, small q, length-drop (i * area) t)))))
+        (λ z. rw z (sym (length-part (i * area) (r .length) t (omega (arith, small q)))))
         (λ z. rw z (sym (found-at q (eqb-false (r .from) 0 z))))))
         (λ q. rw q)
 

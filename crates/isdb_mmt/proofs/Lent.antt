@@ -82,6 +82,10 @@ part-take (suc at) n zero l h = absurd (omega arith)
 part-take (suc at) n (suc k) [] h = refl
 part-take (suc at) n (suc k) (x ∷ l) h = part-take at n k l (omega arith)
 
+-- what lies within has its length
+pub length-part : (at n : ℕ) (l : List ℕ) → at + n ≤ length l → length (part at n l) ≡ n
+length-part at n l h = length-take-le n (drop at l) (rw length-drop (omega arith))
+
 -- what a call on the part from a to e leaves of the whole
 pub lend-over : (a e : ℕ) (bs l : List ℕ) → length bs ≡ e - a → take a l ++ (bs ++ drop (e - a) (drop a l)) ≡ over a bs l
 unfolding over
@@ -110,6 +114,23 @@ over-next at a c l h =
     let e3 : drop (length c) r ≡ drop (length (a ++ c)) (drop at l) =
     drop-drop (length c) (length a) (drop at l) ∙ ap (λ n. drop n (drop at l)) (sym (length-append a c)) in
     rw (e1, e2, e3, append-assoc (take at l) a, append-assoc a c)
+
+-- bytes that lie there already
+same-tail : (n : ℕ) (d : List ℕ) → take n d ++ drop (length (take n d)) d ≡ d
+same-tail zero d = refl
+same-tail (suc n) [] = refl
+same-tail (suc n) (x ∷ d) = ap (λ (r : List ℕ). x ∷ r) (same-tail n d)
+
+pub over-same : (at n : ℕ) (l : List ℕ) → over at (part at n l) l ≡ l
+unfolding over
+over-same at n l = ap (λ (x : List ℕ). take at l ++ x) (same-tail n (drop at l)) ∙ take-append-drop at l
+
+-- more behind them
+pub over-grown : (at n : ℕ) (m d l : List ℕ) → m ≡ part at n l → length m ≡ n → at + n + length d ≤ length l → over at (m ++ d) l ≡ over (at + n) d l
+over-grown at n m d l e h w =
+    sym (over-next at m d l (omega (arith, h)))
+    ∙ ap (λ (x : List ℕ). over (at + length m) d x) (ap (λ (x : List ℕ). over at x l) e ∙ over-same at n l)
+    ∙ ap (λ k. over (at + k) d l) h
 
 -- a shorter one over the start of a longer one
 pub over-start : (at : ℕ) (bs cs l : List ℕ) → length bs ≤ length cs → at + length cs ≤ length l
@@ -156,7 +177,7 @@ copy-next at k b l m m′ h lt e d =
 module _ (at k n most : ℕ) (b l m p : List ℕ) (f : at + length b ≤ length l) (k≤ : k ≤ length b) (en : n ≡ min (length b - k) most)
     (ep : p ≡ take n (drop k b)) (em : length m ≡ length l) where
   length-block : length p ≡ n
-  length-block = rw ep (length-take-le n (drop k b) (rw (length-drop k b) (omega arith)))
+  length-block = rw ep (length-part k n b (omega arith))
 
   pub block-fits : (length p ≤ most) × (at + k + length p ≤ length m)
   block-fits = let e = length-block in (omega arith, omega arith)

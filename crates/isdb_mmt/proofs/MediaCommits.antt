@@ -11,7 +11,7 @@ use borrow.Author.Tests.{ltb-false}
 use mir.Val.{Fits}
 use mir.Syntax.{w64}
 use lib.ListN.{length, take, drop, length-append, length-take, length-drop}
-use lib.Seq.{take-all, length-take-le}
+use lib.Seq.{take-all}
 use Rattle.isdb_tlv.specs.Bytes.{be}
 use Rattle.isdb_tlv.specs.Fields.{written}
 use Rattle.isdb_tlv.specs.declared.mmtp.Header.{Header}
@@ -46,7 +46,7 @@ use Rattle.isdb_mmt.specs.declared.decoder.media.Media.{Media}
 use Rattle.isdb_mmt.specs.declared.decoder.reassembler.MediaEffect.{MediaEffect}
 use Rattle.isdb_mmt.specs.declared.decoder.reassembler.MediaOutcome.{MediaOutcome}
 use Rattle.isdb_mmt.proofs.Names.{true-not-false}
-use Rattle.isdb_mmt.proofs.Lent.{over-none}
+use Rattle.isdb_mmt.proofs.Lent.{length-part, over-none}
 use Rattle.isdb_mmt.proofs.Areas.{held-same, held-grown}
 use Rattle.isdb_mmt.proofs.EffectsModelled.{Told}
 use Rattle.isdb_mmt.proofs.Placed.{start-held, start-object, start-zero}
@@ -195,7 +195,7 @@ module _ (at : ℕ) (p : Media) (h : Header) (b objects : Bytes) (fits : p .held
   before = startsFrom at p objects
 
   pub long-there : p .held ≡ true → length there ≡ p .object .length
-  long-there t = length-take-le (p .object .length) (drop at objects) (rw length-drop (omega (arith, fits t)))
+  long-there t = length-part at (p .object .length) objects (fits t)
 
   pub held-was : (g : Mfu) → afterHeaders before m .held ≡ some g → (p .held ≡ true) × (g .bytes ≡ there)
   unfolding afterHeaders assetOfPlace mfuOf isSome
@@ -212,7 +212,7 @@ module _ (at : ℕ) (p : Media) (h : Header) (b objects : Bytes) (fits : p .held
     where
       go : (o : Option Mfu) → afterHeaders before m .held ≡ o → heldOver at o objects ≡ objects
       go none e = refl
-      go (some g) e = held-same at (p .object .length) objects g (held-was g e .1) (fits (held-was g e .0))
+      go (some g) e = held-same at (p .object .length) objects g (held-was g e .1)
 
 start-last : (p : Media) (n : ℕ) → startOf p n .last ≡ partAt 0 0
 unfolding startOf

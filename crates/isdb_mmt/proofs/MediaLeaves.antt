@@ -8,7 +8,7 @@ use mathlib.Core.List.{List, [], _∷_, _++_}
 use native.Mathlib.Nat.{add-zero, mul-le-mul-right}
 use native.Mathlib.Omega.{arith}
 use lib.Dec.{eqb}
-use lib.ListN.{length, getD, set, drop, length-append, length-drop}
+use lib.ListN.{length, getD, set, length-append}
 use borrow.Author.Tests.{eqb-true}
 use Rattle.isdb_tlv.specs.Bytes.{be}
 use Rattle.isdb_tlv.specs.Fields.{field, written, Fit}
@@ -32,14 +32,13 @@ use Rattle.isdb_mmt.specs.declared.decoder.counts.Counters.{Counters}
 use Rattle.isdb_mmt.specs.declared.decoder.head.Used.{Used}
 use Rattle.isdb_mmt.specs.declared.decoder.limits.Limits.{Limits}
 use Rattle.isdb_mmt.specs.declared.decoder.media.Media.{Media}
-use Rattle.isdb_mmt.proofs.Lent.{length-over, part-over, be-apart, length-names}
+use Rattle.isdb_mmt.proofs.Lent.{length-part, length-over, part-over, be-apart, length-names}
 use Rattle.isdb_mmt.proofs.Stored.{apart, limits-own, latest-own, time-own, counters-own, used-back, holds-over}
 use Rattle.isdb_mmt.proofs.Sessions.{media, controls, sections, inUse, named, place-set, place-new, place-apart, used-apart}
 use Rattle.isdb_mmt.proofs.Views.{keys, FoundAt, found-at, absent, indexed-set, indexed-snoc, indexed-same, area-apart}
 use Rattle.isdb_mmt.proofs.Limits.{passed}
 use Rattle.isdb_mmt.proofs.Checks.{media-was, count-was}
 use Rattle.isdb_mmt.proofs.Counting.{counting, counted-alone}
-use lib.Seq.{length-take-le}
 use Rattle.isdb_mmt.specs.declared.mpu.PayloadHeader.{PayloadHeader}
 use Rattle.isdb_mmt.proofs.StateWrites.{used-other}
 use Rattle.isdb_mmt.proofs.PlacesFor.{entries, entry-names, length-media, place-for-was-old, place-for-was-new, place-for-was-full, length-indexed, every-at, set-indexed, getD-indexed, none-some}
@@ -533,7 +532,7 @@ module _ (s : Session) (ok : Sound (s .state) (s .others) (lengthsOf s)) (id : �
       let lb : p .held ≡ true → length bs ≡ p .object .length =
       λ t.
       let n = q .0 t in
-      length-take-le (p .object .length) (drop (i * l .«mfu_area») (s .objects)) (rw length-drop (omega (arith, ps .objects))) in
+      length-part (i * l .«mfu_area») (p .object .length) (s .objects) (omega (arith, ps .objects)) in
       let g : getD (entries s) i (0, fresh) ≡ assetEntry l s i p =
       let y : 0 + i ≡ i = omega arith in
       rw y at (getD-indexed (assetEntry l s) (mediaIn st) 0 i blank (0, fresh) b) in

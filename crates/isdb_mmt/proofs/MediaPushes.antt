@@ -10,7 +10,6 @@ use mir.Val.{Fits}
 use mir.Syntax.{w64}
 use lib.Dec.{ltb, eqb}
 use lib.ListN.{length, getD, drop, length-drop}
-use lib.Seq.{length-take-le}
 use borrow.Author.Tests.{ltb-false, eqb-true, eq-eqb, ne-eqb}
 use Rattle.isdb_tlv.specs.Guards.{_<?_}
 use Rattle.isdb_tlv.specs.declared.mmtp.Header.{Header}
@@ -40,6 +39,7 @@ use Rattle.isdb_mmt.specs.declared.decoder.media.Media.{Media}
 use Rattle.isdb_mmt.specs.declared.decoder.reassembler.MediaEffect.{MediaEffect}
 use Rattle.isdb_mmt.specs.declared.decoder.reassembler.MediaOutcome.{MediaOutcome}
 use Rattle.isdb_mmt.specs.declared.decoder.records.Answer.{Answer}
+use Rattle.isdb_mmt.proofs.Lent.{length-part}
 use Rattle.isdb_mmt.proofs.Names.{true-not-false}
 use Rattle.isdb_mmt.proofs.Views.{keys, FoundAt, found-at, absent}
 use Rattle.isdb_mmt.proofs.Limits.{passed, areas-fit}
@@ -296,7 +296,7 @@ module _ (st ot ob me ta : List ℕ) (h : Header) (b rows bytes : Bytes) (can : 
 
       module _ (own-place : place-for ≡ NoneFree → ⊥) where
         long : p .held ≡ true → length there ≡ p .object .length
-        long t = length-take-le (p .object .length) (drop at ob) (rw length-drop (omega (arith, held-there own-place t)))
+        long t = length-part at (p .object .length) ob (held-there own-place t)
 
         told : Told m t0 (afterHeaders (assetOf id (view s)) m) (r .units) (readable m)
         told =

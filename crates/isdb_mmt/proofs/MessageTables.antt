@@ -6,8 +6,7 @@ use mathlib.Core.Option.{Option}
 use mathlib.Core.List.{List, map}
 use native.Mathlib.Omega.{arith}
 use native.Mathlib.Nat.{zero-add, mul-le-mul-right, zero-max}
-use lib.ListN.{length, take, drop, replicate, length-replicate, length-drop}
-use lib.Seq.{length-take-le}
+use lib.ListN.{length, take, replicate, length-replicate}
 use Rattle.isdb_mmt.specs.Memory.Layout.{mostSections, mostMessageArea, mostCount, tableIds, sectionPlaces, sectionSize}
 use Rattle.isdb_mmt.specs.Decoder.Packet.{Bytes}
 use Rattle.isdb_mmt.specs.Decoder.Maps.{isSome}
@@ -31,6 +30,7 @@ use Rattle.isdb_mmt.specs.declared.decoder.limits.Limits.{Limits}
 use Rattle.isdb_mmt.specs.declared.decoder.table_outcome.Recent.{Recent}
 use Rattle.isdb_mmt.specs.declared.decoder.walk.WalkState.{WalkState}
 use Rattle.isdb_mmt.specs.declared.decoder.counts.Counters.{Counters}
+use Rattle.isdb_mmt.proofs.Lent.{length-part}
 use Rattle.isdb_mmt.proofs.Checks.{count-was}
 use Rattle.isdb_mmt.proofs.Placing.{bytes-cut, cut-located}
 use Rattle.isdb_mmt.proofs.Committed.{tables-located}
@@ -73,7 +73,7 @@ module _ (s : Session) (ok : Sound (s .state) (s .others) (lengthsOf s)) (i : �
       record {
         copies =
             record {
-              indexLong = length-take-le indexSize (drop sectionPlaces (s .state)) (omega (arith, length-drop sectionPlaces (s .state), ok .there .long));
+              indexLong = length-part sectionPlaces indexSize (s .state) (omega (arith, ok .there .long));
               logLong = length-replicate {A = ℕ} mostSections 0;
               othersLong = lo;
               used = ok .there .sections;

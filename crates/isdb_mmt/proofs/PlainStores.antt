@@ -5,8 +5,7 @@ use mathlib.Core.Logic.{inl}
 use mathlib.Core.Bool.{Bool}
 use mathlib.Core.List.{List, [], _∷_, _++_}
 use native.Mathlib.Omega.{arith}
-use lib.ListN.{length, take, drop, length-drop}
-use lib.Seq.{length-take-le}
+use lib.ListN.{length, take, drop}
 use borrow.Rule.Slice.PartMut.{putMid}
 use Rattle.isdb_tlv.specs.Bytes.{be, putBe}
 use Rattle.isdb_tlv.specs.Fields.{Field, field, written, puts, fourFields}
@@ -21,7 +20,7 @@ use Rattle.isdb_mmt.specs.Pushes.MediaCommit.{stateAfter}
 use Rattle.isdb_mmt.specs.Pushes.Plain.{nextOf, grownOf, CanRaise, CanStoreNext, CanStorePlain}
 use Rattle.isdb_mmt.specs.declared.decoder.place.PlaceFor.the-variants.{Own}
 use Rattle.isdb_mmt.specs.declared.decoder.media.Media.{Media}
-use Rattle.isdb_mmt.proofs.Lent.{length-over, be-apart, put-none, puts-whole}
+use Rattle.isdb_mmt.proofs.Lent.{length-part, length-over, be-apart, put-none, puts-whole}
 use Rattle.isdb_mmt.proofs.Stored.{stored, sent}
 use Rattle.isdb_mmt.proofs.LeftAlone.{be-puts, length-puts, Step, store, leave, standing, left-alone}
 
@@ -167,7 +166,7 @@ module _ (s : List ℕ) (i : ℕ) (can : CanStorePlain s i) where
   pub can-next : CanStoreNext there
   unfolding mediaPlaceOf statsOf
   can-next =
-      let k : length (part at mediaSize s) ≡ mediaSize = length-take-le mediaSize (drop at s) (rw length-drop (omega (arith, can .long, can .index))) in
+      let k : length (part at mediaSize s) ≡ mediaSize = length-part at mediaSize s (omega (arith, can .long, can .index)) in
       rw there-is (record { long = k; packets = can .modest .packets; mfus = can .modest .mfus })
 
   -- the place with what a packet makes of it

@@ -6,7 +6,7 @@ use mathlib.Core.List.{List, [], _∷_, _++_, append-nil}
 use native.Mathlib.Omega.{arith}
 use lib.ListN.{length, take, drop, length-drop, drop-of-length-le, take-append-drop}
 use lib.Dec.{ltb, eqb}
-use lib.Seq.{take-all, length-take-le}
+use lib.Seq.{take-all}
 use borrow.Author.Tests.{lt-ltb, le-ltb, ltb-true, ltb-false, eq-eqb, ne-eqb}
 use borrow.Rule.Slice.PartMut.{midOf, putMid}
 use Rattle.isdb_tlv.specs.Bytes.{putBe}
@@ -36,6 +36,7 @@ use Rattle.isdb_mmt.specs.declared.decoder.many.Halt.the-variants.{End, 
 use Rattle.isdb_mmt.specs.Decoder.Needs.{needs}
 use Rattle.isdb_mmt.specs.Memory.Octets.{Octets, Lent}
 use Rattle.isdb_mmt.specs.Theorems.Room.{mostAdded}
+use Rattle.isdb_mmt.proofs.Lent.{length-part}
 use Rattle.isdb_mmt.proofs.PacketLeaves.{taken}
 use Rattle.isdb_mmt.proofs.SoundStays.{within-more, leaves-taken, push-stays}
 use Rattle.isdb_mmt.proofs.Accepted.{push-lent}
@@ -194,7 +195,7 @@ module _ (known : Bool) (input : Bytes) (most : ℕ) (c : Run) (h : AtTurn known
     first-packet = rw (recording-at input most (c .progress .at), ← ek, d)
 
     packet-length : length (packet .bytes) ≡ n
-    packet-length = length-take-le n (drop start input) (omega (arith, length-drop start input, lies .behind-bytes, lies .inside))
+    packet-length = length-part start n input (omega (arith, lies .behind-bytes, lies .inside))
 
     module _ (full : Bool) (ef : full ≡ (length (c .lines) <? lineSize * c .progress .packets + lineSize)) where
       pub halts-full : full ≡ true → ran c Full ≡ pushedFrom input most c

@@ -36,14 +36,13 @@ use Rattle.isdb_mmt.specs.declared.decoder.readings.NameReading.the-vari
 use Rattle.isdb_mmt.specs.declared.decoder.readings.MediaReading.the-variants.{Media as theMedia}
 use Rattle.isdb_mmt.specs.declared.decoder.readings.ControlReading.the-variants.{Control as theControl}
 use Rattle.isdb_mmt.proofs.Said.{mediaEntry, controlAtPlace, media-found, control-found}
-use Rattle.isdb_mmt.proofs.Lent.{names-of, length-names}
+use Rattle.isdb_mmt.proofs.Lent.{length-part, names-of, length-names}
 use Rattle.isdb_mmt.proofs.Names.{true-not-false}
 use Rattle.isdb_mmt.proofs.Views.{keys, keys-indexed}
 use Rattle.isdb_mmt.proofs.Sessions.{named}
 use Rattle.isdb_mmt.proofs.PlacesFor.{entries, entry-names}
 use Rattle.isdb_mmt.proofs.MessageLeaves.{controlEntries, control-names}
 use Rattle.isdb_mmt.proofs.ControlPlaces.{in-buffer}
-use Rattle.isdb_mmt.proofs.Areas.{length-part}
 use Rattle.isdb_mmt.proofs.Limits.{passed}
 use Rattle.isdb_mmt.proofs.Checks.{sound-session, media-was, control-was, place-was}
 use Rattle.isdb_mmt.proofs.ReadSteps.{found-below}

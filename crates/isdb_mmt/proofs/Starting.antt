@@ -5,8 +5,7 @@ use mathlib.Core.Bool.{true, false}
 use mathlib.Core.List.{List}
 use native.Mathlib.Omega.{arith}
 use native.Mathlib.Nat.{zero-add, mul-le-mul-right}
-use lib.ListN.{length, getD, set, take, drop, length-drop}
-use lib.Seq.{length-take-le}
+use lib.ListN.{length, getD, set, take}
 use Rattle.isdb_mmt.specs.Memory.Layout.{sectionPlaces, stateSize}
 use Rattle.isdb_mmt.specs.Memory.Lent.{part, over}
 use Rattle.isdb_mmt.specs.Pushes.TableOutcome.{indexSize}
@@ -21,13 +20,13 @@ use Rattle.isdb_mmt.specs.declared.decoder.head.Latest.{Latest}
 use Rattle.isdb_mmt.specs.declared.decoder.counts.Counters.{Counters}
 use Rattle.isdb_mmt.specs.declared.decoder.table_outcome.Recent.{Recent}
 use Rattle.isdb_mmt.specs.declared.decoder.walk.WalkState.{WalkState}
-use Rattle.isdb_mmt.proofs.Lent.{over-whole, copy-next, copied}
+use Rattle.isdb_mmt.proofs.Lent.{length-part, over-whole, copy-next, copied}
 
 -- ---- the index
 
 module _ (ix state : List ℕ) (can : (length ix ≡ indexSize) × (stateSize ≤ length state)) (b : List ℕ) (eb : b ≡ part sectionPlaces indexSize state) where
   index-length : length b ≡ length ix
-  index-length = rw eb (length-take-le indexSize (drop sectionPlaces state) (omega (arith, length-drop sectionPlaces state, can .1)) ∙ sym (can .0))
+  index-length = rw eb (length-part sectionPlaces indexSize state (omega (arith, can .1)) ∙ sym (can .0))
 
   pub index-fits : 0 + length b ≤ length ix
   index-fits = omega (arith, index-length)

@@ -5,7 +5,7 @@ use mathlib.Core.Path.{_≡_, refl, _∙_}
 use mathlib.Core.Bool.{Bool, true, false}
 use mathlib.Core.List.{List, [], _∷_, _++_, map}
 use native.Mathlib.Omega.{arith}
-use lib.ListN.{length, getD, set, drop, length-take, length-drop, length-map}
+use lib.ListN.{length, getD, set, length-map}
 use native.Mathlib.Nat.{add-zero, mul-le-mul-right}
 use borrow.Author.Tests.{le-leb, leb-true}
 use Rattle.isdb_tlv.specs.Bytes.{be}
@@ -24,7 +24,7 @@ use Rattle.isdb_mmt.specs.declared.decoder.media.Media.{Media}
 use Rattle.isdb_mmt.specs.declared.decoder.control.Control.{Control}
 use Rattle.isdb_mmt.specs.declared.decoder.section.KeptSection.{KeptSection}
 use Rattle.isdb_mmt.proofs.Names.{true-not-false}
-use Rattle.isdb_mmt.proofs.Lent.{names-of, length-places}
+use Rattle.isdb_mmt.proofs.Lent.{length-part, names-of, length-places}
 use Rattle.isdb_mmt.proofs.Views.{keys, keys-indexed}
 use Rattle.isdb_mmt.proofs.Limits.{passed}
 use Rattle.isdb_mmt.proofs.Checks.{media-is, control-is, is-sound}
@@ -63,10 +63,6 @@ pub record Exact (l : Limits) (s : Session) : Type 0 where
       → (l .sections + l .«control_ids») * l .«table_area» + latestOf (s .state) .«plt_length» ≤ length (s .tables)
   pub tot : latestOf (s .state) .tot ≡ true
       → (l .sections + l .«control_ids» + 1) * l .«table_area» + latestOf (s .state) .«tot_length» ≤ length (s .tables)
-
--- what stands within a buffer has its length
-pub part-length : (at n : ℕ) (b : Bytes) → at + n ≤ length b → length (part at n b) ≡ n
-part-length at n b h = omega (arith, length-take n (drop at b), length-drop at b)
 
 pub placed-mono : {A : Type 0} (E F : ℕ → A → Type 0) → ((i : ℕ) (x : A) → E i x → F i x) → (xs : List A) (k : ℕ) → Placed E k xs → Placed F k xs
 placed-mono E F f [] k h = tt
@@ -128,7 +124,7 @@ module _ (l : Limits) (s : Session) (n : ℕ) (big : n ≤ mostCount) where
       media-is l m
       (λ t.
       let k = held-length (m .held) (mfuOf (m .object) (part (i * l .«mfu_area») (m .object .length) (s .objects))) (l .«mfu_area») (h .held) t in
-      omega (arith, part-length (i * l .«mfu_area») (m .object .length) (s .objects) (e t)))
+      omega (arith, length-part (i * l .«mfu_area») (m .object .length) (s .objects) (e t)))
       (simp (
         le-leb (m .stats .packets) mostCount (omega (arith, h .counts .packets)),
         le-leb (m .stats .«packets_lost») mostCount (omega (arith, h .counts .lost)),
@@ -146,13 +142,13 @@ module _ (l : Limits) (s : Session) (n : ℕ) (big : n ≤ mostCount) where
   unfolding controlStateOf
   control-sound i c h e =
       control-is l c
-      (λ t. let k = join-length (c .joining) _ (l .«message_area») (h .joins) t in omega (arith, part-length (i * l .«message_area») (c .length) (s .messages) (e .0 t)))
-      (λ t. let k = table-length (l .«table_area») (c .mpt) _ (h .mpt) t in omega (arith, part-length ((l .sections + i) * l .«table_area») (c .«mpt_length») (s .tables) (e .1 t)))
+      (λ t. let k = join-length (c .joining) _ (l .«message_area») (h .joins) t in omega (arith, length-part (i * l .«message_area») (c .length) (s .messages) (e .0 t)))
+      (λ t. let k = table-length (l .«table_area») (c .mpt) _ (h .mpt) t in omega (arith, length-part ((l .sections + i) * l .«table_area») (c .«mpt_length») (s .tables) (e .1 t)))
 
   section-sound : (i : ℕ) (x : KeptSection) → KeptOk (l .«table_area») (x .key) (sectionEntry l s i x .1) → sectionThere l s i x
       → sectionSound l x ≡ true
   section-sound i x h e =
-      le-leb (x .length) (l .«table_area») (omega (arith, h .fits, part-length (i * l .«table_area») (x .length) (s .tables) e))
+      le-leb (x .length) (l .«table_area») (omega (arith, h .fits, length-part (i * l .«table_area») (x .length) (s .tables) e))
 
 counts-fit : (n : ℕ) → n ≤ mostCount → (xs : List ℕ) → ((i : ℕ) → getD xs i 0 ≤ n) → every countFits xs ≡ true
 unfolding every
@@ -233,9 +229,9 @@ stays-sound s n big a e h w =
       controls = omega (arith, m2, w .lines);
       sections = omega (arith, m3, w .sections);
       plt = λ t. let k = table-length (l .«table_area») (latestOf (s .state) .plt) _ (h .store .plt) t in
-          omega (arith, part-length ((l .sections + l .«control_ids») * l .«table_area») (latestOf (s .state) .«plt_length») (s .tables) (e .plt t));
+          omega (arith, length-part ((l .sections + l .«control_ids») * l .«table_area») (latestOf (s .state) .«plt_length») (s .tables) (e .plt t));
       tot = λ t. let k = table-length (l .«table_area») (latestOf (s .state) .tot) _ (h .store .tot) t in
-          omega (arith, part-length ((l .sections + l .«control_ids» + 1) * l .«table_area») (latestOf (s .state) .«tot_length») (s .tables) (e .tot t));
+          omega (arith, length-part ((l .sections + l .«control_ids» + 1) * l .«table_area») (latestOf (s .state) .«tot_length») (s .tables) (e .tot t));
       packets = four (x .«tlv_packets») (x .«ip_errors») (x .«non_mmtp») (x .ntp) (omega (arith, c .«tlv_packets»)) (omega (arith, c .«ip_errors»)) (omega (arith, c .«non_mmtp»)) (omega (arith, c .ntp));
       tables =
           eight (x .tables) (x .«crc_errors») (x .malformed) (x .«version_changes») (x .«orphan_fragments») (x .oversize) (x .«message_malformed») (x .«split_errors»)

@@ -7,7 +7,7 @@ use mathlib.Core.Logic.{_⊎_}
 use mathlib.Core.List.{List, [], _∷_, _++_, append-nil}
 use native.Mathlib.Omega.{arith}
 use lib.Dec.{leb}
-use lib.ListN.{length, take, drop, length-drop}
+use lib.ListN.{length, take, drop}
 use lib.Seq.{length-take-le}
 use borrow.Author.Tests.{leb-true}
 use borrow.Rule.Slice.PartMut.{putMid}
@@ -27,7 +27,7 @@ use Rattle.isdb_mmt.specs.declared.decoder.head.Time.{Time}
 use Rattle.isdb_mmt.specs.declared.decoder.media.Media.{Media}
 use Rattle.isdb_mmt.specs.declared.decoder.control.Control.{Control}
 use Rattle.isdb_mmt.specs.declared.decoder.section.KeptSection.{KeptSection}
-use Rattle.isdb_mmt.proofs.Lent.{part-apart, part-take, puts-over, puts-whole, lent-at}
+use Rattle.isdb_mmt.proofs.Lent.{length-part, part-apart, part-take, puts-over, puts-whole, lent-at}
 
 -- ---- a store
 
@@ -47,7 +47,7 @@ pub long-put : (p v : ℕ) (l m : List ℕ) → p + 8 ≤ length l → m ≡ put
 long-put p v l m h e =
     let fs : List Field = field 8 v ∷ [] in
     let z : p + 8 - p ≡ 8 = omega arith in
-    let k : length (take (p + 8 - p) (drop p l)) ≡ 8 = rw z (length-take-le 8 (drop p l) (rw length-drop (omega arith))) in
+    let k : length (take (p + 8 - p) (drop p l)) ≡ 8 = rw z (length-part p 8 l (omega arith)) in
     sent fs p l (filled fs (take (p + 8 - p) (drop p l)) k e) ∙ sym (puts-over fs p l h)
 
 -- ---- what is stored is read back

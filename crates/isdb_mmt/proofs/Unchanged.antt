@@ -24,8 +24,8 @@ use Rattle.isdb_mmt.specs.Pushes.Leaves.{keptPlace, sectionRows, withSec
 use Rattle.isdb_mmt.specs.Pushes.FragmentPush.{lengthIf, normalLatest}
 use Rattle.isdb_mmt.specs.declared.decoder.limits.Limits.{Limits}
 use Rattle.isdb_mmt.specs.declared.decoder.section.KeptSection.{KeptSection}
-use Rattle.isdb_mmt.proofs.Stays.{Placed, exact-was, sectionThere, part-length, placed-mono}
-use Rattle.isdb_mmt.proofs.Fragments.{over-same}
+use Rattle.isdb_mmt.proofs.Stays.{Placed, exact-was, sectionThere, placed-mono}
+use Rattle.isdb_mmt.proofs.Lent.{length-part, over-same}
 
 -- ---- places
 
@@ -95,7 +95,7 @@ is-there true a = refl
 is-there false a = refl
 
 pub given-length : (b : Bool) (at n : ℕ) (t : Bytes) → (b ≡ true → at + n ≤ length t) → tableLength (given b (part at n t)) ≡ lengthIf b n
-given-length true at n t h = part-length at n t (h refl)
+given-length true at n t h = length-part at n t (h refl)
 given-length false at n t h = refl
 
 -- ---- a session
@@ -109,7 +109,7 @@ module _ (s : Session) (ok : Sound (s .state) (s .others) (lengthsOf s)) where
   rows-are o =
       rows-bytes (sectionEntry l s) (s .state) o (usedOf (s .state) .sections) 0 sectionPlaces (omega (arith, ok .there .long, ok .there .sections))
       (placed-mono (sectionThere l s) (λ i x. keptPlace (sectionEntry l s i x) ≡ x)
-      (λ i x h. let e = part-length (i * l .«table_area») (x .length) (s .tables) h in λ j. record { key = x .key; version = x .version; length = e j })
+      (λ i x h. let e = length-part (i * l .«table_area») (x .length) (s .tables) h in λ j. record { key = x .key; version = x .version; length = e j })
       (sectionsIn (s .state)) 0 (exact-was s ok .sections))
 
   -- a state with these section places
