@@ -3,7 +3,7 @@ use Prim.Native.Nat.{ℕ, zero, suc, _+_, _-_, _*_, _≤_, _<_}
 use mathlib.Core.Path.{_≡_, refl, sym, ap, subst, _∙_}
 use mathlib.Core.Bool.{true, false}
 use mathlib.Core.List.{List, [], _∷_, map}
-use native.Mathlib.Nat.{add-zero, mul-le-mul-right, mul-zero, mul-suc}
+use native.Mathlib.Nat.{add-zero, mul-zero, mul-suc}
 use native.Mathlib.Omega.{arith}
 use lib.ListN.{length, getD, length-set, length-append, length-map}
 use Rattle.isdb_tlv.specs.Guards.{if_then_else_, _<?_}
@@ -36,7 +36,7 @@ use Rattle.isdb_mmt.specs.declared.decoder.messages.Joined.{Joined}
 use Rattle.isdb_mmt.specs.declared.decoder.place.PlaceFor.{PlaceFor}
 use Rattle.isdb_mmt.proofs.Lent.{length-part, length-names, length-places}
 use Rattle.isdb_mmt.proofs.Names.{true-not-false}
-use Rattle.isdb_mmt.proofs.Limits.{passed}
+use Rattle.isdb_mmt.proofs.Limits.{passed, in-buffer}
 use Rattle.isdb_mmt.proofs.Checks.{control-was, place-was}
 use Rattle.isdb_mmt.proofs.Counting.{counted-alone}
 use Rattle.isdb_mmt.proofs.Views.{keys, FoundAt, found-at, absent}
@@ -79,9 +79,6 @@ module _ (s : Session) (ok : Sound (s .state) (s .others) (lengthsOf s)) (id : �
 
   abbrev l : Limits
   l = limitsOf st
-
-  pub in-buffer : (i n area m k : ℕ) → n ≤ area → i < k → k * area ≤ m → i * area + n ≤ m
-  in-buffer i n area m k h b w = let q : (i + 1) * area ≤ k * area = mul-le-mul-right area (omega arith) in omega arith
 
   pub length-all : length (view s .controls) ≡ usedOf st .«control_ids»
   unfolding view viewBy
@@ -218,7 +215,7 @@ module _ (s : Session) (ok : Sound (s .state) (s .others) (lengthsOf s)) (x : Me
   messages-are h =
       ap (λ (y : ControlState). bytesOver (i * lim .«message_area») (joinedIn (y .reassembly .partial)) (s .messages)) own
       ∙ does .bytes (i * lim .«message_area») (s .messages) (λ j. refl)
-      (in-buffer s ok (x .id) i (areaBy f c b) (lim .«message_area») (length (s .messages)) (lim .«control_ids») h (at .free)
+      (in-buffer i (areaBy f c b) (lim .«message_area») (length (s .messages)) (lim .«control_ids») h (at .free)
       (passed lim (lengthsOf s) (ok .limits) .messages))
 
   pub used-after : usedFor n

@@ -5,7 +5,7 @@ use mathlib.Core.Bool.{false}
 use mathlib.Core.Option.{Option}
 use mathlib.Core.List.{List, [], map}
 use mathlib.Core.Logic.{inr}
-use native.Mathlib.Nat.{add-zero, mul-le-mul-right}
+use native.Mathlib.Nat.{add-zero}
 use native.Mathlib.Omega.{arith}
 use lib.ListN.{length}
 use lib.Dec.{ltb}
@@ -44,7 +44,7 @@ use Rattle.isdb_mmt.specs.declared.decoder.place.PlaceFor.{PlaceFor}
 use Rattle.isdb_mmt.specs.declared.decoder.place.PlaceFor.the-variants.{Own, Free, NoneFree}
 use Rattle.isdb_mmt.specs.declared.decoder.messages.ReceivedFragment.{ReceivedFragment}
 use Rattle.isdb_mmt.proofs.Lent.{length-names, length-over, part-apart}
-use Rattle.isdb_mmt.proofs.Limits.{passed}
+use Rattle.isdb_mmt.proofs.Limits.{passed, whole-area}
 use Rattle.isdb_mmt.proofs.Checks.{count-was}
 use Rattle.isdb_mmt.proofs.PlacesFor.{place-for-was-old}
 use Rattle.isdb_mmt.proofs.Fragments.{Does, none-whole}
@@ -364,10 +364,7 @@ module _ (s : Session) (x : MessagePacket) (y : ReceivedFragment) (h : CanJoin s
             };
         short = h .short;
         area = r .ranges .message .1;
-        room =
-            let m : (i + 1) * limitsOf (s .state) .«message_area» ≤ limitsOf (s .state) .«control_ids» * limitsOf (s .state) .«message_area» =
-            mul-le-mul-right (limitsOf (s .state) .«message_area») (omega (arith, a .free)) in
-            omega (arith, r .messages);
+        room = whole-area i _ (limitsOf (s .state) .«message_area») _ (a .free) (r .messages);
       }
 
   module _ (i : ℕ) where

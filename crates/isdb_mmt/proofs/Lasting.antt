@@ -6,7 +6,6 @@ use mathlib.Core.Logic.{inl}
 use mathlib.Core.Bool.{true}
 use mathlib.Core.Option.{Option, none, some}
 use mathlib.Core.List.{List, [], _∷_, map}
-use native.Mathlib.Nat.{mul-le-mul-right}
 use native.Mathlib.Omega.{arith}
 use lib.ListN.{length}
 use Rattle.isdb_tlv.specs.Fields.{written, Fit}
@@ -32,7 +31,7 @@ use Rattle.isdb_mmt.specs.declared.decoder.place.PlaceFor.{PlaceFor}
 use Rattle.isdb_mmt.specs.declared.decoder.place.PlaceFor.the-variants.{Own, Free, NoneFree}
 use Rattle.isdb_mmt.specs.declared.decoder.limits.Limits.{Limits}
 use Rattle.isdb_mmt.proofs.Lent.{length-over}
-use Rattle.isdb_mmt.proofs.Limits.{passed, Passed}
+use Rattle.isdb_mmt.proofs.Limits.{passed, Passed, in-buffer}
 use Rattle.isdb_mmt.proofs.Stored.{apart, limits-own, latest-own}
 use Rattle.isdb_mmt.proofs.Sessions.{Sort, media as mediaSort, controls as controlSort, sections as sectionSort, inUse, named, place-apart, used-apart}
 use Rattle.isdb_mmt.proofs.PlacesFor.{length-media}
@@ -40,7 +39,7 @@ use Rattle.isdb_mmt.proofs.TableAreas.{AllKept, length-laid, length-kep
 use Rattle.isdb_mmt.proofs.StateWrites.{TablesFit, length-tables, latest-tables, limits-tables, sections-tables, long-latest, latest-read}
 use Rattle.isdb_mmt.proofs.Placed.{Tied}
 use Rattle.isdb_mmt.proofs.MediaLeaves.{in-objects, within-old, keeps-old, media-old, new-facts, keeps-new, media-new, place-for-free, held-room, tied-next}
-use Rattle.isdb_mmt.proofs.MessageLeaves.{Says, ranges, kept-within, media-same, controls-same, media-2, sections-t2, long-1, length-1, long-t, len0, len1, len2, in2, in-messages, joined-length, controls-old, message-old, controls-new, all-before, message-new, controlEntries}
+use Rattle.isdb_mmt.proofs.MessageLeaves.{Says, ranges, in-table, kept-within, media-same, controls-same, media-2, sections-t2, long-1, length-1, long-t, len0, len1, len2, in2, in-messages, joined-length, controls-old, message-old, controls-new, all-before, message-new, controlEntries}
 use Rattle.isdb_mmt.proofs.PacketLeaves.{Stores, MessageFits, own, place-for-free as control-free, old-free, new-free, sections-plt, sections-tot}
 use Rattle.isdb_mmt.proofs.Stays.{Placed, mediaThere, controlThere, sectionThere, Exact, exact-was, placed-set, placed-snoc, placed-mono}
 
@@ -67,12 +66,6 @@ module _ (s : Session) (ok : Sound (s .state) (s .others) (lengthsOf s)) where
   fine : Passed l (lengthsOf s)
   fine = passed l (lengthsOf s) (ok .limits)
 
-  -- area `k` of the tables
-  in-table : (k n : ℕ) → k < l .sections + l .«control_ids» + 2 → n ≤ l .«table_area» → k * l .«table_area» + n ≤ length (s .tables)
-  in-table k n h b =
-      let m : (k + 1) * l .«table_area» ≤ (l .sections + l .«control_ids» + 2) * l .«table_area» = mul-le-mul-right (l .«table_area») (omega arith) in
-      omega (arith, fine .tables)
-
   pub lasting : (s′ : Session) → Lasts s s′ → Exact (limitsOf (s′ .state)) s′
   lasting s′ h =
       let l′ = limitsOf (s′ .state) in
@@ -83,8 +76,8 @@ module _ (s : Session) (ok : Sound (s .state) (s .others) (lengthsOf s)) where
             (λ i c k. ((λ t. rw (h .limits, h .messages) (k .0 t)), (λ t. rw (h .limits, h .tables) (k .1 t))))
             (controlsIn (s′ .state)) 0 (h .controls);
         sections = placed-mono (sectionThere l s) (sectionThere l′ s′) (λ i x k. rw (h .limits, h .tables) k) (sectionsIn (s′ .state)) 0 (h .sections);
-        plt = λ t. rw (h .limits, h .tables) (in-table (l .sections + l .«control_ids») (latestOf (s′ .state) .«plt_length») (omega arith) (h .plt t));
-        tot = λ t. rw (h .limits, h .tables) (in-table (l .sections + l .«control_ids» + 1) (latestOf (s′ .state) .«tot_length») (omega arith) (h .tot t));
+        plt = λ t. rw (h .limits, h .tables) (in-table s ok (l .sections + l .«control_ids») (latestOf (s′ .state) .«plt_length») (omega arith) (h .plt t));
+        tot = λ t. rw (h .limits, h .tables) (in-table s ok (l .sections + l .«control_ids» + 1) (latestOf (s′ .state) .«tot_length») (omega arith) (h .tot t));
       }
 
   -- ---- writes to the head behind PLT and TOT
@@ -203,7 +196,7 @@ module _ (s : Session) (ok : Sound (s .state) (s .others) (lengthsOf s)) where
 
   kept-there : (kept : List (ℕ × Kept)) (k : ℕ) → k + length kept ≤ l .sections → AllKept (l .«table_area») kept → Placed (sectionThere l s) k (map keptPlace kept)
   kept-there [] k w f = tt
-  kept-there (e ∷ es) k w f = (in-table k (length (e .1 .bytes)) (omega arith) (f .0 .short), kept-there es (k + 1) (omega arith) (f .1))
+  kept-there (e ∷ es) k w f = (in-table s ok k (length (e .1 .bytes)) (omega arith) (f .0 .short), kept-there es (k + 1) (omega arith) (f .1))
 
   -- a control packet
   module _ (n : State) (f : TablesFit l n) (ep : view s .passing ≡ n .passing) (ea : view s .assets ≡ n .assets) (ec : view s .controls ≡ n .controls)
@@ -237,10 +230,8 @@ module _ (s : Session) (ok : Sound (s .state) (s .others) (lengthsOf s)) where
     control-own : controlThere l s (0 + i) (controlFor id c)
     unfolding controlFor
     control-own = (
-      (λ t.
-          let w : (i + 1) * l .«message_area» ≤ l .«control_ids» * l .«message_area» = mul-le-mul-right (l .«message_area») (omega arith) in
-          omega (arith, fine .messages, f .place .joins)),
-      (λ t. in-table (l .sections + (0 + i)) (tableLength (c .mpt)) (omega arith) (f .place .mpt)),
+      (λ t. in-buffer (0 + i) _ (l .«message_area») (length (s .messages)) (l .«control_ids») (f .place .joins) (omega arith) (fine .messages)),
+      (λ t. in-table s ok (l .sections + (0 + i)) (tableLength (c .mpt)) (omega arith) (f .place .mpt)),
     )
 
     abbrev there : Type 0

@@ -1,9 +1,9 @@
 -- Laws of limits: what passing questions 1 to 4 says, and that the lengths which limits in range need fit 64 bits.
 -- Assumes nothing.
-use Prim.Native.Nat.{ℕ, _+_, _*_, _≤_}
+use Prim.Native.Nat.{ℕ, _+_, _*_, _≤_, _<_}
 use mathlib.Core.Path.{_≡_, sym, ap, _∙_}
 use mathlib.Core.Bool.{true}
-use native.Mathlib.Nat.{mul-le-mul}
+use native.Mathlib.Nat.{mul-le-mul, mul-le-mul-right}
 use native.Mathlib.Omega.{arith}
 use mir.Val.{Fits}
 use mir.Syntax.{w64}
@@ -54,6 +54,13 @@ in-ranges l p a =
 -- so the areas of one sort together have a length of 64 bits: an area for each place, the PLT and the TOT at most
 pub areas-fit : (n area : ℕ) → n ≤ mostSections + mostControlIds + 2 → area ≤ mostMfuArea → Fits w64 (n * area)
 areas-fit n area h k = record { fits = omega (arith, mul-le-mul h k) }
+
+-- area `i` of `k` areas lies within their buffer, and so do `n` bytes in it
+pub whole-area : (i k area m : ℕ) → i < k → k * area ≤ m → (i + 1) * area ≤ m
+whole-area i k area m b w = let q : (i + 1) * area ≤ k * area = mul-le-mul-right area (omega arith) in omega arith
+
+pub in-buffer : (i n area m k : ℕ) → n ≤ area → i < k → k * area ≤ m → i * area + n ≤ m
+in-buffer i n area m k h b w = omega (arith, whole-area i k area m b w)
 
 -- questions 1 to 4, of limits with the lengths that are lent
 pub record Passed (l : Limits) (lent : Lengths) : Type 0 where

@@ -5,7 +5,7 @@ use mathlib.Core.Logic.{inl, inr}
 use mathlib.Core.Bool.{Bool, true, false}
 use mathlib.Core.Option.{Option, none, some}
 use mathlib.Core.List.{List, [], _∷_, _++_}
-use native.Mathlib.Nat.{add-zero, mul-le-mul-right}
+use native.Mathlib.Nat.{add-zero}
 use native.Mathlib.Omega.{arith}
 use lib.Dec.{eqb}
 use lib.ListN.{length, getD, set, length-append}
@@ -36,7 +36,7 @@ use Rattle.isdb_mmt.proofs.Lent.{length-part, length-over, part-over, b
 use Rattle.isdb_mmt.proofs.Stored.{apart, limits-own, latest-own, time-own, counters-own, used-back, holds-over}
 use Rattle.isdb_mmt.proofs.Sessions.{media, controls, sections, inUse, named, place-set, place-new, place-apart, used-apart}
 use Rattle.isdb_mmt.proofs.Views.{keys, FoundAt, found-at, absent, indexed-set, indexed-snoc, indexed-same, area-apart}
-use Rattle.isdb_mmt.proofs.Limits.{passed}
+use Rattle.isdb_mmt.proofs.Limits.{passed, whole-area, in-buffer}
 use Rattle.isdb_mmt.proofs.Checks.{media-was, count-was}
 use Rattle.isdb_mmt.proofs.Counting.{counting, counted-alone}
 use Rattle.isdb_mmt.specs.declared.mpu.PayloadHeader.{PayloadHeader}
@@ -210,8 +210,7 @@ module _ (s : Session) (ok : Sound (s .state) (s .others) (lengthsOf s)) (id : �
   pub in-objects : (i : ℕ) → i < limitsOf st .«media_ids» → (i + 1) * area ≤ length (s .objects)
   in-objects i h =
       let p = passed (limitsOf st) (lengthsOf s) (ok .limits) in
-      let k : (i + 1) * area ≤ limitsOf st .«media_ids» * area = mul-le-mul-right area (omega arith) in
-      omega (arith, p .objects)
+      whole-area i (limitsOf st .«media_ids») area (length (s .objects)) h (p .objects)
 
   -- this id's entry
   own-entry : (st′ : List ℕ) (i : ℕ) → i < limitsOf st .«media_ids»
@@ -526,13 +525,11 @@ module _ (s : Session) (ok : Sound (s .state) (s .others) (lengthsOf s)) (id : �
       let p : Media = getD (mediaIn st) i blank in
       let q = media-was l p (every-at (mediaSound l) blank (mediaIn st) i (ok .objects) b) in
       let ps = passed l (lengthsOf s) (ok .limits) in
-      let k : (i + 1) * l .«mfu_area» ≤ l .«media_ids» * l .«mfu_area» =
-      mul-le-mul-right (l .«mfu_area») (omega (arith, b, length-media st, ok .media)) in
       let bs : Bytes = part (i * l .«mfu_area») (p .object .length) (s .objects) in
       let lb : p .held ≡ true → length bs ≡ p .object .length =
       λ t.
-      let n = q .0 t in
-      length-part (i * l .«mfu_area») (p .object .length) (s .objects) (omega (arith, ps .objects)) in
+      length-part (i * l .«mfu_area») (p .object .length) (s .objects)
+      (in-buffer i (p .object .length) (l .«mfu_area») (length (s .objects)) (l .«media_ids») (q .0 t) (omega (arith, b, length-media st, ok .media)) (ps .objects)) in
       let g : getD (entries s) i (0, fresh) ≡ assetEntry l s i p =
       let y : 0 + i ≡ i = omega arith in
       rw y at (getD-indexed (assetEntry l s) (mediaIn st) 0 i blank (0, fresh) b) in

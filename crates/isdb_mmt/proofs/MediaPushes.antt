@@ -4,7 +4,7 @@ use Prim.Native.Nat.{ℕ, zero, suc, _+_, _-_, _*_, _≤_, _<_}
 use mathlib.Core.Path.{_≡_, refl, sym, ap, _∙_, subst}
 use mathlib.Core.Bool.{Bool, true, false, cond}
 use mathlib.Core.List.{List, map}
-use native.Mathlib.Nat.{add-zero, mul-zero, mul-suc, mul-le-mul, mul-le-mul-right}
+use native.Mathlib.Nat.{add-zero, mul-zero, mul-suc, mul-le-mul}
 use native.Mathlib.Omega.{arith}
 use mir.Val.{Fits}
 use mir.Syntax.{w64}
@@ -42,7 +42,7 @@ use Rattle.isdb_mmt.specs.declared.decoder.records.Answer.{Answer}
 use Rattle.isdb_mmt.proofs.Lent.{length-part}
 use Rattle.isdb_mmt.proofs.Names.{true-not-false}
 use Rattle.isdb_mmt.proofs.Views.{keys, FoundAt, found-at, absent}
-use Rattle.isdb_mmt.proofs.Limits.{passed, areas-fit}
+use Rattle.isdb_mmt.proofs.Limits.{passed, areas-fit, whole-area}
 use Rattle.isdb_mmt.proofs.Checks.{media-was, place-was, count-was}
 use Rattle.isdb_mmt.proofs.Storable.{stats-of}
 use Rattle.isdb_mmt.proofs.PlacesFor.{entries, entry-names, place-for-was-old, place-for-was-new, place-for-was-full, length-media, length-indexed, getD-indexed}
@@ -287,9 +287,8 @@ module _ (st ot ob me ta : List ℕ) (h : Header) (b rows bytes : Bytes) (can : 
       area-there : (place-for ≡ NoneFree → ⊥) → at + limitsOf st .«mfu_area» ≤ length ob
       area-there n =
           let k = place-for-low s (can .sound) id place-for (sym es) n in
-          let w : (indexOf place-for + 1) * limitsOf st .«mfu_area» ≤ limitsOf st .«media_ids» * limitsOf st .«mfu_area» =
-          mul-le-mul-right (limitsOf st .«mfu_area») (omega (arith, k)) in
-          omega (arith, w, passed (limitsOf st) (lengthsOf s) (can .sound .limits) .objects)
+          omega
+          (arith, whole-area (indexOf place-for) (limitsOf st .«media_ids») (limitsOf st .«mfu_area») (length ob) k (passed (limitsOf st) (lengthsOf s) (can .sound .limits) .objects))
 
       held-there : (place-for ≡ NoneFree → ⊥) → p .held ≡ true → at + p .object .length ≤ length ob
       held-there n t = omega (arith, area-there n, start .held t)

@@ -38,7 +38,7 @@ use Rattle.isdb_mmt.proofs.Lent.{length-over, part-over, names-of, leng
 use Rattle.isdb_mmt.proofs.Stored.{apart, limits-own, time-own}
 use Rattle.isdb_mmt.proofs.Sessions.{Sort, media, controls, sections, inUse, named, place-set, place-new, place-apart, used-apart}
 use Rattle.isdb_mmt.proofs.Views.{keys, FoundAt, found-at, absent, indexed-set, indexed-snoc, indexed-same, keys-indexed}
-use Rattle.isdb_mmt.proofs.Limits.{passed, Passed}
+use Rattle.isdb_mmt.proofs.Limits.{passed, Passed, whole-area}
 use Rattle.isdb_mmt.proofs.Checks.{control-was}
 use Rattle.isdb_mmt.proofs.PlacesFor.{length-media, place-for-was-old, place-for-was-new, length-indexed, every-at, set-indexed}
 use Rattle.isdb_mmt.proofs.TableAreas.{length-laid, laid-apart, laid, length-kept, kept-apart, Lie, kept-lie, lie-on, lie-read}
@@ -148,9 +148,11 @@ module _ (s : Session) (ok : Sound (s .state) (s .others) (lengthsOf s)) where
   ranges = passed l (lengthsOf s) (ok .limits)
 
   pub in-tables : (k : ℕ) → k < l .sections + l .«control_ids» + 2 → (k + 1) * area ≤ length (s .tables)
-  in-tables k h =
-      let m : (k + 1) * area ≤ (l .sections + l .«control_ids» + 2) * area = mul-le-mul-right area (omega arith) in
-      omega (arith, ranges .tables)
+  in-tables k h = whole-area k (l .sections + l .«control_ids» + 2) area (length (s .tables)) h (ranges .tables)
+
+  -- so do `n` bytes in area `k` of the tables
+  pub in-table : (k n : ℕ) → k < l .sections + l .«control_ids» + 2 → n ≤ area → k * area + n ≤ length (s .tables)
+  in-table k n h b = omega (arith, in-tables k h)
 
   pub kept-within : (n : State) → TablesFit l n → (0 + length (n .store .kept)) * area ≤ length (s .tables)
   kept-within n f =
@@ -388,9 +390,7 @@ module _ (s : Session) (ok : Sound (s .state) (s .others) (lengthsOf s)) where
     -- ---- entries
 
     pub in-messages : (i + 1) * l .«message_area» ≤ length (s .messages)
-    in-messages =
-        let m : (i + 1) * l .«message_area» ≤ l .«control_ids» * l .«message_area» = mul-le-mul-right (l .«message_area») (omega arith) in
-        omega (arith, ranges .messages)
+    in-messages = whole-area i (l .«control_ids») (l .«message_area») (length (s .messages)) free (ranges .messages)
 
     own-entry : controlEntry l s2 (0 + i) (controlFor id c) ≡ (id, c)
     unfolding controlFor controlStateOf

@@ -31,6 +31,7 @@ use Rattle.isdb_mmt.specs.declared.decoder.table_outcome.Recent.{Recent}
 use Rattle.isdb_mmt.specs.declared.decoder.walk.WalkState.{WalkState}
 use Rattle.isdb_mmt.specs.declared.decoder.counts.Counters.{Counters}
 use Rattle.isdb_mmt.proofs.Lent.{length-part}
+use Rattle.isdb_mmt.proofs.Limits.{whole-area}
 use Rattle.isdb_mmt.proofs.Checks.{count-was}
 use Rattle.isdb_mmt.proofs.Placing.{bytes-cut, cut-located}
 use Rattle.isdb_mmt.proofs.Committed.{tables-located}
@@ -214,9 +215,7 @@ module _ (s : Session) (ok : Sound (s .state) (s .others) (lengthsOf s)) (i : �
         small-of x h e = omega (arith, h .small e)
 
         area-room : (k : ℕ) → k + 1 ≤ l .sections + l .«control_ids» + 2 → (k + 1) * l .«table_area» ≤ length (s .tables)
-        area-room k h =
-            let q : (k + 1) * l .«table_area» ≤ (l .sections + l .«control_ids» + 2) * l .«table_area» = mul-le-mul-right (l .«table_area») h in
-            omega (arith, met s ok .tables)
+        area-room k h = whole-area k (l .sections + l .«control_ids» + 2) (l .«table_area») (length (s .tables)) (omega arith) (met s ok .tables)
 
         room : r .used * l .«table_area» ≤ length (s .tables)
         room =

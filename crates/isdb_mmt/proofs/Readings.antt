@@ -42,8 +42,7 @@ use Rattle.isdb_mmt.proofs.Views.{keys, keys-indexed}
 use Rattle.isdb_mmt.proofs.Sessions.{named}
 use Rattle.isdb_mmt.proofs.PlacesFor.{entries, entry-names}
 use Rattle.isdb_mmt.proofs.MessageLeaves.{controlEntries, control-names}
-use Rattle.isdb_mmt.proofs.ControlPlaces.{in-buffer}
-use Rattle.isdb_mmt.proofs.Limits.{passed}
+use Rattle.isdb_mmt.proofs.Limits.{passed, in-buffer}
 use Rattle.isdb_mmt.proofs.Checks.{sound-session, media-was, control-was, place-was}
 use Rattle.isdb_mmt.proofs.ReadSteps.{found-below}
 use Rattle.isdb_mmt.proofs.Least.{least-is, least-nothing, in-order}
@@ -110,7 +109,7 @@ module _ (s : Session) (e : sound s ≡ true) (id : ℕ) where
   object-long i b h =
       let q = media-was l (mediaAt (s .state) i) (place-was (mediaSound l) mediaPlaceOf (usedOf (s .state) .«media_ids») mediaSize mediaPlaces (s .state) i (ok .objects) b) .0 h in
       length-part (i * l .«mfu_area») (mediaAt (s .state) i .object .length) (s .objects)
-      (in-buffer s ok id i (mediaAt (s .state) i .object .length) (l .«mfu_area») (length (s .objects)) (l .«media_ids») q (omega (arith, ok .media))
+      (in-buffer i (mediaAt (s .state) i .object .length) (l .«mfu_area») (length (s .objects)) (l .«media_ids») q (omega (arith, ok .media))
       (passed l (lengthsOf s) (ok .limits) .objects))
 
   message-long : (i : ℕ) → i < usedOf (s .state) .«control_ids» → controlAt (s .state) i .joining ≡ true
@@ -119,7 +118,7 @@ module _ (s : Session) (e : sound s ≡ true) (id : ℕ) where
   message-long i b h =
       let q = control-was l (controlAt (s .state) i) (place-was (controlSound l) controlPlaceOf (usedOf (s .state) .«control_ids») controlSize controlPlaces (s .state) i (ok .messages) b) .0 h in
       length-part (i * l .«message_area») (controlAt (s .state) i .length) (s .messages)
-      (in-buffer s ok id i (controlAt (s .state) i .length) (l .«message_area») (length (s .messages)) (l .«control_ids») q (omega (arith, ok .controls))
+      (in-buffer i (controlAt (s .state) i .length) (l .«message_area») (length (s .messages)) (l .«control_ids») q (omega (arith, ok .controls))
       (passed l (lengthsOf s) (ok .limits) .messages))
 
   asset-found : (i : ℕ) → foundFrom 0 (mediaNames s) id ≡ At i → (i < usedOf (s .state) .«media_ids») × (find id (entries s) ≡ some (assetEntry l s i (mediaAt (s .state) i) .1))

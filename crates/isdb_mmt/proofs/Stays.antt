@@ -6,7 +6,7 @@ use mathlib.Core.Bool.{Bool, true, false}
 use mathlib.Core.List.{List, [], _∷_, _++_, map}
 use native.Mathlib.Omega.{arith}
 use lib.ListN.{length, getD, set, length-map}
-use native.Mathlib.Nat.{add-zero, mul-le-mul-right}
+use native.Mathlib.Nat.{add-zero}
 use borrow.Author.Tests.{le-leb, leb-true}
 use Rattle.isdb_tlv.specs.Bytes.{be}
 use Rattle.isdb_mmt.specs.Decoder.Packet.{Bytes}
@@ -26,7 +26,7 @@ use Rattle.isdb_mmt.specs.declared.decoder.section.KeptSection.{KeptSect
 use Rattle.isdb_mmt.proofs.Names.{true-not-false}
 use Rattle.isdb_mmt.proofs.Lent.{length-part, names-of, length-places}
 use Rattle.isdb_mmt.proofs.Views.{keys, keys-indexed}
-use Rattle.isdb_mmt.proofs.Limits.{passed}
+use Rattle.isdb_mmt.proofs.Limits.{passed, in-buffer}
 use Rattle.isdb_mmt.proofs.Checks.{media-is, control-is, is-sound}
 use Rattle.isdb_mmt.proofs.Guards.{was-both}
 use Rattle.isdb_mmt.proofs.Every.{Every}
@@ -254,9 +254,6 @@ stays-sound s n big a e h w =
 
 -- ---- a session that passes question 5 has what it says: nothing is to be shown of places that a push leaves
 
-row-in : (i k n area m : ℕ) → n ≤ area → i < k → k * area ≤ m → i * area + n ≤ m
-row-in i k n area m h b w = let q : (i + 1) * area ≤ k * area = mul-le-mul-right area (omega arith) in omega arith
-
 fits-was : (b : Bool) (n area : ℕ) → lengthFits b n area ≡ true → b ≡ true → n ≤ area
 fits-was true n area e t = leb-true n area e
 fits-was false n area e t = true-not-false false t refl
@@ -281,19 +278,19 @@ exact-was s q =
     record {
       media =
           placed-all (mediaSound l) (mediaThere l s) (l .«media_ids»)
-          (λ i m b f t. row-in i (l .«media_ids») (m .object .length) (l .«mfu_area») (length (s .objects)) (fits-was (m .held) _ _ (was-both _ _ f .0) t) b (p .objects))
+          (λ i m b f t. in-buffer i (m .object .length) (l .«mfu_area») (length (s .objects)) (l .«media_ids») (fits-was (m .held) _ _ (was-both _ _ f .0) t) b (p .objects))
           (mediaIn (s .state)) 0 (omega (arith, m1, q .media)) (q .objects);
       controls =
           placed-all (controlSound l) (controlThere l s) (l .«control_ids»)
           (λ i c b f. (
-            (λ t. row-in i (l .«control_ids») (c .length) (l .«message_area») (length (s .messages)) (fits-was (c .joining) _ _ (was-both _ _ f .0) t) b (p .messages)),
-            (λ t. row-in (l .sections + i) (l .sections + l .«control_ids» + 2) (c .«mpt_length») (l .«table_area») (length (s .tables)) (fits-was (c .mpt) _ _ (was-both (lengthFits (c .joining) (c .length) (l .«message_area»)) _ f .1) t) (omega arith) (p .tables)),
+            (λ t. in-buffer i (c .length) (l .«message_area») (length (s .messages)) (l .«control_ids») (fits-was (c .joining) _ _ (was-both _ _ f .0) t) b (p .messages)),
+            (λ t. in-buffer (l .sections + i) (c .«mpt_length») (l .«table_area») (length (s .tables)) (l .sections + l .«control_ids» + 2) (fits-was (c .mpt) _ _ (was-both (lengthFits (c .joining) (c .length) (l .«message_area»)) _ f .1) t) (omega arith) (p .tables)),
           ))
           (controlsIn (s .state)) 0 (omega (arith, m2, q .controls)) (q .messages);
       sections =
           placed-all (sectionSound l) (sectionThere l s) (l .sections)
-          (λ i x b f. row-in i (l .sections + l .«control_ids» + 2) (x .length) (l .«table_area») (length (s .tables)) (leb-true _ _ f) (omega arith) (p .tables))
+          (λ i x b f. in-buffer i (x .length) (l .«table_area») (length (s .tables)) (l .sections + l .«control_ids» + 2) (leb-true _ _ f) (omega arith) (p .tables))
           (sectionsIn (s .state)) 0 (omega (arith, m3, q .sections)) (q .kept);
-      plt = λ t. row-in (l .sections + l .«control_ids») (l .sections + l .«control_ids» + 2) _ (l .«table_area») (length (s .tables)) (q .plt t) (omega arith) (p .tables);
-      tot = λ t. row-in (l .sections + l .«control_ids» + 1) (l .sections + l .«control_ids» + 2) _ (l .«table_area») (length (s .tables)) (q .tot t) (omega arith) (p .tables);
+      plt = λ t. in-buffer (l .sections + l .«control_ids») _ (l .«table_area») (length (s .tables)) (l .sections + l .«control_ids» + 2) (q .plt t) (omega arith) (p .tables);
+      tot = λ t. in-buffer (l .sections + l .«control_ids» + 1) _ (l .«table_area») (length (s .tables)) (l .sections + l .«control_ids» + 2) (q .tot t) (omega arith) (p .tables);
     }

@@ -5,7 +5,6 @@ use mathlib.Core.Bool.{Bool, true, false}
 use mathlib.Core.Option.{Option, none, some}
 use mathlib.Core.List.{List, [], _∷_}
 use native.Mathlib.Omega.{arith}
-use native.Mathlib.Nat.{mul-le-mul-right}
 use lib.Dec.{eqb, ltb, leb}
 use lib.Arith.{lt-of-le-ne}
 use lib.ListN.{length}
@@ -41,10 +40,9 @@ use Rattle.isdb_mmt.specs.declared.decoder.place.Found.the-variants.{At,
 use Rattle.isdb_mmt.proofs.Guards.{was-both}
 use Rattle.isdb_mmt.proofs.Names.{true-not-false}
 use Rattle.isdb_mmt.proofs.PlacesFor.{none-some}
-use Rattle.isdb_mmt.proofs.MessageLeaves.{control-names}
+use Rattle.isdb_mmt.proofs.MessageLeaves.{control-names, in-table}
 use Rattle.isdb_mmt.proofs.Said.{controlAtPlace, keptEntry, control-found, section-found}
 use Rattle.isdb_mmt.proofs.Readings.{names-told}
-use Rattle.isdb_mmt.proofs.Limits.{passed}
 use Rattle.isdb_mmt.proofs.Checks.{sound-session, place-was, section-was, control-was}
 use Rattle.isdb_mmt.proofs.KeptParts.{found-in-use}
 
@@ -81,13 +79,6 @@ module _ (s : Session) (ok : sound s ≡ true) where
         inside = rw ok (stays-inside parses (s .tables) o w);
       }
 
-  -- an area lies within the tables
-  area-in : (i n : ℕ) → i < l .sections + l .«control_ids» + 2 → n ≤ l .«table_area» → i * l .«table_area» + n ≤ length (s .tables)
-  area-in i n h b =
-      let p = passed l (lengthsOf s) (facts .limits) in
-      let q : (i + 1) * l .«table_area» ≤ (l .sections + l .«control_ids» + 2) * l .«table_area» = mul-le-mul-right (l .«table_area») (omega arith) in
-      omega (arith, p .tables)
-
   -- ---- a section
   module _ (k : ℕ) where
     section-of : (r : Found) → bytesIn (s .tables) (sectionPart s r) ≡ sectionBytes (keptEntry s r)
@@ -103,7 +94,7 @@ module _ (s : Session) (ok : sound s ≡ true) where
     section-within (At i) e =
         let u : i < usedOf (s .state) .sections =
         found-in-use sectionSize (usedOf (s .state) .sections) sectionPlaces k (s .state) (foundFrom 0 (namesFrom (usedOf (s .state) .sections) sectionSize sectionPlaces (s .state)) k) refl i e in
-        area-in i (sectionAt (s .state) i .length) (omega (arith, facts .sections))
+        in-table s facts i (sectionAt (s .state) i .length) (omega (arith, facts .sections))
         (section-was l (sectionAt (s .state) i)
         (place-was (sectionSound l) sectionPlaceOf (usedOf (s .state) .sections) sectionSize sectionPlaces (s .state) i (facts .kept) u))
 
@@ -129,7 +120,7 @@ module _ (s : Session) (ok : sound s ≡ true) where
 
     place-within : (i : ℕ) → i < l .«control_ids» → (c : Control) → (c .mpt ≡ true → c .«mpt_length» ≤ l .«table_area») → Within (s .tables) (mptAt l i c)
     place-within i h c f =
-        either (c .mpt) (λ t. rw t (area-in (l .sections + i) (c .«mpt_length») (omega arith) (f t))) (λ n. rw n tt)
+        either (c .mpt) (λ t. rw t (in-table s facts (l .sections + i) (c .«mpt_length») (omega arith) (f t))) (λ n. rw n tt)
 
     mpt-within : (r : Found) → controlFound s id ≡ r → Within (s .tables) (mptPart s r)
     unfolding controlFound controlsIn
@@ -153,7 +144,7 @@ module _ (s : Session) (ok : sound s ≡ true) where
   given-part false p = refl
 
   given-within : (t : Bool) (i n : ℕ) → i < l .sections + l .«control_ids» + 2 → (t ≡ true → n ≤ l .«table_area») → Within (s .tables) (given t (areaPart l i n))
-  given-within true i n h f = area-in i n h (f refl)
+  given-within true i n h f = in-table s facts i n h (f refl)
   given-within false i n h f = tt
 
   pub plt-read : Reads (s .tables) (pltRead s) (λ b. pltParses (pltOf b)) (view s .store .plt)

@@ -5,7 +5,6 @@ use mathlib.Core.Bool.{Bool, true, false, not}
 use mathlib.Core.Option.{Option, some}
 use mathlib.Core.List.{List, _++_, map}
 use native.Mathlib.Omega.{arith}
-use native.Mathlib.Nat.{mul-le-mul-right}
 use lib.Dec.{ltb}
 use lib.ListN.{length, getD, take, drop, length-take, length-drop, length-append}
 use mir.Syntax.{w8}
@@ -48,7 +47,7 @@ use Rattle.isdb_mmt.specs.declared.decoder.place.PlaceFor.the-variants.{
 use Rattle.isdb_mmt.specs.declared.decoder.walk.WalkState.{WalkState}
 use Rattle.isdb_mmt.proofs.Names.{true-not-false}
 use Rattle.isdb_mmt.proofs.Lent.{length-names}
-use Rattle.isdb_mmt.proofs.Limits.{Passed, passed}
+use Rattle.isdb_mmt.proofs.Limits.{Passed, passed, whole-area}
 use Rattle.isdb_mmt.proofs.Checks.{count-was, place-was, control-was}
 use Rattle.isdb_mmt.proofs.PlacesFor.{place-for-was-old}
 use Rattle.isdb_mmt.proofs.Fragments.{Does}
@@ -273,9 +272,7 @@ module _ (s : Session) (x : MessagePacket) (y : ReceivedFragment) (i k : ℕ) (i
   j = joinBy (isLast f) c m b
 
   message-room : (i + 1) * l .«message_area» ≤ length (s .messages)
-  message-room =
-      let q : (i + 1) * l .«message_area» ≤ l .«control_ids» * l .«message_area» = mul-le-mul-right (l .«message_area») (omega (arith, at .free)) in
-      omega (arith, met .messages)
+  message-room = whole-area i (l .«control_ids») (l .«message_area») (length (s .messages)) (at .free) (met .messages)
 
   pub whole-before : (z : Limits) → z ≡ l → (i + 1) * z .«message_area» ≤ length (s .messages)
   whole-before z e = rw e message-room
