@@ -25,7 +25,7 @@ use Rattle.isdb_mmt.specs.Pushes.Leaves.{withCounters, withTime, packetL
 use Rattle.isdb_mmt.specs.Pushes.Route.{routeOf, routed, timeIn, timeGiven}
 use Rattle.isdb_mmt.specs.Pushes.MediaPush.{MediaPushed}
 use Rattle.isdb_mmt.specs.Pushes.MediaCommit.{CanPushMedia}
-use Rattle.isdb_mmt.specs.Pushes.Push.{Fits, PacketPushed, QuietPushed, CanTakePacket}
+use Rattle.isdb_mmt.specs.Pushes.Push.{Fits, asksOf, PacketPushed, QuietPushed, CanTakePacket}
 use Rattle.isdb_mmt.specs.declared.maybe.MaybeU64.{MaybeU64}
 use Rattle.isdb_mmt.specs.declared.decoder.records.Answer.{Answer}
 use Rattle.isdb_mmt.specs.declared.decoder.route.Route.{Route}
@@ -38,21 +38,19 @@ use Rattle.isdb_mmt.proofs.Routes.{route-is}
 
 module _ (s : Session) (ok : Sound (s .state) (s .others) (lengthsOf s)) where
   -- no place, no area, no output
-  fits-ip : Fits s 0 0 ipError
-  unfolding needs pushed gives
-  fits-ip = record { media = omega (arith, ok .media); controls = omega (arith, ok .controls); sections = omega (arith, ok .sections); object = omega arith; message = omega arith; table = omega arith; records = omega arith; dataBytes = omega arith }
-
-  fits-non : Fits s 0 0 nonMmtp
-  unfolding needs pushed gives
-  fits-non = record { media = omega (arith, ok .media); controls = omega (arith, ok .controls); sections = omega (arith, ok .sections); object = omega arith; message = omega arith; table = omega arith; records = omega arith; dataBytes = omega arith }
-
   fits-other : Fits s 0 0 other
   unfolding needs pushed gives
-  fits-other = record { media = omega (arith, ok .media); controls = omega (arith, ok .controls); sections = omega (arith, ok .sections); object = omega arith; message = omega arith; table = omega arith; records = omega arith; dataBytes = omega arith }
-
-  fits-time : (t : Option ℕ) → Fits s 0 0 (ntp t)
-  unfolding needs pushed gives
-  fits-time t = record { media = omega (arith, ok .media); controls = omega (arith, ok .controls); sections = omega (arith, ok .sections); object = omega arith; message = omega arith; table = omega arith; records = omega arith; dataBytes = omega arith }
+  fits-other =
+      record {
+        media = omega (arith, ok .media);
+        controls = omega (arith, ok .controls);
+        sections = omega (arith, ok .sections);
+        object = omega arith;
+        message = omega arith;
+        table = omega arith;
+        records = omega arith;
+        dataBytes = omega arith;
+      }
 
   abbrev after : List ℕ → Session
   after l = lent l (s .others) (s .objects) (s .messages) (s .tables)
@@ -60,24 +58,26 @@ module _ (s : Session) (ok : Sound (s .state) (s .others) (lengthsOf s)) where
   abbrev counts : ℕ → ℕ → ℕ → List ℕ → List ℕ
   counts ip non time l = withCounters (packetCounted (countersOf (s .state)) ip non time) l
 
-  accepted : (p : Packet) → Fits s 0 0 p → (s′ : Session) → s′ ≡ packetLeaves s p → QuietPushed s p 0 s′
-  accepted p f s′ e = record { number = sym (asks-zero s 0 0 p f); same = λ n. absurd (n refl); session = λ z. e }
+  -- so with every packet that needs as little
+  accepted : (p : Packet) → needs (view s) p ≡ needs (view s) other → (s′ : Session) → s′ ≡ packetLeaves s p → QuietPushed s p 0 s′
+  unfolding asksOf
+  accepted p f s′ e = record { number = sym (rw f (asks-zero s 0 0 other fits-other)); same = λ n. absurd (n refl); session = λ z. e }
 
   pub quiet-ip : (l : List ℕ) → l ≡ counts 1 0 0 (s .state) → QuietPushed s ipError 0 (after l)
-  unfolding packetLeaves pushed view viewBy
-  quiet-ip l e = accepted ipError fits-ip (after l) (ap after e)
+  unfolding packetLeaves needs pushed gives view viewBy
+  quiet-ip l e = accepted ipError refl (after l) (ap after e)
 
   pub quiet-non : (l : List ℕ) → l ≡ counts 0 1 0 (s .state) → QuietPushed s nonMmtp 0 (after l)
-  unfolding packetLeaves pushed view viewBy
-  quiet-non l e = accepted nonMmtp fits-non (after l) (ap after e)
+  unfolding packetLeaves needs pushed gives view viewBy
+  quiet-non l e = accepted nonMmtp refl (after l) (ap after e)
 
   pub quiet-other : (l : List ℕ) → l ≡ counts 0 0 0 (s .state) → QuietPushed s other 0 (after l)
   unfolding packetLeaves pushed view viewBy
-  quiet-other l e = accepted other fits-other (after l) (ap after e)
+  quiet-other l e = accepted other refl (after l) (ap after e)
 
   pub quiet-time : (t : Option ℕ) (l : List ℕ) → l ≡ counts 0 0 1 (withTime t (s .state)) → QuietPushed s (ntp t) 0 (after l)
-  unfolding packetLeaves pushed view viewBy
-  quiet-time t l e = accepted (ntp t) (fits-time t) (after l) (ap after e)
+  unfolding packetLeaves needs pushed gives view viewBy
+  quiet-time t l e = accepted (ntp t) refl (after l) (ap after e)
 
 -- ---- a media packet
 
