@@ -10,10 +10,11 @@ use Rattle.isdb_mmt.specs.Decoder.Model.{packetCounted}
 use Rattle.isdb_mmt.specs.Memory.Layout.{timePlace, countersPlace}
 use Rattle.isdb_mmt.specs.Memory.Lent.{over}
 use Rattle.isdb_mmt.specs.Memory.Session.{Session, countersOf, countersFields, timeFields}
-use Rattle.isdb_mmt.specs.Memory.Check.{lengthsOf, Sound, packetCounts}
+use Rattle.isdb_mmt.specs.Memory.Check.{lengthsOf, Sound, packetCounts, tableCounts}
 use Rattle.isdb_mmt.specs.Pushes.Leaves.{withCounters, withTime}
 use Rattle.isdb_mmt.specs.Pushes.Route.{timeGiven}
 use Rattle.isdb_mmt.specs.Pushes.Counted.{Countable, StateCountable}
+use Rattle.isdb_mmt.specs.Pushes.Fragments.{CanCount}
 use Rattle.isdb_mmt.specs.declared.maybe.MaybeU64.{MaybeU64}
 use Rattle.isdb_mmt.specs.declared.maybe.MaybeU64.the-variants.{Some as someU64}
 use Rattle.isdb_mmt.specs.declared.decoder.counts.Counters.{Counters}
@@ -35,6 +36,16 @@ state-countable s ok ip non time a b c =
             oneNon = b;
             oneTime = c;
           };
+    }
+
+pub fragment-countable : (s : Session) → Sound (s .state) (s .others) (lengthsOf s) → CanCount (countersOf (s .state))
+fragment-countable s ok =
+    let cs = tableCounts (countersOf (s .state)) in
+    record {
+      packets = count-was (packetCounts (countersOf (s .state))) 0 (ok .packets);
+      «orphan_fragments» = count-was cs 4 (ok .tables);
+      oversize = count-was cs 5 (ok .tables);
+      malformed = count-was cs 6 (ok .tables);
     }
 
 -- the counters with another count of packets

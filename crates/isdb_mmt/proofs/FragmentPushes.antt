@@ -18,7 +18,7 @@ use Rattle.isdb_mmt.specs.Decoder.Packet.{messagePacket, Bytes, MessageP
 use Rattle.isdb_mmt.specs.Memory.Lent.{part, over, namesFrom, placeForName}
 use Rattle.isdb_mmt.specs.Memory.Layout.{usedPlace, latestPlace, countersPlace, controlPlaces, controlSize, mostControlIds, sectionPlaces, sectionSize}
 use Rattle.isdb_mmt.specs.Memory.Session.{Session, limitsOf, usedOf, usedFields, latestOf, latestFields, countersOf, countersFields, controlFields, controlAt}
-use Rattle.isdb_mmt.specs.Memory.Check.{PlacesThere, packetCounts, tableCounts, Sound, lengthsOf}
+use Rattle.isdb_mmt.specs.Memory.Check.{PlacesThere, Sound, lengthsOf}
 use Rattle.isdb_mmt.specs.Pushes.Leaves.{controlPlaceFor, usedFor, withControl, withSections, withLatest, withCounters, stateOfTables, bytesOver, keptOver, latestOver, messageIn, messageAt, messageLeaves, packetLeaves}
 use Rattle.isdb_mmt.specs.Pushes.Fragments.{laidBy, areaBy, fragmentCounted, CanCount, fragmentOutcome, completes, joinedBy, controlWith}
 use Rattle.isdb_mmt.specs.Pushes.FragmentPush.{blankPlace, placeIn, PlaceForThere, normalLatest, withMore, withReassembly, withCounts, placeNext, stateNext, CanStoreReassembly, CanJoinAt, JoinedAt, CanJoin, lengthIf, receivedFragment}
@@ -45,7 +45,7 @@ use Rattle.isdb_mmt.specs.declared.decoder.place.PlaceFor.the-variants.{
 use Rattle.isdb_mmt.specs.declared.decoder.messages.ReceivedFragment.{ReceivedFragment}
 use Rattle.isdb_mmt.proofs.Lent.{length-names, length-over, part-apart}
 use Rattle.isdb_mmt.proofs.Limits.{passed, whole-area}
-use Rattle.isdb_mmt.proofs.Checks.{count-was}
+use Rattle.isdb_mmt.proofs.Counting.{fragment-countable}
 use Rattle.isdb_mmt.proofs.PlacesFor.{place-for-was-old}
 use Rattle.isdb_mmt.proofs.Fragments.{Does, none-whole}
 use Rattle.isdb_mmt.proofs.Unchanged.{laid-same, given-length, is-there, sections-same, tables-same, latest-same}
@@ -354,13 +354,7 @@ module _ (s : Session) (x : MessagePacket) (y : ReceivedFragment) (h : CanJoin s
               place = omega (arith, a .free, r .ranges .controls);
               new = a .few;
               used = ok .there .controls;
-              counts =
-                  record {
-                    packets = count-was (packetCounts (countersOf (s .state))) 0 (ok .packets);
-                    «orphan_fragments» = count-was (tableCounts (countersOf (s .state))) 4 (ok .tables);
-                    oversize = count-was (tableCounts (countersOf (s .state))) 5 (ok .tables);
-                    malformed = count-was (tableCounts (countersOf (s .state))) 6 (ok .tables);
-                  };
+              counts = fragment-countable s ok;
             };
         short = h .short;
         area = r .ranges .message .1;

@@ -22,7 +22,7 @@ use Rattle.isdb_mmt.specs.Decoder.Model.{State, Control as ControlState,
 use Rattle.isdb_mmt.specs.Decoder.Needs.{needs, tablesNeed}
 use Rattle.isdb_mmt.specs.Memory.Lent.{part, over, namesFrom}
 use Rattle.isdb_mmt.specs.Memory.Session.{Session, limitsOf, usedOf, countersOf, controlPlaceOf, controlAt}
-use Rattle.isdb_mmt.specs.Memory.Check.{packetCounts, tableCounts, controlSound, controlsIn, lengthsOf, Sound}
+use Rattle.isdb_mmt.specs.Memory.Check.{tableCounts, controlSound, controlsIn, lengthsOf, Sound}
 use Rattle.isdb_mmt.specs.Memory.View.{given, view}
 use Rattle.isdb_mmt.specs.Memory.Opening.{lent}
 use Rattle.isdb_mmt.specs.Memory.PlacesOf.{tableLength, latestFor}
@@ -49,6 +49,7 @@ use Rattle.isdb_mmt.proofs.Names.{true-not-false}
 use Rattle.isdb_mmt.proofs.Lent.{length-names}
 use Rattle.isdb_mmt.proofs.Limits.{Passed, passed, whole-area}
 use Rattle.isdb_mmt.proofs.Checks.{count-was, place-was, control-was}
+use Rattle.isdb_mmt.proofs.Counting.{fragment-countable}
 use Rattle.isdb_mmt.proofs.PlacesFor.{place-for-was-old}
 use Rattle.isdb_mmt.proofs.Fragments.{Does}
 use Rattle.isdb_mmt.proofs.ControlPlaces.{Sits, sits-old, sits-new, does, own, mpt-before, counts-after, asks-message, leaves-parts, length-kept, no-place}
@@ -256,14 +257,7 @@ module _ (s : Session) (x : MessagePacket) (y : ReceivedFragment) (i k : ℕ) (i
       })
 
   pub whole-countable : (a : Counters) → a ≡ a₀ → CanCount a
-  whole-countable a e =
-      rw e
-      (record {
-        packets = count-was (packetCounts a₀) 0 (ok .packets);
-        «orphan_fragments» = count-was (tableCounts a₀) 4 (ok .tables);
-        oversize = count-was (tableCounts a₀) 5 (ok .tables);
-        malformed = count-was (tableCounts a₀) 6 (ok .tables);
-      })
+  whole-countable a e = rw e (fragment-countable s ok)
 
   abbrev m : Bytes
   m = heldIn (s .state) (s .messages) i c
