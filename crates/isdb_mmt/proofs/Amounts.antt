@@ -115,7 +115,7 @@ pub total-append : (xs ys : List Bytes) → total (xs ++ ys) ≡ total xs + tota
 total-append [] ys = omega arith
 total-append (x ∷ xs) ys = omega (arith, total-append xs ys)
 
-part-le : (s : Bytes) (p : Part) → length (partOf s p) ≤ p .length
+pub part-le : (s : Bytes) (p : Part) → length (partOf s p) ≤ p .length
 part-le s p = omega (arith, length-take (p .length) (drop (p .start) s))
 
 part-in : (s : Bytes) (p : Part) → length (partOf s p) ≤ length s

@@ -6,7 +6,7 @@ use mathlib.Core.Bool.{Bool, true, false}
 use mathlib.Core.List.{List, [], _∷_, _++_, map}
 use native.Mathlib.Omega.{arith}
 use native.Mathlib.Nat.{zero-add}
-use lib.ListN.{length, getD, drop, length-append, length-take}
+use lib.ListN.{length, getD, length-append}
 use mir.Syntax.{w8, w64}
 use mir.Val.{Fits}
 use borrow.Author.Tests.{ltb-false}
@@ -37,12 +37,10 @@ use Rattle.isdb_mmt.proofs.Places.{Lies}
 use Rattle.isdb_mmt.proofs.AggregatedMessages.{width-ge, aggregated-lies, aggregated-at, table-lies, tables-at}
 use Rattle.isdb_mmt.proofs.TableOutcomes.{length-index}
 use Rattle.isdb_mmt.proofs.Breaks.{small-told}
+use Rattle.isdb_mmt.proofs.Amounts.{part-le}
 use Rattle.isdb_mmt.proofs.Joined.{pieces, both-fit}
 use Rattle.isdb_mmt.proofs.Walking.{none-walked, cut-walked, one-walked, walked-more, Goes, goes-start, in-sequence, goes-end, goes-cut}
 use Rattle.isdb_mmt.proofs.Applied.{room-more}
-
-part-short : (m : Bytes) (p : Part) → length (partOf m p) ≤ p .length
-part-short m p = omega (arith, length-take (p .length) (drop (p .start) m))
 
 part-fits : (m : Bytes) → ((i : ℕ) → Fits w8 (getD m i 0)) → (n : ℕ) → be 2 m n ≤ 65535
 part-fits m h n = omega (arith, be-lt m h 2 n)
@@ -60,13 +58,13 @@ module _ (ix log others : List ℕ) (g : WalkState) (a b : Bytes) (p : Part) (fr
         record {
           few = can .copies .used;
           indexLong = can .copies .indexLong;
-          short = omega (arith, part-short (a ++ b) p, can .few);
+          short = omega (arith, part-le (a ++ b) p, can .few);
         }
 
     module _ (t : TableOutcome) (et : t ≡ tableOutcome (indexOf (g .used) ix) (g .mpt) (g .plt) (tableRead (x ++ y))) where
       pub table-apply : CanApply ix log others g t
       table-apply =
-          let l : length (x ++ y) ≤ mostMessageArea = rw whole (omega (arith, part-short (a ++ b) p, can .few)) in
+          let l : length (x ++ y) ≤ mostMessageArea = rw whole (omega (arith, part-le (a ++ b) p, can .few)) in
           record {
             copies = can .copies;
             room = can .room;
@@ -255,14 +253,14 @@ module _ (ix log others : List ℕ) (g : WalkState) (a b : Bytes) (from : ℕ) (
           record {
             copies = can .copies;
             room = can .room;
-            short = rw body-whole (omega (arith, part-short m body, body-in, can .short));
+            short = rw body-whole (omega (arith, part-le m body, body-in, can .short));
           }
 
       pub message-body : (r : WalkState) (ix′ log′ others′ : List ℕ)
           → Walked tableRead ix log others g (inBody (x ++ y) (from + body .start) first) (length (x ++ y) + 1) (tablesFrom (x ++ y) first .malformed) r ix′ log′ others′
           → Walked tableRead ix log others g (placedOf from m) (length m + 1) (tablesOf m .malformed) r ix′ log′ others′
       message-body r ix′ log′ others′ w =
-          as-placed (Tables body first) e (length (x ++ y) + 1) (rw body-whole (omega (arith, part-short m body, body-in))) r ix′ log′ others′
+          as-placed (Tables body first) e (length (x ++ y) + 1) (rw body-whole (omega (arith, part-le m body, body-in))) r ix′ log′ others′
           (subst (λ (z : Bytes). Walked tableRead ix log others g (inBody z (from + body .start) first) (length (x ++ y) + 1) (tablesFrom z first .malformed) r ix′ log′ others′)
           body-whole w)
 
@@ -351,7 +349,7 @@ module _ (ix₀ log₀ others₀ : List ℕ) (g₀ : WalkState) (a b : Bytes) (l
             record {
               copies = go .goes .copies;
               room = messages-room;
-              short = rw aggregated-whole (omega (arith, part-short all q, aggregated-in .within, aggregated-in .ends, go .can .short));
+              short = rw aggregated-whole (omega (arith, part-le all q, aggregated-in .within, aggregated-in .ends, go .can .short));
             }
 
         pub messages-on : (r : WalkState) (ix′ log′ others′ : List ℕ)
@@ -362,7 +360,7 @@ module _ (ix₀ log₀ others₀ : List ℕ) (g₀ : WalkState) (a b : Bytes) (l
         messages-on r ix′ log′ others′ w li ll lo =
             let w′ : Walked tableRead ix log others g (placedOf (q .start) (partOf all q)) (length (x ++ y) + 1) (tablesOf (partOf all q) .malformed) r ix′ log′ others′ =
             subst (λ (z : Bytes). Walked tableRead ix log others g (placedOf (q .start) z) (length (x ++ y) + 1) (tablesOf z .malformed) r ix′ log′ others′) aggregated-whole w in
-            let n : length (x ++ y) ≤ q .length = rw aggregated-whole (part-short all q) in
+            let n : length (x ++ y) ≤ q .length = rw aggregated-whole (part-le all q) in
             record {
               goes =
                   in-sequence tableRead ix₀ log₀ others₀ g₀ (placedFrom all long 0) (malformedFrom all long 0) ix log others g (placedFrom all long p)
