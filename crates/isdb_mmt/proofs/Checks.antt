@@ -334,7 +334,7 @@ module _ (s others : List ℕ) (lent : Lengths) where
         }
 
 -- a length that fits where there is something, and two of them
-was-there : (a : Bool) (n area : ℕ) → lengthFits a n area ≡ true → a ≡ true → n ≤ area
+pub was-there : (a : Bool) (n area : ℕ) → lengthFits a n area ≡ true → a ≡ true → n ≤ area
 was-there true n area e t = leb-true n area e
 was-there false n area e t = true-not-false false t refl
 

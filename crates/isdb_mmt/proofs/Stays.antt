@@ -27,7 +27,7 @@ use Rattle.isdb_mmt.proofs.Names.{true-not-false}
 use Rattle.isdb_mmt.proofs.Lent.{length-part, names-of, length-places}
 use Rattle.isdb_mmt.proofs.Views.{keys, keys-indexed}
 use Rattle.isdb_mmt.proofs.Limits.{passed, in-buffer}
-use Rattle.isdb_mmt.proofs.Checks.{media-is, control-is, is-sound}
+use Rattle.isdb_mmt.proofs.Checks.{media-is, control-is, is-sound, was-there}
 use Rattle.isdb_mmt.proofs.Guards.{was-both}
 use Rattle.isdb_mmt.proofs.Every.{Every}
 use Rattle.isdb_mmt.proofs.Fits.{AssetFits}
@@ -254,10 +254,6 @@ stays-sound s n big a e h w =
 
 -- ---- a session that passes question 5 has what it says: nothing is to be shown of places that a push leaves
 
-fits-was : (b : Bool) (n area : ℕ) → lengthFits b n area ≡ true → b ≡ true → n ≤ area
-fits-was true n area e t = leb-true n area e
-fits-was false n area e t = true-not-false false t refl
-
 placed-all : {A : Type 0} (f : A → Bool) (E : ℕ → A → Type 0) (most : ℕ) → ((i : ℕ) (x : A) → i < most → f x ≡ true → E i x)
     → (xs : List A) (k : ℕ) → k + length xs ≤ most → every f xs ≡ true → Placed E k xs
 unfolding every
@@ -278,13 +274,13 @@ exact-was s q =
     record {
       media =
           placed-all (mediaSound l) (mediaThere l s) (l .«media_ids»)
-          (λ i m b f t. in-buffer i (m .object .length) (l .«mfu_area») (length (s .objects)) (l .«media_ids») (fits-was (m .held) _ _ (was-both _ _ f .0) t) b (p .objects))
+          (λ i m b f t. in-buffer i (m .object .length) (l .«mfu_area») (length (s .objects)) (l .«media_ids») (was-there (m .held) _ _ (was-both _ _ f .0) t) b (p .objects))
           (mediaIn (s .state)) 0 (omega (arith, m1, q .media)) (q .objects);
       controls =
           placed-all (controlSound l) (controlThere l s) (l .«control_ids»)
           (λ i c b f. (
-            (λ t. in-buffer i (c .length) (l .«message_area») (length (s .messages)) (l .«control_ids») (fits-was (c .joining) _ _ (was-both _ _ f .0) t) b (p .messages)),
-            (λ t. in-buffer (l .sections + i) (c .«mpt_length») (l .«table_area») (length (s .tables)) (l .sections + l .«control_ids» + 2) (fits-was (c .mpt) _ _ (was-both (lengthFits (c .joining) (c .length) (l .«message_area»)) _ f .1) t) (omega arith) (p .tables)),
+            (λ t. in-buffer i (c .length) (l .«message_area») (length (s .messages)) (l .«control_ids») (was-there (c .joining) _ _ (was-both _ _ f .0) t) b (p .messages)),
+            (λ t. in-buffer (l .sections + i) (c .«mpt_length») (l .«table_area») (length (s .tables)) (l .sections + l .«control_ids» + 2) (was-there (c .mpt) _ _ (was-both (lengthFits (c .joining) (c .length) (l .«message_area»)) _ f .1) t) (omega arith) (p .tables)),
           ))
           (controlsIn (s .state)) 0 (omega (arith, m2, q .controls)) (q .messages);
       sections =
