@@ -55,11 +55,6 @@ use Rattle.isdb_mmt.proofs.TableOutcomes.{found-within}
 
 -- ---- the calls: a place and its place
 
-pub place-for-there : (l : List ℕ) (u : Used) → PlacesThere l → u ≡ usedOf l → controlPlaces + u .«control_ids» * controlSize ≤ length l
-place-for-there l u h e =
-    let k : u .«control_ids» ≡ usedOf l .«control_ids» = ap (λ (y : Used). y .«control_ids») e in
-    omega (arith, h .long, h .controls)
-
 pub place-for-is : (l : List ℕ) (x : Limits) (u : Used) (id : ℕ) (r : PlaceFor) → x ≡ limitsOf l → u ≡ usedOf l
     → r ≡ placeForName (namesFrom (u .«control_ids») controlSize controlPlaces l) (x .«control_ids») id → r ≡ controlPlaceFor l id
 unfolding controlPlaceFor

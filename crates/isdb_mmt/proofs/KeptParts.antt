@@ -1,5 +1,5 @@
 -- Where kept tables lie, and whether they parse: one law for each return. Assumes nothing.
-use Prim.Native.Nat.{ℕ, _+_, _*_, _/_, _≤_, _<_}
+use Prim.Native.Nat.{ℕ, _+_, _*_, _/_, _<_}
 use mathlib.Core.Path.{_≡_, refl, sym, ap, _∙_}
 use mathlib.Core.Bool.{Bool, true, false, not}
 use mathlib.Core.Option.{Option, some}
@@ -115,12 +115,6 @@ found-in-use size n at x l f ef i e =
     omega (arith, found-within 0 (namesFrom n size at l) x i (sym ef ∙ e), length-names size n at l)
 
 module _ (s : Bytes) (can : Reachable s) (u : Used) (eu : u ≡ usedOf s) where
-  pub sections-in : sectionPlaces + u .sections * sectionSize ≤ length s
-  sections-in = rw eu (omega (arith, can .there .long, can .there .sections))
-
-  pub controls-in : controlPlaces + u .«control_ids» * controlSize ≤ length s
-  controls-in = rw eu (omega (arith, can .there .long, can .there .controls))
-
   -- ---- a section
   module _ (key : ℕ) (f : Found) (ef : f ≡ foundFrom 0 (namesFrom (u .sections) sectionSize sectionPlaces s) key) where
     by-key : sectionFound (stateOnly s) key ≡ f

@@ -4,7 +4,6 @@ use mathlib.Core.Path.{_≡_, refl, sym, ap, _∙_}
 use mathlib.Core.Bool.{Bool, true, false, not}
 use mathlib.Core.List.{List, [], _∷_}
 use native.Mathlib.Omega.{arith}
-use native.Mathlib.Nat.{mul-le-mul-right}
 use lib.Dec.{eqb}
 use lib.ListN.{length}
 use Rattle.isdb_tlv.specs.Guards.{if_then_else_}
@@ -12,8 +11,8 @@ use Rattle.isdb_tlv.proofs.Guards.{either}
 use mir.Syntax.{w64}
 use mir.Val.{Fits}
 use Rattle.isdb_mmt.specs.Memory.Lent.{namesFrom, foundFrom}
-use Rattle.isdb_mmt.specs.Memory.Layout.{mostMediaIds, mostControlIds, mostSections, mostMfuArea, mediaPlaces, mediaSize, controlPlaces, controlSize, sectionPlaces, sectionSize}
-use Rattle.isdb_mmt.specs.Memory.Session.{Session, limitsOf, usedOf}
+use Rattle.isdb_mmt.specs.Memory.Layout.{mostMediaIds, mostMfuArea}
+use Rattle.isdb_mmt.specs.Memory.Session.{Session, limitsOf}
 use Rattle.isdb_mmt.specs.Memory.Check.{lengthsOf, sound, PlacesThere}
 use Rattle.isdb_mmt.specs.Memory.View.{itemGiven}
 use Rattle.isdb_mmt.specs.Answers.Readings.{mediaNames, controlNames, mediaFound, controlFound, u32If, mediaRead, heldRead, controlRead}
@@ -21,7 +20,6 @@ use Rattle.isdb_mmt.specs.declared.decoder.limits.Limits.{Limits}
 use Rattle.isdb_mmt.specs.declared.decoder.readings.MediaReading.the-variants.{Nothing as noMedia}
 use Rattle.isdb_mmt.specs.declared.decoder.readings.HeldReading.the-variants.{NoId}
 use Rattle.isdb_mmt.specs.declared.decoder.readings.ControlReading.the-variants.{Nothing as noControl}
-use Rattle.isdb_mmt.specs.declared.decoder.head.Used.{Used}
 use Rattle.isdb_mmt.specs.declared.decoder.place.Found.{Found}
 use Rattle.isdb_mmt.specs.declared.decoder.place.Found.the-variants.{At, Nothing}
 use Rattle.isdb_mmt.proofs.Lent.{length-names}
@@ -69,27 +67,6 @@ module _ (s : Session) (ready : Bool) (e : ready ≡ sound s) where
       pub control-none : f ≡ foundFrom 0 (controlNames s) id → noControl ≡ controlRead s id
       unfolding controlRead controlFound
       control-none ef = asked-yes _ _ _ (rw (← ef, z))
-
--- ---- the places of names
-
-module _ (l : List ℕ) (k : PlacesThere l) (u : Used) (e : u ≡ usedOf l) where
-  pub media-within : mediaPlaces + u .«media_ids» * mediaSize ≤ length l
-  media-within =
-      let h : u .«media_ids» ≤ mostMediaIds = rw e (k .media) in
-      let z : u .«media_ids» * mediaSize ≤ mostMediaIds * mediaSize = mul-le-mul-right mediaSize h in
-      omega (arith, k .long)
-
-  pub controls-within : controlPlaces + u .«control_ids» * controlSize ≤ length l
-  controls-within =
-      let h : u .«control_ids» ≤ mostControlIds = rw e (k .controls) in
-      let z : u .«control_ids» * controlSize ≤ mostControlIds * controlSize = mul-le-mul-right controlSize h in
-      omega (arith, k .long)
-
-  pub sections-within : sectionPlaces + u .sections * sectionSize ≤ length l
-  sections-within =
-      let h : u .sections ≤ mostSections = rw e (k .sections) in
-      let z : u .sections * sectionSize ≤ mostSections * sectionSize = mul-le-mul-right sectionSize h in
-      omega (arith, k .long)
 
 -- ---- areas
 

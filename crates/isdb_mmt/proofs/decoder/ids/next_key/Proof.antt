@@ -1,4 +1,5 @@
-use Rattle.isdb_mmt.proofs.ReadSteps.{asked-no, asked-yes, places-there, sections-within}
+use Rattle.isdb_mmt.proofs.ReadSteps.{asked-no, asked-yes, places-there}
+use Rattle.isdb_mmt.proofs.Checks.{sections-within}
 use Rattle.isdb_mmt.specs.Answers.Readings.{nextKeyRead}
 use mathlib.Core.Path.{refl}
 use borrow.Author.Needs.{needs}
@@ -10,7 +11,7 @@ unfolding nextKeyRead
 returns c = asked-no _ _ (c .before .is-session .ensures) _ _ (c .if1 .taken)
 
 least-requires : tie.Need-least-requires
-least-requires c κs = sections-within _ (places-there _ _ (c .before .before .before .is-session .ensures) (c .before .before .if1 .left)) _ (c .before .load-used .ensures)
+least-requires c κs = sections-within _ _ (c .before .load-used .ensures) (places-there _ _ (c .before .before .before .is-session .ensures) (c .before .before .if1 .left))
 
 returns-2 : tie.Need-returns-2
 unfolding nextKeyRead

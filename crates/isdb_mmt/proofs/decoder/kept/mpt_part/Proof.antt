@@ -1,10 +1,11 @@
-use Rattle.isdb_mmt.proofs.KeptParts.{controls-in, mpt-in-use, mpt-none, mpt-some}
+use Rattle.isdb_mmt.proofs.KeptParts.{mpt-in-use, mpt-none, mpt-some}
+use Rattle.isdb_mmt.proofs.Checks.{controls-within}
 use borrow.Author.Needs.{needs}
 use Rattle.isdb_mmt.proofs.decoder.kept.mpt_part.Statement.{statement}
 use Rattle.isdb_mmt.proofs.decoder.kept.mpt_part.Tie as tie
 
 find-requires : tie.Need-find-requires
-find-requires c κs = search (needs, controls-in)
+find-requires c κs = search (needs, controls-within)
 
 mpt-part-at-requires : tie.Need-mpt-part-at-requires
 mpt-part-at-requires c κs = search (needs, mpt-in-use)

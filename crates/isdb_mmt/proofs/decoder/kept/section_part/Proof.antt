@@ -1,10 +1,11 @@
-use Rattle.isdb_mmt.proofs.KeptParts.{sections-in, section-in-use, section-area, section-none, section-some}
+use Rattle.isdb_mmt.proofs.KeptParts.{section-in-use, section-area, section-none, section-some}
+use Rattle.isdb_mmt.proofs.Checks.{sections-within}
 use borrow.Author.Needs.{needs}
 use Rattle.isdb_mmt.proofs.decoder.kept.section_part.Statement.{statement}
 use Rattle.isdb_mmt.proofs.decoder.kept.section_part.Tie as tie
 
 find-requires : tie.Need-find-requires
-find-requires c κs = search (needs, sections-in)
+find-requires c κs = search (needs, sections-within)
 
 load-section-requires : tie.Need-load-section-requires
 load-section-requires c κs = search (needs, section-in-use)
