@@ -1,9 +1,9 @@
 -- The place of a control id: what is known of it before a message packet, and after any. Assumes nothing.
-use Prim.Native.Nat.{ℕ, zero, suc, _+_, _-_, _*_, _≤_, _<_}
+use Prim.Native.Nat.{ℕ, _+_, _-_, _*_, _≤_, _<_}
 use mathlib.Core.Path.{_≡_, refl, sym, ap, subst, _∙_}
 use mathlib.Core.Bool.{true, false}
-use mathlib.Core.List.{List, [], _∷_, map}
-use native.Mathlib.Nat.{add-zero, mul-zero, mul-suc}
+use mathlib.Core.List.{List, [], _∷_}
+use native.Mathlib.Nat.{add-zero}
 use native.Mathlib.Omega.{arith}
 use lib.ListN.{length, getD, length-set, length-append, length-map}
 use Rattle.isdb_tlv.specs.Guards.{if_then_else_, _<?_}
@@ -40,22 +40,13 @@ use Rattle.isdb_mmt.proofs.Limits.{passed, in-buffer}
 use Rattle.isdb_mmt.proofs.Checks.{control-was, place-was}
 use Rattle.isdb_mmt.proofs.Counting.{counted-alone}
 use Rattle.isdb_mmt.proofs.Views.{keys, FoundAt, found-at, absent}
-use Rattle.isdb_mmt.proofs.PlacesFor.{place-for-was-old, place-for-was-new, length-indexed, getD-indexed, length-media, place-for-was-full}
+use Rattle.isdb_mmt.proofs.PlacesFor.{getD-places, place-for-was-old, place-for-was-new, length-indexed, getD-indexed, length-media, place-for-was-full}
 use Rattle.isdb_mmt.proofs.MessageLeaves.{controlEntries, control-names, length-controls}
 use Rattle.isdb_mmt.proofs.Maps.{find-put}
 use Rattle.isdb_mmt.proofs.Fragments.{Does, outcome-does}
 use Rattle.isdb_mmt.proofs.Quiet.{asks-none, asks-kept}
 
 -- ---- the place before the packet, and what is known of its id
-
-pub getD-places : {A : Type 0} (f : List ℕ → A) (size : ℕ) (d : A) (l : List ℕ) (n i at : ℕ) → i < n
-    → getD (map f (placesFrom n size at l)) i d ≡ f (part (at + size * i) size l)
-unfolding placesFrom
-getD-places f size d l zero i at h = absurd (omega arith)
-getD-places f size d l (suc n) zero at h = let z : at + size * 0 ≡ at = omega (arith, mul-zero size) in rw z
-getD-places f size d l (suc n) (suc i) at h =
-    let z : at + size * suc i ≡ at + size + size * i = rw mul-suc (omega arith) in
-    rw z (getD-places f size d l n i (at + size) (omega arith))
 
 -- the place `i` is the id's; `k` is 1 where it is a new one
 pub record Sits (s : Session) (id i k : ℕ) (c : Control) : Type 0 where

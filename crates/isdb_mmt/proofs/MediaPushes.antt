@@ -1,10 +1,10 @@
 -- A media packet pushed: its place is the model's asset, its answer the first question of 8 to 10 that is answered no, and an accepted
 -- one leaves and gives out what the model does. Assumes nothing.
-use Prim.Native.Nat.{ℕ, zero, suc, _+_, _-_, _*_, _≤_, _<_}
+use Prim.Native.Nat.{ℕ, suc, _+_, _-_, _*_, _≤_, _<_}
 use mathlib.Core.Path.{_≡_, refl, sym, ap, _∙_, subst}
 use mathlib.Core.Bool.{Bool, true, false, cond}
-use mathlib.Core.List.{List, map}
-use native.Mathlib.Nat.{add-zero, mul-zero, mul-suc, mul-le-mul}
+use mathlib.Core.List.{List}
+use native.Mathlib.Nat.{add-zero, mul-le-mul}
 use native.Mathlib.Omega.{arith}
 use mir.Val.{Fits}
 use mir.Syntax.{w64}
@@ -20,7 +20,7 @@ use Rattle.isdb_mmt.specs.Decoder.Objects.{Asset, Rec, fresh, afterHeade
 use Rattle.isdb_mmt.specs.Decoder.Model.{assetOf, gives}
 use Rattle.isdb_mmt.specs.Decoder.Needs.{dataOf, needs}
 use Rattle.isdb_mmt.specs.Memory.Layout.{mostCount, mostMediaIds, mostMfuArea, mediaPlaces, mediaSize}
-use Rattle.isdb_mmt.specs.Memory.Lent.{part, over, placesFrom, namesFrom, foundFrom, every}
+use Rattle.isdb_mmt.specs.Memory.Lent.{part, over, namesFrom, foundFrom, every}
 use Rattle.isdb_mmt.specs.Memory.Session.{Session, limitsOf, usedOf, countersOf, mediaPlaceOf, mediaAt}
 use Rattle.isdb_mmt.specs.Memory.Check.{mediaIn, mediaSound, countFits, statsCounts, packetCounts, lengthsOf, Sound}
 use Rattle.isdb_mmt.specs.Memory.View.{assetOfPlace, assetEntry, viewBy, view}
@@ -45,7 +45,7 @@ use Rattle.isdb_mmt.proofs.Views.{keys, FoundAt, found-at, absent}
 use Rattle.isdb_mmt.proofs.Limits.{passed, areas-fit, whole-area}
 use Rattle.isdb_mmt.proofs.Checks.{media-was, place-was, count-was}
 use Rattle.isdb_mmt.proofs.Storable.{stats-of}
-use Rattle.isdb_mmt.proofs.PlacesFor.{entries, entry-names, place-for-was-old, place-for-was-new, place-for-was-full, length-media, length-indexed, getD-indexed}
+use Rattle.isdb_mmt.proofs.PlacesFor.{getD-places, entries, entry-names, place-for-was-old, place-for-was-new, place-for-was-full, length-media, length-indexed, getD-indexed}
 use Rattle.isdb_mmt.proofs.EffectsModelled.{Told}
 use Rattle.isdb_mmt.proofs.Placed.{start-zero}
 use Rattle.isdb_mmt.proofs.MediaOutcomes.{outcome-small, outcome-is, place-is}
@@ -76,15 +76,6 @@ module _ (l : Limits) (place-for : PlaceFor) (p : Media) (r : MediaOutcome) (h :
       (can .modest, (omega (arith, s .records), omega (arith, s .drops)))
 
 -- ---- the place and the model's asset
-
-place-at : {A : Type 0} (f : List ℕ → A) (n size at : ℕ) (l : List ℕ) (i : ℕ) (d : A) → i < n
-    → getD (map f (placesFrom n size at l)) i d ≡ f (part (at + size * i) size l)
-unfolding placesFrom
-place-at f zero size at l i d h = absurd (omega arith)
-place-at f (suc n) size at l zero d h = let z : at + size * 0 ≡ at = rw mul-zero (add-zero at) in rw z
-place-at f (suc n) size at l (suc i) d h =
-    let z : at + size * suc i ≡ at + size + size * i = rw mul-suc (omega arith) in
-    rw z (place-at f n size (at + size) l i d (omega arith))
 
 pub modest-was : (s : AssetStats) → every countFits (statsCounts s) ≡ true → StatsWithin mostCount s
 modest-was s e = stats-of mostCount s (λ i. count-was (statsCounts s) i e)
@@ -145,7 +136,7 @@ module _ (s : Session) (ok : Sound (s .state) (s .others) (lengthsOf s)) (id : �
       let y : 0 + i ≡ i = omega arith in
       let g : getD (entries s) i (0, fresh) ≡ assetEntry l s i (mediaAt st i) =
       (rw y at (getD-indexed (assetEntry l s) (mediaIn st) 0 i blank (0, fresh) (omega (arith, b, length-media st))))
-      ∙ ap (assetEntry l s i) (place-at mediaPlaceOf (usedOf st .«media_ids») mediaSize mediaPlaces st i blank b) in
+      ∙ ap (assetEntry l s i) (getD-places mediaPlaceOf mediaSize blank st (usedOf st .«media_ids») i mediaPlaces b) in
       record {
         is = ap (orElse fresh) (w .found fresh) ∙ ap (λ (x : ℕ × Asset). x .1) g;
         held = q .0;

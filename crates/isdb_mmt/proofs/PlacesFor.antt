@@ -1,10 +1,10 @@
 -- Seats as they were found, the entries of places one by one, and those of media ids. Assumes nothing.
-use Prim.Native.Nat.{ℕ, zero, suc, _+_, _≤_, _<_}
+use Prim.Native.Nat.{ℕ, zero, suc, _+_, _*_, _≤_, _<_}
 use mathlib.Core.Path.{_≡_, refl, sym, ap, _∙_}
 use mathlib.Core.Bool.{Bool, true, false}
 use mathlib.Core.Option.{none, some}
 use mathlib.Core.List.{List, [], _∷_, map}
-use native.Mathlib.Nat.{add-zero}
+use native.Mathlib.Nat.{add-zero, mul-zero, mul-suc}
 use native.Mathlib.Omega.{arith}
 use lib.Dec.{ltb}
 use lib.ListN.{length, getD, set, length-map}
@@ -12,7 +12,7 @@ use borrow.Author.Tests.{ltb-true, ltb-false}
 use Rattle.isdb_tlv.specs.Bytes.{be}
 use Rattle.isdb_tlv.proofs.Guards.{either}
 use Rattle.isdb_mmt.specs.Decoder.Objects.{Asset}
-use Rattle.isdb_mmt.specs.Memory.Lent.{placesFrom, namesFrom, foundFrom, placeForFound, placeForName, every, indexed}
+use Rattle.isdb_mmt.specs.Memory.Lent.{part, placesFrom, namesFrom, foundFrom, placeForFound, placeForName, every, indexed}
 use Rattle.isdb_mmt.specs.Memory.Layout.{mediaPlaces, mediaSize}
 use Rattle.isdb_mmt.specs.Memory.Session.{Session, limitsOf, usedOf, mediaPlaceOf}
 use Rattle.isdb_mmt.specs.Memory.Check.{mediaIn}
@@ -92,6 +92,15 @@ every-at f d [] j e h = absurd (omega arith)
 every-at f d (x ∷ xs) zero e h = either (f x) (λ t. t) (λ t. true-not-false false (rw t at e) refl)
 every-at f d (x ∷ xs) (suc j) e h =
     either (f x) (λ t. every-at f d xs j (rw t at e) (omega arith)) (λ t. true-not-false false (rw t at e) refl)
+
+pub getD-places : {A : Type 0} (f : List ℕ → A) (size : ℕ) (d : A) (l : List ℕ) (n i at : ℕ) → i < n
+    → getD (map f (placesFrom n size at l)) i d ≡ f (part (at + size * i) size l)
+unfolding placesFrom
+getD-places f size d l zero i at h = absurd (omega arith)
+getD-places f size d l (suc n) zero at h = let z : at + size * 0 ≡ at = omega (arith, mul-zero size) in rw z
+getD-places f size d l (suc n) (suc i) at h =
+    let z : at + size * suc i ≡ at + size + size * i = rw mul-suc (omega arith) in
+    rw z (getD-places f size d l n i (at + size) (omega arith))
 
 pub getD-indexed : {A B : Type 0} (g : ℕ → A → B) (xs : List A) (k i : ℕ) (d : A) (e : B) → i < length xs → getD (indexed g k xs) i e ≡ g (k + i) (getD xs i d)
 unfolding indexed
