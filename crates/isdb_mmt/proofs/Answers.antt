@@ -15,7 +15,7 @@ use Rattle.isdb_mmt.specs.Memory.Layout.{mostMediaIds, countersPlace, me
 use Rattle.isdb_mmt.specs.Memory.Lent.{over}
 use Rattle.isdb_mmt.specs.Memory.Session.{usedOf, countersOf, mediaFields, mediaAt}
 use Rattle.isdb_mmt.specs.Pushes.MediaPush.{oneMore, withUsed, withPackets}
-use Rattle.isdb_mmt.specs.Pushes.MediaCommit.{CanTakePlace, blank, placeIn, indexOf, passesOn, fitsNumber, numberOf, refused, accepted, answerBy, answerOf, Small, stateAfter, CanStore}
+use Rattle.isdb_mmt.specs.Pushes.MediaCommit.{blank, placeIn, indexOf, passesOn, fitsNumber, numberOf, refused, accepted, answerBy, answerOf, Small, stateAfter, CanStore}
 use Rattle.isdb_mmt.specs.declared.decoder.place.PlaceFor.{PlaceFor}
 use Rattle.isdb_mmt.specs.declared.decoder.place.PlaceFor.the-variants.{Own, Free, NoneFree}
 use Rattle.isdb_mmt.specs.declared.decoder.head.Used.{Used}
@@ -27,11 +27,6 @@ use Rattle.isdb_mmt.specs.declared.decoder.records.Answer.{Answer}
 use Rattle.isdb_mmt.proofs.Maps.{one-le}
 
 -- ---- the place
-
-pub places-for-there : (s : List ℕ) (l : Limits) (u : Used) → CanTakePlace s l → u ≡ usedOf s → mediaPlaces + u .«media_ids» * mediaSize ≤ length s
-places-for-there s l u h e =
-    let k : u .«media_ids» ≡ usedOf s .«media_ids» = ap (λ (x : Used). x .«media_ids») e in
-    omega (arith, k, h .there .long, h .there .media)
 
 module _ (place-for : PlaceFor) (i : ℕ) where
   pub old-low : place-for ≡ Own i → indexOf place-for < mostMediaIds → i < mostMediaIds

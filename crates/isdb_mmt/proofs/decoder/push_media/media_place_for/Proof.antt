@@ -1,12 +1,12 @@
 use Rattle.isdb_mmt.specs.Pushes.MediaPush.{mediaPlaceFor}
 use mathlib.Core.Path.{refl}
-use Rattle.isdb_mmt.proofs.Answers.{places-for-there}
+use Rattle.isdb_mmt.proofs.Checks.{media-within}
 use borrow.Author.Needs.{needs}
 use Rattle.isdb_mmt.proofs.decoder.push_media.media_place_for.Statement.{statement}
 use Rattle.isdb_mmt.proofs.decoder.push_media.media_place_for.Tie as tie
 
 place-for-requires : tie.Need-place-for-requires
-place-for-requires c κs = search (needs, places-for-there)
+place-for-requires c κs = search (needs, media-within)
 
 returns : tie.Need-returns
 unfolding mediaPlaceFor
