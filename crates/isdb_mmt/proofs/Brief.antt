@@ -39,7 +39,7 @@ use Rattle.isdb_mmt.specs.declared.mpu.PayloadHeader.{PayloadHeader}
 use Rattle.isdb_mmt.specs.declared.mpu.Unit.{Unit as DataUnit}
 use Rattle.isdb_mmt.specs.Decoder.Packet.{Bytes, Packet, ipError, nonMmtp, media, message, control, other, ntp, headerIn, payloadUnit, payloadUnits, unitsFor, unitsRead, mediaOf, byType, mmtpIn, toPort, inFlow, datagramIn, byKind, classify, clear, readable}
 use Rattle.isdb_tlv.specs.Fields.{Field, bytesOf, written}
-use Rattle.isdb_mmt.specs.Memory.Lent.{over}
+use Rattle.isdb_mmt.specs.Memory.Lent.{part, over}
 use Rattle.isdb_mmt.specs.Memory.Session.{Session, limitsFields}
 use Rattle.isdb_mmt.specs.Memory.Opening.{openedState, openedSession}
 use Rattle.isdb_mmt.specs.declared.decoder.limits.Limits.{Limits}
@@ -57,6 +57,9 @@ pub octets-take : (n : ℕ) (b : Bytes) → Octets b → Octets (take n b)
 octets-take n b o i =
     either (ltb i n) (λ e. rw (getD-take n b i 0 (ltb-true i n e)) (o i))
     (λ e. let l = ltb-false i n e in let d : getD (take n b) i 0 ≡ 0 = List·getD-eq-default (take n b) 0 {n = i} (omega (arith, length-take n b)) in omega (arith, d))
+
+pub octets-part : (at n : ℕ) (b : Bytes) → Octets b → Octets (part at n b)
+octets-part at n b o = octets-take n (drop at b) (octets-drop at b o)
 
 pub octets-append : (a b : Bytes) → Octets a → Octets b → Octets (a ++ b)
 octets-append [] b o q i = q i

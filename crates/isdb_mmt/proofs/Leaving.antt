@@ -30,33 +30,30 @@ use Rattle.isdb_mmt.specs.declared.decoder.walk.WalkState.{WalkState}
 use Rattle.isdb_mmt.specs.Decoder.Kept.{withTableCounts}
 use Rattle.isdb_mmt.specs.declared.decoder.counts.Counters.{Counters}
 use Rattle.isdb_mmt.proofs.Lent.{length-part}
+use Rattle.isdb_mmt.proofs.Brief.{octets-part}
 use Rattle.isdb_mmt.proofs.Applied.{log-places}
 
 -- ---- a place written again is what it was
 
-bytes-again : (w at : ℕ) (s : Bytes) → Octets s → at + w ≤ length s → bytesOf w (be w s at) ≡ part at w s
-unfolding bytesOf be
-bytes-again zero at s o h = refl
-bytes-again (suc w) at s o h =
-    let x : ℕ = be w s at in
-    let y : ℕ = getD s (at + w) 0 in
-    let b : y < 256 = o (at + w) in
-    let q : (x * 256 + y) / 256 ≡ x = omega arith in
-    let r : (x * 256 + y) % 256 ≡ y = omega arith in
-    let l : w < length (drop at s) = omega (arith, length-drop at s) in
-    let z : List ℕ = y ∷ [] in
-    ap (λ k. bytesOf w k ++ ((x * 256 + y) % 256 ∷ [])) q
-    ∙ ap (λ k. bytesOf w x ++ (k ∷ [])) r
-    ∙ ap (λ (l : Bytes). l ++ z) (bytes-again w at s o (omega arith))
-    ∙ ap (λ k. part at w s ++ (k ∷ [])) (sym (getD-drop at s w 0))
-    ∙ sym (take-suc (drop at s) w 0 l)
+-- a number's bytes are those that it was read from
+be-bytes : (w at : ℕ) (l : List ℕ) → Octets l → at + w ≤ length l → bytesOf w (be w l at) ≡ part at w l
+unfolding be bytesOf
+be-bytes zero at l o h = refl
+be-bytes (suc w) at l o h =
+    let q : ℕ = be w l at in
+    let x : ℕ = getD l (at + w) 0 in
+    let d : (q * 256 + x) / 256 ≡ q = omega (arith, o (at + w)) in
+    let m : (q * 256 + x) % 256 ≡ x = omega (arith, o (at + w)) in
+    let k : w < length (drop at l) = omega (arith, length-drop at l) in
+    let e : bytesOf w q ≡ take w (drop at l) = be-bytes w at l o (omega arith) in
+    rw (d, m, e) (sym (take-suc (drop at l) w 0 k ∙ ap (λ y. take w (drop at l) ++ (y ∷ [])) (getD-drop at l w 0)))
 
 place-again : (p : Bytes) → length p ≡ sectionSize → Octets p → written (sectionFields (sectionPlaceOf p)) ≡ p
 unfolding sectionPlaceOf
 place-again p e o =
-    let a : bytesOf 4 (be 4 p 0) ≡ part 0 4 p = bytes-again 4 0 p o (omega arith) in
-    let b : bytesOf 1 (be 1 p 4) ≡ part 4 1 p = bytes-again 1 4 p o (omega arith) in
-    let c : bytesOf 4 (be 4 p 5) ≡ part 5 4 p = bytes-again 4 5 p o (omega arith) in
+    let a : bytesOf 4 (be 4 p 0) ≡ part 0 4 p = be-bytes 4 0 p o (omega arith) in
+    let b : bytesOf 1 (be 1 p 4) ≡ part 4 1 p = be-bytes 1 4 p o (omega arith) in
+    let c : bytesOf 4 (be 4 p 5) ≡ part 5 4 p = be-bytes 4 5 p o (omega arith) in
     let d : part 4 1 p ++ part 5 4 p ≡ part 4 5 p =
     ap (λ (l : Bytes). part 4 1 p ++ take 4 l) (sym (drop-drop 1 4 p)) ∙ sym (take-add 1 4 (drop 4 p)) in
     (λ i. a i ++ (b i ++ (c i ++ [])))
@@ -66,21 +63,11 @@ place-again p e o =
     ∙ take-all 9 p (omega arith)
 
 -- places one behind the other
-abbrev flat : List KeptSection → Bytes
+abbrev pub flat : List KeptSection → Bytes
 flat [] = []
 flat (x ∷ xs) = written (sectionFields x) ++ flat xs
 
-octets-part : (s : Bytes) → Octets s → (at n : ℕ) → Octets (part at n s)
-octets-part s o at zero i = omega arith
-octets-part s o at (suc n) i = go (drop at s) (λ j. rw (getD-drop at s j 0) (o (at + j))) (suc n) i
-  where
-    go : (l : Bytes) → Octets l → (n i : ℕ) → getD (take n l) i 0 < 256
-    go l o zero i = omega arith
-    go [] o (suc n) i = omega arith
-    go (x ∷ l) o (suc n) zero = o 0
-    go (x ∷ l) o (suc n) (suc i) = go l (λ j. o (suc j)) n i
-
-flat-places : (ix : Bytes) → Octets ix → (n at : ℕ) → at + sectionSize * n ≤ length ix
+pub flat-places : (ix : Bytes) → Octets ix → (n at : ℕ) → at + sectionSize * n ≤ length ix
     → flat (map sectionPlaceOf (placesFrom n sectionSize at ix)) ≡ part at (sectionSize * n) ix
 unfolding placesFrom
 flat-places ix o zero at h = refl
@@ -88,7 +75,7 @@ flat-places ix o (suc n) at h =
     let p : Bytes = part at sectionSize ix in
     let lp : length p ≡ sectionSize = length-part at sectionSize ix (omega arith) in
     let e : sectionSize + sectionSize * n ≡ sectionSize * suc n = omega arith in
-    ap (λ (l : Bytes). l ++ flat (map sectionPlaceOf (placesFrom n sectionSize (at + sectionSize) ix))) (place-again p lp (octets-part ix o at sectionSize))
+    ap (λ (l : Bytes). l ++ flat (map sectionPlaceOf (placesFrom n sectionSize (at + sectionSize) ix))) (place-again p lp (octets-part at sectionSize ix o))
     ∙ ap (λ (l : Bytes). p ++ l) (flat-places ix o n (at + sectionSize) (omega arith))
     ∙ ap (λ (l : Bytes). p ++ take (sectionSize * n) l) (sym (drop-drop sectionSize at ix))
     ∙ sym (take-add sectionSize (sectionSize * n) (drop at ix))

@@ -30,7 +30,7 @@ use Rattle.isdb_mmt.specs.declared.decoder.limits.Limits.{Limits}
 use Rattle.isdb_mmt.proofs.Checks.{media-was, control-was, section-was, count-was}
 use Rattle.isdb_mmt.proofs.Guards.{was-both}
 use Rattle.isdb_mmt.proofs.Every.{Every, every-put, every-found, every-mono}
-use Rattle.isdb_mmt.proofs.Brief.{octets-drop, octets-take, Plain, plain-of}
+use Rattle.isdb_mmt.proofs.Brief.{octets-part, Plain, plain-of}
 use Rattle.isdb_mmt.specs.Theorems.Room.{mostAdded}
 use Rattle.isdb_mmt.proofs.Fits.{asset-more}
 use Rattle.isdb_mmt.proofs.Stores.{breaksIn, breaks-read, breaks-control, CountersFit, counters-more, counted-fit}
@@ -301,9 +301,6 @@ table-given false x n area l h o = tt
 
 part-le : (at n : ℕ) (b : Bytes) → length (part at n b) ≤ n
 part-le at n b = omega (arith, length-take n (drop at b))
-
-octets-part : (at n : ℕ) (b : Bytes) → Octets b → Octets (part at n b)
-octets-part at n b o = octets-take n (drop at b) (octets-drop at b o)
 
 -- every place in use
 places-all : {A B : Type 0} (of : Bytes → A) (g : ℕ → A → ℕ × B) (f : A → Bool) (P : ℕ → B → Type 0) (size : ℕ) (b : Bytes) → Octets b

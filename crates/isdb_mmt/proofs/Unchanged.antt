@@ -1,15 +1,11 @@
 -- What a session says lies in its bytes: stored again, it changes nothing. Assumes nothing.
-use Prim.Native.Nat.{ℕ, zero, suc, _+_, _*_, _/_, _%_, _≤_, _<_}
+use Prim.Native.Nat.{ℕ, _+_, _*_, _≤_}
 use mathlib.Core.Path.{_≡_, refl, sym, ap, _∙_}
 use mathlib.Core.Bool.{Bool, true, false}
-use mathlib.Core.List.{List, [], _∷_, _++_, map, append-nil}
-use native.Mathlib.Nat.{add-zero}
+use mathlib.Core.List.{List, [], _∷_, _++_, map}
 use native.Mathlib.Omega.{arith}
-use lib.ListN.{length, getD, take, drop, length-drop}
-use lib.Seq.{take-suc, take-add, drop-drop, getD-drop}
-use Rattle.isdb_tlv.specs.Bytes.{be}
-use Rattle.isdb_tlv.specs.Fields.{bytesOf, written}
-use Rattle.isdb_tlv.proofs.Numbers.{be-take, be-drop}
+use lib.ListN.{length}
+use Rattle.isdb_tlv.specs.Fields.{written}
 use Rattle.isdb_mmt.specs.Decoder.Packet.{Bytes}
 use Rattle.isdb_mmt.specs.Decoder.Maps.{isSome}
 use Rattle.isdb_mmt.specs.Decoder.Kept.{Kept}
@@ -24,57 +20,23 @@ use Rattle.isdb_mmt.specs.Pushes.Leaves.{keptPlace, sectionRows, withSec
 use Rattle.isdb_mmt.specs.Pushes.FragmentPush.{lengthIf, normalLatest}
 use Rattle.isdb_mmt.specs.declared.decoder.limits.Limits.{Limits}
 use Rattle.isdb_mmt.specs.declared.decoder.section.KeptSection.{KeptSection}
+use Rattle.isdb_mmt.proofs.Leaving.{flat, flat-places}
 use Rattle.isdb_mmt.proofs.Stays.{Placed, exact-was, sectionThere, placed-mono}
 use Rattle.isdb_mmt.proofs.Lent.{length-part, over-same}
 
 -- ---- places
 
--- a number's bytes are those that it was read from
-pub be-bytes : (w at : ℕ) (l : List ℕ) → Octets l → at + w ≤ length l → bytesOf w (be w l at) ≡ part at w l
-unfolding be bytesOf
-be-bytes zero at l o h = refl
-be-bytes (suc w) at l o h =
-    let q : ℕ = be w l at in
-    let x : ℕ = getD l (at + w) 0 in
-    let d : (q * 256 + x) / 256 ≡ q = omega (arith, o (at + w)) in
-    let m : (q * 256 + x) % 256 ≡ x = omega (arith, o (at + w)) in
-    let k : w < length (drop at l) = omega (arith, length-drop at l) in
-    let e : bytesOf w q ≡ take w (drop at l) = be-bytes w at l o (omega arith) in
-    rw (d, m, e) (sym (take-suc (drop at l) w 0 k ∙ ap (λ y. take w (drop at l) ++ (y ∷ [])) (getD-drop at l w 0)))
-
-section-bytes : (at : ℕ) (l : List ℕ) → Octets l → at + sectionSize ≤ length l
-    → written (sectionFields (sectionPlaceOf (part at sectionSize l))) ≡ part at sectionSize l
-unfolding sectionPlaceOf
-section-bytes at l o h =
-    let p : List ℕ = part at 9 l in
-    let a : bytesOf 4 (be 4 p 0) ≡ take 4 (drop at l) =
-    ap (bytesOf 4) (be-take 4 9 (drop at l) 0 (omega arith) ∙ be-drop 4 at l 0 ∙ ap (be 4 l) (add-zero at)) ∙ be-bytes 4 at l o (omega arith) in
-    let b : bytesOf 1 (be 1 p 4) ≡ take 1 (drop (at + 4) l) =
-    ap (bytesOf 1) (be-take 1 9 (drop at l) 4 (omega arith) ∙ be-drop 1 at l 4) ∙ be-bytes 1 (at + 4) l o (omega arith) in
-    let c : bytesOf 4 (be 4 p 5) ≡ take 4 (drop (at + 5) l) =
-    ap (bytesOf 4) (be-take 4 9 (drop at l) 5 (omega arith) ∙ be-drop 4 at l 5) ∙ be-bytes 4 (at + 5) l o (omega arith) in
-    let z : at + 4 + 1 ≡ at + 5 = omega arith in
-    let u : take 9 (drop at l) ≡ take 4 (drop at l) ++ (take 1 (drop (at + 4) l) ++ take 4 (drop (at + 5) l)) =
-    take-add 4 5 (drop at l)
-    ∙ ap (λ (y : List ℕ). take 4 (drop at l) ++ y)
-    (ap (take 5) (drop-drop 4 at l) ∙ take-add 1 4 (drop (at + 4) l)
-    ∙ ap (λ (y : List ℕ). take 1 (drop (at + 4) l) ++ take 4 y) (drop-drop 1 (at + 4) l ∙ ap (λ k. drop k l) z)) in
-    rw (a, b, c, append-nil) (sym u)
+rows-flat : (g : ℕ → KeptSection → ℕ × Kept) (xs : List KeptSection) (k : ℕ) → Placed (λ i x. keptPlace (g i x) ≡ x) k xs → sectionRows (indexed g k xs) ≡ flat xs
+unfolding sectionRows indexed
+rows-flat g [] k p = refl
+rows-flat g (x ∷ xs) k p =
+    ap (λ (y : KeptSection). written (sectionFields y) ++ sectionRows (indexed g (k + 1) xs)) (p .0)
+    ∙ ap (λ (y : List ℕ). written (sectionFields x) ++ y) (rows-flat g xs (k + 1) (p .1))
 
 rows-bytes : (g : ℕ → KeptSection → ℕ × Kept) (l : List ℕ) → Octets l → (n k at : ℕ) → at + sectionSize * n ≤ length l
     → Placed (λ i x. keptPlace (g i x) ≡ x) k (map sectionPlaceOf (placesFrom n sectionSize at l))
     → sectionRows (indexed g k (map sectionPlaceOf (placesFrom n sectionSize at l))) ≡ part at (sectionSize * n) l
-unfolding sectionRows indexed placesFrom
-rows-bytes g l o zero k at h p = refl
-rows-bytes g l o (suc n) k at h p =
-    let e : written (sectionFields (keptPlace (g k (sectionPlaceOf (part at 9 l))))) ≡ part at 9 l =
-    ap (λ (x : KeptSection). written (sectionFields x)) (p .0) ∙ section-bytes at l o (omega arith) in
-    let r : sectionRows (indexed g (k + 1) (map sectionPlaceOf (placesFrom n 9 (at + 9) l))) ≡ part (at + 9) (9 * n) l =
-    rows-bytes g l o n (k + 1) (at + 9) (omega arith) (p .1) in
-    let z : 9 * suc n ≡ 9 + 9 * n = omega arith in
-    let u : part at (9 * suc n) l ≡ part at 9 l ++ part (at + 9) (9 * n) l =
-    ap (λ m. take m (drop at l)) z ∙ take-add 9 (9 * n) (drop at l) ∙ ap (λ (y : List ℕ). take 9 (drop at l) ++ take (9 * n) y) (drop-drop 9 at l) in
-    rw (e, r) (sym u)
+rows-bytes g l o n k at h p = rows-flat g (map sectionPlaceOf (placesFrom n sectionSize at l)) k p ∙ flat-places l o n at h
 
 -- ---- areas
 
