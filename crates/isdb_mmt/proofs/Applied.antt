@@ -308,21 +308,3 @@ used-same used i h = rw (lt-ltb i used h)
 
 pub used-next : (used i : ℕ) → used ≤ i → i + 1 ≡ usedWith used i
 used-next used i h = rw (le-ltb i used h)
-
-pub kept-is : (g : WalkState) (used : ℕ) (m p t : Recent) (n l : ℕ) → l ≡ max (g .longest) n
-    → (record {
-      used = used;
-      tables = g .tables;
-      «crc_errors» = g .«crc_errors»;
-      malformed = g .malformed;
-      «version_changes» = g .«version_changes»;
-      «split_errors» = g .«split_errors»;
-      «message_malformed» = g .«message_malformed»;
-      mpt = m;
-      plt = p;
-      tot = t;
-      longest = l;
-      full = g .full;
-    })
-    ≡ keptWith g used m p t n
-kept-is g used m p t n l e = rw e
