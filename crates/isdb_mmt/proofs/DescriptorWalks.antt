@@ -10,6 +10,7 @@ use lib.ListN.{length, getD, drop, length-map, length-take, length-drop}
 use borrow.Author.Tests.{ltb-false, le-ltb}
 use Rattle.isdb_tlv.specs.Bytes.{be}
 use Rattle.isdb_tlv.specs.Walk.{turn}
+use Rattle.isdb_tlv.specs.Guards.{if_then_else_, _<?_}
 use Rattle.isdb_tlv.proofs.Guards.{cond-elim, either}
 use Rattle.isdb_mmt.specs.Formats.Part.{partOf}
 use Rattle.isdb_mmt.specs.Decoder.Maps.{isSome}
@@ -82,64 +83,43 @@ tot s t e = loops (partOf (declaredSection s) (t .descriptors))
 
 -- ---- loops in which nothing is malformed
 
-module _ {A : Type 0} (step : ℕ → Stood A) (n : ℕ) (on : (at : ℕ) → On n at (step at)) (fine : (at : ℕ) → wholeOn (λ p. true) (step at) ≡ true) where
-  ends-fine : (at : ℕ) → Ends step at (toEnd step n at .found) atEnd
-  ends-fine at = ends-whole step n on at (sym (same-whole step n on (λ p. true) (λ p. sym (fine p)) at))
+abbrev Fine : {A : Type 0} → ℕ → ℕ → Stood A → Type 0
+Fine n at d = On n at d × (wholeOn (λ p. true) d ≡ true)
+
+ends-fine : {A : Type 0} (step : ℕ → Stood A) (n : ℕ) → ((at : ℕ) → Fine n at (step at)) → (at : ℕ) → Ends step at (toEnd step n at .found) atEnd
+ends-fine step n fine at = ends-whole step n (λ p. fine p .0) at (sym (same-whole step n (λ p. fine p .0) (λ p. true) (λ p. sym (fine p .1)) at))
+
+-- a row of `size` bytes, or none
+row-fine : {A B : Type 0} (told : B → Stood A) (size n at : ℕ) (none row : B) → Fine n at (told none) → (size ≤ n - at → Fine n at (told row))
+    → Fine n at (told (if n - at <? size then none else row))
+row-fine told size n at none row h k = cond-elim (λ d. Fine n at (told d)) (ltb (n - at) size) (λ e. h) (λ e. k (ltb-false (n - at) size e))
 
 module _ (s : List ℕ) where
-  on-tlv : (at : ℕ) → On (length s) at (tlvSeen s at)
+  tlv-fine : (at : ℕ) → Fine (length s) at (tlvSeen s at)
   unfolding tlvStepAt
-  on-tlv at =
-      cond-elim (λ d. On (length s) at (tlvTold s d)) (ltb (length s - at) 2) (λ e. tt) (λ e.
-      cond-elim (λ d. On (length s) at (tlvTold s d)) (ltb (length s - (at + 2)) (getD s (at + 1) 0)) (λ e1. tt) (λ e1.
-      let l = ltb-false (length s - at) 2 e in omega arith))
+  tlv-fine at =
+      row-fine (tlvTold s) 2 (length s) at _ _ (tt, refl) (λ l.
+      cond-elim (λ d. Fine (length s) at (tlvTold s d)) (ltb (length s - (at + 2)) (getD s (at + 1) 0)) (λ e. (tt, refl)) (λ e. (omega arith, refl)))
 
-  fine-tlv : (at : ℕ) → wholeOn (λ p. true) (tlvSeen s at) ≡ true
-  unfolding tlvStepAt
-  fine-tlv at =
-      cond-elim (λ d. wholeOn (λ p. true) (tlvTold s d) ≡ true) (ltb (length s - at) 2) (λ e. refl) (λ e.
-      cond-elim (λ d. wholeOn (λ p. true) (tlvTold s d) ≡ true) (ltb (length s - (at + 2)) (getD s (at + 1) 0)) (λ e1. refl) (λ e1. refl))
-
-  on-timestamp : (at : ℕ) → On (length s) at (timestampSeen s at)
+  timestamp-fine : (at : ℕ) → Fine (length s) at (timestampSeen s at)
   unfolding timestampAt
-  on-timestamp at =
-      cond-elim (λ d. On (length s) at (timestampTold d)) (ltb (length s - at) 12) (λ e. tt) (λ e.
-      let l = ltb-false (length s - at) 12 e in omega arith)
+  timestamp-fine at = row-fine timestampTold 12 (length s) at _ _ (tt, refl) (λ l. (omega arith, refl))
 
-  fine-timestamp : (at : ℕ) → wholeOn (λ p. true) (timestampSeen s at) ≡ true
-  unfolding timestampAt
-  fine-timestamp at =
-      cond-elim (λ d. wholeOn (λ p. true) (timestampTold d) ≡ true) (ltb (length s - at) 12) (λ e. refl) (λ e. refl)
-
-  on-service : (at : ℕ) → On (length s) at (serviceSeen s at)
+  service-fine : (at : ℕ) → Fine (length s) at (serviceSeen s at)
   unfolding serviceAt
-  on-service at =
-      cond-elim (λ d. On (length s) at (serviceTold d)) (ltb (length s - at) 3) (λ e. tt) (λ e.
-      let l = ltb-false (length s - at) 3 e in omega arith)
+  service-fine at = row-fine serviceTold 3 (length s) at _ _ (tt, refl) (λ l. (omega arith, refl))
 
-  fine-service : (at : ℕ) → wholeOn (λ p. true) (serviceSeen s at) ≡ true
-  unfolding serviceAt
-  fine-service at =
-      cond-elim (λ d. wholeOn (λ p. true) (serviceTold d) ≡ true) (ltb (length s - at) 3) (λ e. refl) (λ e. refl)
-
-  on-genre : (at : ℕ) → On (length s) at (genreSeen s at)
+  genre-fine : (at : ℕ) → Fine (length s) at (genreSeen s at)
   unfolding genreAt
-  on-genre at =
-      cond-elim (λ d. On (length s) at (genreTold d)) (ltb (length s - at) 2) (λ e. tt) (λ e.
-      let l = ltb-false (length s - at) 2 e in omega arith)
-
-  fine-genre : (at : ℕ) → wholeOn (λ p. true) (genreSeen s at) ≡ true
-  unfolding genreAt
-  fine-genre at =
-      cond-elim (λ d. wholeOn (λ p. true) (genreTold d) ≡ true) (ltb (length s - at) 2) (λ e. refl) (λ e. refl)
+  genre-fine at = row-fine genreTold 2 (length s) at _ _ (tt, refl) (λ l. (omega arith, refl))
 
 pub rows : RowsTheorem
 rows s =
     record {
-      tlvs = ends-fine (tlvSeen s) (length s) (on-tlv s) (fine-tlv s) 0;
-      timestamps = ends-fine (timestampSeen s) (length s) (on-timestamp s) (fine-timestamp s) 0;
-      services = ends-fine (serviceSeen s) (length s) (on-service s) (fine-service s) 0;
-      genres = ends-fine (genreSeen s) (length s) (on-genre s) (fine-genre s) 0;
+      tlvs = ends-fine (tlvSeen s) (length s) (tlv-fine s) 0;
+      timestamps = ends-fine (timestampSeen s) (length s) (timestamp-fine s) 0;
+      services = ends-fine (serviceSeen s) (length s) (service-fine s) 0;
+      genres = ends-fine (genreSeen s) (length s) (genre-fine s) 0;
     }
 
 -- ---- extended timestamps
