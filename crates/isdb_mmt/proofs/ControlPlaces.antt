@@ -40,8 +40,8 @@ use Rattle.isdb_mmt.proofs.Limits.{passed, in-buffer}
 use Rattle.isdb_mmt.proofs.Checks.{control-was, place-was}
 use Rattle.isdb_mmt.proofs.Counting.{counted-alone}
 use Rattle.isdb_mmt.proofs.Views.{keys, FoundAt, found-at, absent}
-use Rattle.isdb_mmt.proofs.PlacesFor.{getD-places, place-for-was-old, place-for-was-new, length-indexed, getD-indexed, length-media, place-for-was-full}
-use Rattle.isdb_mmt.proofs.MessageLeaves.{controlEntries, control-names, length-controls}
+use Rattle.isdb_mmt.proofs.PlacesFor.{controlEntries, control-names, getD-places, place-for-was-old, place-for-was-new, length-indexed, getD-indexed, length-media, place-for-was-full}
+use Rattle.isdb_mmt.proofs.MessageLeaves.{length-controls}
 use Rattle.isdb_mmt.proofs.Maps.{find-put}
 use Rattle.isdb_mmt.proofs.Fragments.{Does, outcome-does}
 use Rattle.isdb_mmt.proofs.Quiet.{asks-none, asks-kept}

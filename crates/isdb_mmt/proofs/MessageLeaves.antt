@@ -8,7 +8,6 @@ use mathlib.Core.List.{List, [], _∷_, _++_, map}
 use native.Mathlib.Nat.{mul-le-mul-right}
 use native.Mathlib.Omega.{arith}
 use lib.ListN.{length, getD, set, length-append, length-set, length-map}
-use Rattle.isdb_tlv.specs.Bytes.{be}
 use Rattle.isdb_tlv.specs.Fields.{written, Fit}
 use Rattle.isdb_tlv.proofs.Fields.{length-written}
 use Rattle.isdb_tlv.proofs.Guards.{either}
@@ -34,13 +33,13 @@ use Rattle.isdb_mmt.specs.declared.decoder.head.Used.{Used}
 use Rattle.isdb_mmt.specs.declared.decoder.head.Latest.{Latest}
 use Rattle.isdb_mmt.specs.declared.decoder.head.Time.{Time}
 use Rattle.isdb_mmt.specs.declared.decoder.control.Control.{Control}
-use Rattle.isdb_mmt.proofs.Lent.{length-over, part-over, names-of, length-places, length-names}
+use Rattle.isdb_mmt.proofs.Lent.{length-over, part-over, length-places, length-names}
 use Rattle.isdb_mmt.proofs.Stored.{apart, limits-own, time-own}
 use Rattle.isdb_mmt.proofs.Sessions.{Sort, media, controls, sections, inUse, named, place-set, place-new, place-apart, used-apart}
-use Rattle.isdb_mmt.proofs.Views.{keys, FoundAt, found-at, absent, indexed-set, indexed-snoc, indexed-same, keys-indexed}
+use Rattle.isdb_mmt.proofs.Views.{keys, FoundAt, found-at, absent, indexed-set, indexed-snoc, indexed-same}
 use Rattle.isdb_mmt.proofs.Limits.{passed, Passed, whole-area}
 use Rattle.isdb_mmt.proofs.Checks.{control-was}
-use Rattle.isdb_mmt.proofs.PlacesFor.{length-media, place-for-was-old, place-for-was-new, length-indexed, every-at, set-indexed}
+use Rattle.isdb_mmt.proofs.PlacesFor.{controlEntries, control-names, length-media, place-for-was-old, place-for-was-new, length-indexed, every-at, set-indexed}
 use Rattle.isdb_mmt.proofs.TableAreas.{length-laid, laid-apart, laid, length-kept, kept-apart, Lie, kept-lie, lie-on, lie-read}
 use Rattle.isdb_mmt.proofs.StateWrites.{used-other, TablesFit, used-fits, length-tables, limits-tables, latest-tables, time-tables, counters-tables, used-tables, others-tables, sections-tables, latest-read, limits-latest, time-latest, counters-latest, places-latest}
 use Rattle.isdb_mmt.proofs.MediaLeaves.{given-back}
@@ -92,21 +91,6 @@ pub length-sections : (l : List ℕ) → length (sectionsIn l) ≡ usedOf l .sec
 unfolding sectionsIn
 length-sections l =
     length-map (placesFrom (usedOf l .sections) sectionSize sectionPlaces l) sectionPlaceOf ∙ length-places sectionSize (usedOf l .sections) sectionPlaces l
-
-abbrev pub controlEntries : Session → List (ℕ × ControlState)
-controlEntries s = indexed (controlEntry (limitsOf (s .state)) s) 0 (controlsIn (s .state))
-
-place-names : (ps : List (List ℕ)) → map (λ (c : Control). c .«packet_id») (map controlPlaceOf ps) ≡ map (λ p. be 4 p 0) ps
-unfolding controlPlaceOf
-place-names [] = refl
-place-names (p ∷ ps) = ap (λ (r : List ℕ). be 4 p 0 ∷ r) (place-names ps)
-
-pub control-names : (s : Session) → keys (controlEntries s) ≡ namesFrom (usedOf (s .state) .«control_ids») controlSize controlPlaces (s .state)
-control-names s =
-    keys-indexed (controlEntry (limitsOf (s .state)) s) (λ (c : Control). c .«packet_id») (λ i x. refl) (controlsIn (s .state)) 0
-    ∙ ap (map (λ (c : Control). c .«packet_id»)) (sym (named .controls (s .state)))
-    ∙ place-names (placesFrom (usedOf (s .state) .«control_ids») controlSize controlPlaces (s .state))
-    ∙ names-of controlSize (omega arith) (usedOf (s .state) .«control_ids») controlPlaces (s .state)
 
 -- ---- a control place
 

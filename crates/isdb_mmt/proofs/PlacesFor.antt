@@ -1,6 +1,6 @@
 -- Seats as they were found, the entries of places one by one, and those of media ids. Assumes nothing.
 use Prim.Native.Nat.{ℕ, zero, suc, _+_, _*_, _≤_, _<_}
-use mathlib.Core.Path.{_≡_, refl, sym, ap, _∙_}
+use mathlib.Core.Path.{_≡_, refl, ap, _∙_}
 use mathlib.Core.Bool.{Bool, true, false}
 use mathlib.Core.Option.{none, some}
 use mathlib.Core.List.{List, [], _∷_, map}
@@ -12,18 +12,17 @@ use borrow.Author.Tests.{ltb-true, ltb-false}
 use Rattle.isdb_tlv.specs.Bytes.{be}
 use Rattle.isdb_tlv.proofs.Guards.{either}
 use Rattle.isdb_mmt.specs.Decoder.Objects.{Asset}
+use Rattle.isdb_mmt.specs.Decoder.Model.{Control as ControlState}
 use Rattle.isdb_mmt.specs.Memory.Lent.{part, placesFrom, namesFrom, foundFrom, placeForFound, placeForName, every, indexed}
-use Rattle.isdb_mmt.specs.Memory.Layout.{mediaPlaces, mediaSize}
-use Rattle.isdb_mmt.specs.Memory.Session.{Session, limitsOf, usedOf, mediaPlaceOf}
-use Rattle.isdb_mmt.specs.Memory.Check.{mediaIn}
-use Rattle.isdb_mmt.specs.Memory.View.{assetEntry}
+use Rattle.isdb_mmt.specs.Memory.Layout.{mediaPlaces, mediaSize, controlPlaces, controlSize}
+use Rattle.isdb_mmt.specs.Memory.Session.{Session, limitsOf, usedOf, mediaPlaceOf, controlPlaceOf, sectionPlaceOf}
+use Rattle.isdb_mmt.specs.Memory.Check.{mediaIn, controlsIn}
+use Rattle.isdb_mmt.specs.Memory.View.{assetEntry, controlEntry}
 use Rattle.isdb_mmt.specs.declared.decoder.place.Found.{Found}
 use Rattle.isdb_mmt.specs.declared.decoder.place.Found.the-variants.{At, Nothing}
 use Rattle.isdb_mmt.specs.declared.decoder.place.PlaceFor.the-variants.{Own, Free, NoneFree}
-use Rattle.isdb_mmt.specs.declared.decoder.media.Media.{Media}
 use Rattle.isdb_mmt.proofs.Lent.{names-of, length-places}
 use Rattle.isdb_mmt.proofs.Names.{true-not-false}
-use Rattle.isdb_mmt.proofs.Sessions.{named}
 use Rattle.isdb_mmt.proofs.Views.{keys, keys-indexed, indexed-same}
 
 -- ---- places for a name, back
@@ -71,20 +70,48 @@ unfolding indexed
 length-indexed g k [] = refl
 length-indexed g k (x ∷ xs) = ap suc (length-indexed g (k + 1) xs)
 
-place-names : (ps : List (List ℕ)) → map (λ (m : Media). m .«packet_id») (map mediaPlaceOf ps) ≡ map (λ p. be 4 p 0) ps
+-- ---- the names in their places
+
+pub map-names : {A : Type 0} (of : List ℕ → A) (name : A → ℕ) → ((p : List ℕ) → name (of p) ≡ be 4 p 0) → (ps : List (List ℕ))
+    → map name (map of ps) ≡ map (λ p. be 4 p 0) ps
+map-names of name f [] = refl
+map-names of name f (p ∷ ps) = rw (f p, map-names of name f ps)
+
+pub names-view : {A B : Type 0} (of : List ℕ → A) (name : A → ℕ) (g : ℕ → A → ℕ × B) (size at n : ℕ) (l : List ℕ) → 4 ≤ size
+    → ((i : ℕ) (x : A) → g i x .0 ≡ name x) → ((p : List ℕ) → name (of p) ≡ be 4 p 0)
+    → keys (indexed g 0 (map of (placesFrom n size at l))) ≡ namesFrom n size at l
+names-view of name g size at n l h f e =
+    keys-indexed g name f (map of (placesFrom n size at l)) 0 ∙ map-names of name e (placesFrom n size at l) ∙ names-of size h n at l
+
+pub media-name : (p : List ℕ) → mediaPlaceOf p .«packet_id» ≡ be 4 p 0
 unfolding mediaPlaceOf
-place-names [] = refl
-place-names (p ∷ ps) = ap (λ (r : List ℕ). be 4 p 0 ∷ r) (place-names ps)
+media-name p = refl
+
+pub control-name : (p : List ℕ) → controlPlaceOf p .«packet_id» ≡ be 4 p 0
+unfolding controlPlaceOf
+control-name p = refl
+
+pub section-name : (p : List ℕ) → sectionPlaceOf p .key ≡ be 4 p 0
+unfolding sectionPlaceOf
+section-name p = refl
 
 abbrev pub entries : Session → List (ℕ × Asset)
 entries s = indexed (assetEntry (limitsOf (s .state)) s) 0 (mediaIn (s .state))
 
 pub entry-names : (s : Session) → keys (entries s) ≡ namesFrom (usedOf (s .state) .«media_ids») mediaSize mediaPlaces (s .state)
+unfolding mediaIn
 entry-names s =
-    keys-indexed (assetEntry (limitsOf (s .state)) s) (λ (m : Media). m .«packet_id») (λ i x. refl) (mediaIn (s .state)) 0
-    ∙ ap (map (λ (m : Media). m .«packet_id»)) (sym (named .media (s .state)))
-    ∙ place-names (placesFrom (usedOf (s .state) .«media_ids») mediaSize mediaPlaces (s .state))
-    ∙ names-of mediaSize (omega arith) (usedOf (s .state) .«media_ids») mediaPlaces (s .state)
+    names-view mediaPlaceOf (λ m. m .«packet_id») (assetEntry (limitsOf (s .state)) s) mediaSize mediaPlaces (usedOf (s .state) .«media_ids») (s .state)
+    (omega arith) (λ i m. refl) media-name
+
+abbrev pub controlEntries : Session → List (ℕ × ControlState)
+controlEntries s = indexed (controlEntry (limitsOf (s .state)) s) 0 (controlsIn (s .state))
+
+pub control-names : (s : Session) → keys (controlEntries s) ≡ namesFrom (usedOf (s .state) .«control_ids») controlSize controlPlaces (s .state)
+unfolding controlsIn
+control-names s =
+    names-view controlPlaceOf (λ c. c .«packet_id») (controlEntry (limitsOf (s .state)) s) controlSize controlPlaces (usedOf (s .state) .«control_ids»)
+    (s .state) (omega arith) (λ i c. refl) control-name
 
 pub every-at : {A : Type 0} (f : A → Bool) (d : A) (xs : List A) (j : ℕ) → every f xs ≡ true → j < length xs → f (getD xs j d) ≡ true
 unfolding every

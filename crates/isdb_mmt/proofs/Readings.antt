@@ -3,7 +3,7 @@ use Prim.Native.Nat.{ℕ, zero, suc, _+_, _*_, _≤_, _<_}
 use mathlib.Core.Path.{_≡_, refl, sym, ap, _∙_, subst}
 use mathlib.Core.Bool.{Bool, true, false}
 use mathlib.Core.Option.{none, some}
-use mathlib.Core.List.{List, [], _∷_, map}
+use mathlib.Core.List.{List}
 use native.Mathlib.Omega.{arith}
 use lib.Dec.{eqb}
 use lib.ListN.{length}
@@ -15,10 +15,10 @@ use Rattle.isdb_mmt.specs.Decoder.Packet.{Bytes}
 use Rattle.isdb_mmt.specs.Decoder.Maps.{find}
 use Rattle.isdb_mmt.specs.Decoder.Objects.{Mfu}
 use Rattle.isdb_mmt.specs.Decoder.Reassembly.{PartialMessage}
-use Rattle.isdb_mmt.specs.Memory.Lent.{part, placesFrom, namesFrom, among, foundFrom, indexed}
+use Rattle.isdb_mmt.specs.Memory.Lent.{part, namesFrom, among, foundFrom, indexed}
 use Rattle.isdb_mmt.specs.Memory.Octets.{Octets}
 use Rattle.isdb_mmt.specs.Memory.Layout.{mediaPlaces, mediaSize, controlPlaces, controlSize, sectionPlaces, sectionSize}
-use Rattle.isdb_mmt.specs.Memory.Session.{Session, limitsOf, usedOf, timeOf, mediaPlaceOf, controlPlaceOf, sectionPlaceOf, mediaAt, controlAt}
+use Rattle.isdb_mmt.specs.Memory.Session.{Session, limitsOf, usedOf, timeOf, mediaPlaceOf, controlPlaceOf, mediaAt, controlAt}
 use Rattle.isdb_mmt.specs.Memory.Check.{lengthsOf, sound, Sound, mediaIn, controlsIn, sectionsIn, mediaSound, controlSound}
 use Rattle.isdb_mmt.specs.Memory.View.{given, mfuOf, assetOfPlace, controlStateOf, assetEntry, controlEntry, sectionEntry, keptTableAt, viewBy, view}
 use Rattle.isdb_mmt.specs.Answers.Readings.{mediaNames, controlNames, keysIn, mediaFound, controlFound, countersRead, timeAt, timeRead, countRead, leastFrom, nameTold, nameRead, mostName, nextMediaRead, nextControlRead, nextKeyRead, u32If, rangeIf, mediaState, mediaIf, mediaRead, heldObject, heldAt, heldIf, heldRead, controlState, controlIf, controlRead}
@@ -31,17 +31,15 @@ use Rattle.isdb_mmt.specs.declared.decoder.head.Time.{Time}
 use Rattle.isdb_mmt.specs.declared.decoder.limits.Limits.{Limits}
 use Rattle.isdb_mmt.specs.declared.decoder.media.Media.{Media}
 use Rattle.isdb_mmt.specs.declared.decoder.control.Control.{Control}
-use Rattle.isdb_mmt.specs.declared.decoder.section.KeptSection.{KeptSection}
 use Rattle.isdb_mmt.specs.declared.decoder.readings.NameReading.the-variants.{Refused as nameRefused, Nothing as noName, Name}
 use Rattle.isdb_mmt.specs.declared.decoder.readings.MediaReading.the-variants.{Media as theMedia}
 use Rattle.isdb_mmt.specs.declared.decoder.readings.ControlReading.the-variants.{Control as theControl}
 use Rattle.isdb_mmt.proofs.Said.{mediaEntry, controlAtPlace, media-found, control-found}
-use Rattle.isdb_mmt.proofs.Lent.{length-part, names-of, length-names}
+use Rattle.isdb_mmt.proofs.Lent.{length-part, length-names}
 use Rattle.isdb_mmt.proofs.Names.{true-not-false}
-use Rattle.isdb_mmt.proofs.Views.{keys, keys-indexed}
-use Rattle.isdb_mmt.proofs.Sessions.{named}
-use Rattle.isdb_mmt.proofs.PlacesFor.{entries, entry-names}
-use Rattle.isdb_mmt.proofs.MessageLeaves.{controlEntries, control-names}
+use Rattle.isdb_mmt.proofs.Views.{keys}
+use Rattle.isdb_mmt.proofs.PlacesFor.{controlEntries, control-names, entries, entry-names}
+use Rattle.isdb_mmt.proofs.Stays.{section-keys}
 use Rattle.isdb_mmt.proofs.Limits.{passed, in-buffer}
 use Rattle.isdb_mmt.proofs.Checks.{sound-session, media-was, control-was, place-was}
 use Rattle.isdb_mmt.proofs.ReadSteps.{found-below}
@@ -178,17 +176,9 @@ ids-told s e = record { media = media-told s e; held = held-told s e; control = 
 
 -- ---- names
 
-section-names : (ps : List (List ℕ)) → map (λ (x : KeptSection). x .key) (map sectionPlaceOf ps) ≡ map (λ p. be 4 p 0) ps
-unfolding sectionPlaceOf
-section-names [] = refl
-section-names (p ∷ ps) = ap (λ (r : List ℕ). be 4 p 0 ∷ r) (section-names ps)
-
 key-names : (s : Session) → keys (indexed (sectionEntry (limitsOf (s .state)) s) 0 (sectionsIn (s .state))) ≡ keysIn s
-key-names s =
-    keys-indexed (sectionEntry (limitsOf (s .state)) s) (λ (x : KeptSection). x .key) (λ i x. refl) (sectionsIn (s .state)) 0
-    ∙ ap (map (λ (x : KeptSection). x .key)) (sym (named .sections (s .state)))
-    ∙ section-names (placesFrom (usedOf (s .state) .sections) sectionSize sectionPlaces (s .state))
-    ∙ names-of sectionSize (omega arith) (usedOf (s .state) .sections) sectionPlaces (s .state)
+unfolding view viewBy
+key-names s = section-keys s
 
 names-small : (l : List ℕ) → Octets l → (size n at y : ℕ) → among y (namesFrom n size at l) ≡ true → y ≤ mostName
 unfolding among namesFrom

@@ -27,9 +27,8 @@ use Rattle.isdb_mmt.specs.declared.decoder.media.Media.{Media}
 use Rattle.isdb_mmt.specs.declared.decoder.control.Control.{Control}
 use Rattle.isdb_mmt.specs.declared.decoder.section.KeptSection.{KeptSection}
 use Rattle.isdb_mmt.proofs.Views.{keys, found-at, absent}
-use Rattle.isdb_mmt.proofs.PlacesFor.{getD-places, getD-indexed, length-indexed}
+use Rattle.isdb_mmt.proofs.PlacesFor.{names-view, media-name, control-name, section-name, getD-places, getD-indexed, length-indexed}
 use Rattle.isdb_mmt.proofs.Lent.{length-places}
-use Rattle.isdb_mmt.proofs.Stays.{names-view, media-name, control-name, section-name}
 
 -- the entry of a name is that of the place that has it
 module _ {A B : Type 0} (of : Bytes → A) (name : A → ℕ) (g : ℕ → A → ℕ × B) (size at n : ℕ) (l : Bytes) where

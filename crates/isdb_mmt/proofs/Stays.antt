@@ -8,7 +8,6 @@ use native.Mathlib.Omega.{arith}
 use lib.ListN.{length, getD, set, length-map}
 use native.Mathlib.Nat.{add-zero}
 use borrow.Author.Tests.{le-leb, leb-true}
-use Rattle.isdb_tlv.specs.Bytes.{be}
 use Rattle.isdb_mmt.specs.Decoder.Packet.{Bytes}
 use Rattle.isdb_mmt.specs.Decoder.Objects.{Mfu}
 use Rattle.isdb_mmt.specs.Decoder.Reassembly.{PartialMessage}
@@ -24,8 +23,8 @@ use Rattle.isdb_mmt.specs.declared.decoder.media.Media.{Media}
 use Rattle.isdb_mmt.specs.declared.decoder.control.Control.{Control}
 use Rattle.isdb_mmt.specs.declared.decoder.section.KeptSection.{KeptSection}
 use Rattle.isdb_mmt.proofs.Names.{true-not-false}
-use Rattle.isdb_mmt.proofs.Lent.{length-part, names-of, length-places}
-use Rattle.isdb_mmt.proofs.Views.{keys, keys-indexed}
+use Rattle.isdb_mmt.proofs.Lent.{length-part, length-places}
+use Rattle.isdb_mmt.proofs.Views.{keys}
 use Rattle.isdb_mmt.proofs.Limits.{passed, in-buffer}
 use Rattle.isdb_mmt.proofs.Checks.{media-is, control-is, is-sound, was-there}
 use Rattle.isdb_mmt.proofs.Guards.{was-both}
@@ -35,7 +34,7 @@ use Rattle.isdb_mmt.proofs.Named.{Named}
 use Rattle.isdb_mmt.proofs.Joins.{JoinFits}
 use Rattle.isdb_mmt.proofs.PlaceFits.{TableOk, KeptOk, ControlOk}
 use Rattle.isdb_mmt.proofs.Storable.{MediaFits, ReassemblyFits, Storable}
-use Rattle.isdb_mmt.proofs.PlacesFor.{length-indexed}
+use Rattle.isdb_mmt.proofs.PlacesFor.{length-indexed, names-view, section-name, entry-names, control-names}
 
 -- of each place with its index
 module _ {A : Type 0} (E : ℕ → A → Type 0) where
@@ -93,15 +92,6 @@ every-is g f P E h (x ∷ xs) i a b = rw (h i x (a .0) (b .0), every-is g f P E 
 module _ {A B : Type 0} (of : Bytes → A) (name : A → ℕ) (g : ℕ → A → ℕ × B) (size at n : ℕ) (l : Bytes) where
   pub length-view : length (indexed g 0 (map of (placesFrom n size at l))) ≡ n
   length-view = length-indexed g 0 (map of (placesFrom n size at l)) ∙ length-map (placesFrom n size at l) of ∙ length-places size n at l
-
-  map-names : ((p : Bytes) → name (of p) ≡ be 4 p 0) → (ps : List Bytes) → map name (map of ps) ≡ map (λ p. be 4 p 0) ps
-  map-names f [] = refl
-  map-names f (p ∷ ps) = rw (f p, map-names f ps)
-
-  pub names-view : 4 ≤ size → ((i : ℕ) (x : A) → g i x .0 ≡ name x) → ((p : Bytes) → name (of p) ≡ be 4 p 0)
-      → keys (indexed g 0 (map of (placesFrom n size at l))) ≡ namesFrom n size at l
-  names-view h f e =
-      keys-indexed g name f (map of (placesFrom n size at l)) 0 ∙ map-names e (placesFrom n size at l) ∙ names-of size h n at l
 
 -- ---- one place
 
@@ -167,40 +157,21 @@ unfolding every
 eight a b c d e f g h p q r s t u v w =
     simp (le-leb a _ p, le-leb b _ q, le-leb c _ r, le-leb d _ s, le-leb e _ t, le-leb f _ u, le-leb g _ v, le-leb h _ w)
 
-pub media-name : (p : Bytes) → mediaPlaceOf p .«packet_id» ≡ be 4 p 0
-unfolding mediaPlaceOf
-media-name p = refl
-
-pub control-name : (p : Bytes) → controlPlaceOf p .«packet_id» ≡ be 4 p 0
-unfolding controlPlaceOf
-control-name p = refl
-
-pub section-name : (p : Bytes) → sectionPlaceOf p .key ≡ be 4 p 0
-unfolding sectionPlaceOf
-section-name p = refl
-
 -- ---- the session
 
 module _ (s : Session) where
-  abbrev limits : Limits
-  limits = limitsOf (s .state)
-
   pub media-keys : keys (view s .assets) ≡ namesFrom (usedOf (s .state) .«media_ids») mediaSize mediaPlaces (s .state)
-  unfolding view viewBy mediaIn
-  media-keys =
-      names-view mediaPlaceOf (λ m. m .«packet_id») (assetEntry limits s) mediaSize mediaPlaces (usedOf (s .state) .«media_ids») (s .state)
-      (omega arith) (λ i m. refl) media-name
+  unfolding view viewBy
+  media-keys = entry-names s
 
   pub control-keys : keys (view s .controls) ≡ namesFrom (usedOf (s .state) .«control_ids») controlSize controlPlaces (s .state)
-  unfolding view viewBy controlsIn
-  control-keys =
-      names-view controlPlaceOf (λ c. c .«packet_id») (controlEntry limits s) controlSize controlPlaces (usedOf (s .state) .«control_ids»)
-      (s .state) (omega arith) (λ i c. refl) control-name
+  unfolding view viewBy
+  control-keys = control-names s
 
   pub section-keys : keys (view s .store .kept) ≡ namesFrom (usedOf (s .state) .sections) sectionSize sectionPlaces (s .state)
   unfolding view viewBy sectionsIn
   section-keys =
-      names-view sectionPlaceOf (λ x. x .key) (sectionEntry limits s) sectionSize sectionPlaces (usedOf (s .state) .sections) (s .state)
+      names-view sectionPlaceOf (λ x. x .key) (sectionEntry (limitsOf (s .state)) s) sectionSize sectionPlaces (usedOf (s .state) .sections) (s .state)
       (omega arith) (λ i x. refl) section-name
 
 pub stays-sound : (s : Session) (n : ℕ) → n ≤ mostCount → asked (limitsOf (s .state)) (lengthsOf s) ≡ 0 → Exact (limitsOf (s .state)) s

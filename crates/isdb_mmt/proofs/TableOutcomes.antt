@@ -46,6 +46,7 @@ use Rattle.isdb_mmt.specs.declared.table.section.LongSection.the-variant
 use Rattle.isdb_mmt.specs.declared.decoder.place.Found.{Found}
 use Rattle.isdb_mmt.specs.declared.decoder.place.Found.the-variants.{At, Nothing as notFound}
 use Rattle.isdb_mmt.specs.declared.decoder.section.KeptSection.{KeptSection}
+use Rattle.isdb_mmt.proofs.PlacesFor.{map-names, section-name}
 use Rattle.isdb_mmt.proofs.Lent.{names-of, length-places}
 use Rattle.isdb_mmt.proofs.Names.{true-not-false, there, indexIn}
 use Rattle.isdb_mmt.specs.declared.decoder.table_outcome.BodyRead.{BodyRead}
@@ -65,12 +66,8 @@ unfolding indexOf
 length-index n l = length-map (placesFrom n sectionSize 0 l) sectionPlaceOf ∙ length-places sectionSize n 0 l
 
 pub keys-index : (n : ℕ) (l : List ℕ) → keysOf (indexOf n l) ≡ namesFrom n sectionSize 0 l
-unfolding indexOf sectionPlaceOf
-keys-index n l = keys-map (placesFrom n sectionSize 0 l) ∙ names-of sectionSize (omega arith) n 0 l
-  where
-    keys-map : (ps : List (List ℕ)) → keysOf (map sectionPlaceOf ps) ≡ map (λ p. be 4 p 0) ps
-    keys-map [] = refl
-    keys-map (p ∷ ps) = ap (λ (r : List ℕ). be 4 p 0 ∷ r) (keys-map ps)
+unfolding indexOf
+keys-index n l = map-names sectionPlaceOf (λ (k : KeptSection). k .key) section-name (placesFrom n sectionSize 0 l) ∙ names-of sectionSize (omega arith) n 0 l
 
 pub index-at : (n : ℕ) (l : List ℕ) (i : ℕ) → i < n → getD (indexOf n l) i noSection ≡ placeAt l i
 unfolding indexOf placesFrom

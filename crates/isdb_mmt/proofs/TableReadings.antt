@@ -39,8 +39,8 @@ use Rattle.isdb_mmt.specs.declared.decoder.place.Found.{Found}
 use Rattle.isdb_mmt.specs.declared.decoder.place.Found.the-variants.{At, Nothing}
 use Rattle.isdb_mmt.proofs.Guards.{was-both}
 use Rattle.isdb_mmt.proofs.Names.{true-not-false}
-use Rattle.isdb_mmt.proofs.PlacesFor.{none-some}
-use Rattle.isdb_mmt.proofs.MessageLeaves.{control-names, in-table}
+use Rattle.isdb_mmt.proofs.PlacesFor.{control-names, none-some}
+use Rattle.isdb_mmt.proofs.MessageLeaves.{in-table}
 use Rattle.isdb_mmt.proofs.Said.{controlAtPlace, keptEntry, control-found, section-found}
 use Rattle.isdb_mmt.proofs.Readings.{names-told}
 use Rattle.isdb_mmt.proofs.Checks.{sound-session, place-was, section-was, control-was}
