@@ -40,10 +40,9 @@ use Rattle.isdb_mmt.proofs.Outs.{HeldOk, PacketOk, packet-ok}
 use Rattle.isdb_mmt.proofs.PlaceFits.{TableOk, KeptOk, section-place, control-place}
 use Rattle.isdb_mmt.proofs.Storable.{Storable, HasAreas, control-of, asset-next, storable-view, storable-next}
 use Rattle.isdb_mmt.proofs.SoundFits.{media-fits, counters-fit, rows-read}
-use Rattle.isdb_mmt.proofs.PlacesFor.{length-media, length-indexed}
+use Rattle.isdb_mmt.proofs.PlacesFor.{length-controls, length-sections, length-media, length-indexed}
 use Rattle.isdb_mmt.proofs.TableAreas.{AllKept}
 use Rattle.isdb_mmt.proofs.StateWrites.{TablesFit}
-use Rattle.isdb_mmt.proofs.MessageLeaves.{length-controls, length-sections}
 use Rattle.isdb_mmt.proofs.PacketLeaves.{taken, ControlFits, Stores, packet-leaves}
 
 -- ---- lengths, from what is known of a state

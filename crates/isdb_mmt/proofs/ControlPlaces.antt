@@ -5,12 +5,12 @@ use mathlib.Core.Bool.{true, false}
 use mathlib.Core.List.{List, [], _∷_}
 use native.Mathlib.Nat.{add-zero}
 use native.Mathlib.Omega.{arith}
-use lib.ListN.{length, getD, length-set, length-append, length-map}
+use lib.ListN.{length, getD, length-set, length-append}
 use Rattle.isdb_tlv.specs.Guards.{if_then_else_, _<?_}
 use Rattle.isdb_mmt.specs.Decoder.Packet.{Bytes, MessagePacket, message}
-use Rattle.isdb_mmt.specs.Memory.Lent.{part, namesFrom, placesFrom, foundFrom}
-use Rattle.isdb_mmt.specs.Memory.Layout.{controlPlaces, controlSize, sectionPlaces, sectionSize}
-use Rattle.isdb_mmt.specs.Memory.Session.{Session, limitsOf, usedOf, countersOf, controlAt, controlPlaceOf, sectionPlaceOf}
+use Rattle.isdb_mmt.specs.Memory.Lent.{part, namesFrom, foundFrom}
+use Rattle.isdb_mmt.specs.Memory.Layout.{controlPlaces, controlSize}
+use Rattle.isdb_mmt.specs.Memory.Session.{Session, limitsOf, usedOf, countersOf, controlAt, controlPlaceOf}
 use Rattle.isdb_mmt.specs.Memory.Check.{Sound, lengthsOf, controlsIn, controlSound, mediaIn, sectionsIn}
 use Rattle.isdb_mmt.specs.Pushes.Leaves.{withSections, keptOver, latestOver, messageIn, messageAt, messageLeaves, packetLeaves, controlPlaceFor, joinedIn, bytesOver, usedFor}
 use Rattle.isdb_mmt.specs.Pushes.Fragments.{laidBy, areaBy, fragmentOutcome, joinedBy, controlWith, Faults, faultsOf, countedWith, fragmentCounted}
@@ -34,14 +34,13 @@ use Rattle.isdb_mmt.specs.declared.decoder.place.PlaceFor.the-variants.{
 use Rattle.isdb_mmt.specs.declared.decoder.place.Found.the-variants.{At, Nothing}
 use Rattle.isdb_mmt.specs.declared.decoder.messages.Joined.{Joined}
 use Rattle.isdb_mmt.specs.declared.decoder.place.PlaceFor.{PlaceFor}
-use Rattle.isdb_mmt.proofs.Lent.{length-part, length-names, length-places}
+use Rattle.isdb_mmt.proofs.Lent.{length-part, length-names}
 use Rattle.isdb_mmt.proofs.Names.{true-not-false}
 use Rattle.isdb_mmt.proofs.Limits.{passed, in-buffer}
 use Rattle.isdb_mmt.proofs.Checks.{control-was, place-was}
 use Rattle.isdb_mmt.proofs.Counting.{counted-alone}
 use Rattle.isdb_mmt.proofs.Views.{keys, FoundAt, found-at, absent}
-use Rattle.isdb_mmt.proofs.PlacesFor.{controlEntries, control-names, getD-places, place-for-was-old, place-for-was-new, length-indexed, getD-indexed, length-media, place-for-was-full}
-use Rattle.isdb_mmt.proofs.MessageLeaves.{length-controls}
+use Rattle.isdb_mmt.proofs.PlacesFor.{length-sections, length-controls, controlEntries, control-names, getD-places, place-for-was-old, place-for-was-new, length-indexed, getD-indexed, length-media, place-for-was-full}
 use Rattle.isdb_mmt.proofs.Maps.{find-put}
 use Rattle.isdb_mmt.proofs.Fragments.{Does, outcome-does}
 use Rattle.isdb_mmt.proofs.Quiet.{asks-none, asks-kept}
@@ -190,11 +189,8 @@ module _ (s : Session) (ok : Sound (s .state) (s .others) (lengthsOf s)) (x : Me
   length-assets = length-indexed (assetEntry lim s) 0 (mediaIn (s .state)) ∙ length-media (s .state)
 
   pub length-kept : length (v .store .kept) ≡ usedOf (s .state) .sections
-  unfolding view viewBy sectionsIn
-  length-kept =
-      length-indexed (sectionEntry lim s) 0 (sectionsIn (s .state))
-      ∙ length-map (placesFrom (usedOf (s .state) .sections) sectionSize sectionPlaces (s .state)) sectionPlaceOf
-      ∙ length-places sectionSize (usedOf (s .state) .sections) sectionPlaces (s .state)
+  unfolding view viewBy
+  length-kept = length-indexed (sectionEntry lim s) 0 (sectionsIn (s .state)) ∙ length-sections (s .state)
 
   pub controls-more : length (n .controls) ≡ usedOf (s .state) .«control_ids» + k
   unfolding pushed

@@ -47,8 +47,7 @@ use Rattle.isdb_mmt.proofs.Lent.{length-part}
 use Rattle.isdb_mmt.proofs.Checks.{count-was}
 use Rattle.isdb_mmt.proofs.Counting.{countable, state-countable}
 use Rattle.isdb_mmt.proofs.Questions.{asks-zero, asks-places, asks-areas}
-use Rattle.isdb_mmt.proofs.PlacesFor.{length-media, length-indexed}
-use Rattle.isdb_mmt.proofs.MessageLeaves.{length-controls, length-sections}
+use Rattle.isdb_mmt.proofs.PlacesFor.{length-controls, length-sections, length-media, length-indexed}
 use Rattle.isdb_mmt.proofs.Placing.{bytes-sections, sections-placed}
 use Rattle.isdb_mmt.proofs.Committed.{sections-located}
 use Rattle.isdb_mmt.proofs.Loaded.{no-log, met, areas, store-view, held-view, versions-view}

@@ -7,7 +7,7 @@ use mathlib.Core.Option.{Option, none, some}
 use mathlib.Core.List.{List, [], _∷_, _++_, map}
 use native.Mathlib.Nat.{mul-le-mul-right}
 use native.Mathlib.Omega.{arith}
-use lib.ListN.{length, getD, set, length-append, length-set, length-map}
+use lib.ListN.{length, getD, set, length-append, length-set}
 use Rattle.isdb_tlv.specs.Fields.{written, Fit}
 use Rattle.isdb_tlv.proofs.Fields.{length-written}
 use Rattle.isdb_tlv.proofs.Guards.{either}
@@ -17,9 +17,9 @@ use Rattle.isdb_mmt.specs.Decoder.Objects.{Asset}
 use Rattle.isdb_mmt.specs.Decoder.Reassembly.{PartialMessage}
 use Rattle.isdb_mmt.specs.Decoder.Model.{State, Control as ControlState, idleControl}
 use Rattle.isdb_mmt.specs.Decoder.Needs.{partialLength}
-use Rattle.isdb_mmt.specs.Memory.Layout.{controlPlaces, controlSize, mediaPlaces, mostMediaIds, mostControlIds, mostSections, stateSize, sectionPlaces, sectionSize}
-use Rattle.isdb_mmt.specs.Memory.Lent.{part, placesFrom, namesFrom, foundFrom, indexed}
-use Rattle.isdb_mmt.specs.Memory.Session.{Session, limitsOf, usedOf, latestOf, timeOf, countersOf, controlPlaceOf, sectionPlaceOf, controlFields}
+use Rattle.isdb_mmt.specs.Memory.Layout.{controlPlaces, controlSize, mediaPlaces, mostMediaIds, mostControlIds, mostSections, stateSize, sectionPlaces}
+use Rattle.isdb_mmt.specs.Memory.Lent.{part, namesFrom, foundFrom, indexed}
+use Rattle.isdb_mmt.specs.Memory.Session.{Session, limitsOf, usedOf, latestOf, timeOf, countersOf, controlFields}
 use Rattle.isdb_mmt.specs.Memory.Check.{mediaIn, controlsIn, sectionsIn, controlSound, lengthsOf, Sound}
 use Rattle.isdb_mmt.specs.Memory.View.{given, controlStateOf, assetEntry, controlEntry, sectionEntry, keptTableAt, viewBy, view}
 use Rattle.isdb_mmt.specs.Memory.Opening.{lent}
@@ -33,13 +33,13 @@ use Rattle.isdb_mmt.specs.declared.decoder.head.Used.{Used}
 use Rattle.isdb_mmt.specs.declared.decoder.head.Latest.{Latest}
 use Rattle.isdb_mmt.specs.declared.decoder.head.Time.{Time}
 use Rattle.isdb_mmt.specs.declared.decoder.control.Control.{Control}
-use Rattle.isdb_mmt.proofs.Lent.{length-over, part-over, length-places, length-names}
+use Rattle.isdb_mmt.proofs.Lent.{length-over, part-over, length-names}
 use Rattle.isdb_mmt.proofs.Stored.{apart, limits-own, time-own}
 use Rattle.isdb_mmt.proofs.Sessions.{Sort, media, controls, sections, inUse, named, place-set, place-new, place-apart, used-apart}
 use Rattle.isdb_mmt.proofs.Views.{keys, FoundAt, found-at, absent, indexed-set, indexed-snoc, indexed-same}
 use Rattle.isdb_mmt.proofs.Limits.{passed, Passed, whole-area}
 use Rattle.isdb_mmt.proofs.Checks.{control-was}
-use Rattle.isdb_mmt.proofs.PlacesFor.{controlEntries, control-names, length-media, place-for-was-old, place-for-was-new, length-indexed, every-at, set-indexed}
+use Rattle.isdb_mmt.proofs.PlacesFor.{length-controls, controlEntries, control-names, length-media, place-for-was-old, place-for-was-new, length-indexed, every-at, set-indexed}
 use Rattle.isdb_mmt.proofs.TableAreas.{length-laid, laid-apart, laid, length-kept, kept-apart, Lie, kept-lie, lie-on, lie-read}
 use Rattle.isdb_mmt.proofs.StateWrites.{used-other, TablesFit, used-fits, length-tables, limits-tables, latest-tables, time-tables, counters-tables, used-tables, others-tables, sections-tables, latest-read, limits-latest, time-latest, counters-latest, places-latest}
 use Rattle.isdb_mmt.proofs.MediaLeaves.{given-back}
@@ -79,18 +79,6 @@ says s s′ n h =
       time = h .time i;
       counters = (h .counters i);
     })
-
--- ---- lengths of the lists in use
-
-pub length-controls : (l : List ℕ) → length (controlsIn l) ≡ usedOf l .«control_ids»
-unfolding controlsIn
-length-controls l =
-    length-map (placesFrom (usedOf l .«control_ids») controlSize controlPlaces l) controlPlaceOf ∙ length-places controlSize (usedOf l .«control_ids») controlPlaces l
-
-pub length-sections : (l : List ℕ) → length (sectionsIn l) ≡ usedOf l .sections
-unfolding sectionsIn
-length-sections l =
-    length-map (placesFrom (usedOf l .sections) sectionSize sectionPlaces l) sectionPlaceOf ∙ length-places sectionSize (usedOf l .sections) sectionPlaces l
 
 -- ---- a control place
 

@@ -40,10 +40,10 @@ use Rattle.isdb_mmt.proofs.Maps.{find-put}
 use Rattle.isdb_mmt.proofs.Stored.{apart, limits-own, latest-own, time-own, counters-back, time-back}
 use Rattle.isdb_mmt.proofs.Sessions.{Sort, media as mediaSort, controls as controlSort, sections as sectionSort, inUse, named, place-apart, used-apart}
 use Rattle.isdb_mmt.proofs.Views.{keys, found-at, absent}
-use Rattle.isdb_mmt.proofs.PlacesFor.{controlEntries, control-names, place-for-was-old, place-for-was-new, place-for-was-full, length-indexed}
+use Rattle.isdb_mmt.proofs.PlacesFor.{length-controls, controlEntries, control-names, place-for-was-old, place-for-was-new, place-for-was-full, length-indexed}
 use Rattle.isdb_mmt.proofs.StateWrites.{TablesFit}
 use Rattle.isdb_mmt.proofs.MediaLeaves.{media-leaves}
-use Rattle.isdb_mmt.proofs.MessageLeaves.{Says, says, length-controls, control-says, message-old, message-new}
+use Rattle.isdb_mmt.proofs.MessageLeaves.{Says, says, control-says, message-old, message-new}
 
 -- ---- the questions, each by itself
 

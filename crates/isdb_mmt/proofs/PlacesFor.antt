@@ -14,9 +14,9 @@ use Rattle.isdb_tlv.proofs.Guards.{either}
 use Rattle.isdb_mmt.specs.Decoder.Objects.{Asset}
 use Rattle.isdb_mmt.specs.Decoder.Model.{Control as ControlState}
 use Rattle.isdb_mmt.specs.Memory.Lent.{part, placesFrom, namesFrom, foundFrom, placeForFound, placeForName, every, indexed}
-use Rattle.isdb_mmt.specs.Memory.Layout.{mediaPlaces, mediaSize, controlPlaces, controlSize}
+use Rattle.isdb_mmt.specs.Memory.Layout.{mediaPlaces, mediaSize, controlPlaces, controlSize, sectionPlaces, sectionSize}
 use Rattle.isdb_mmt.specs.Memory.Session.{Session, limitsOf, usedOf, mediaPlaceOf, controlPlaceOf, sectionPlaceOf}
-use Rattle.isdb_mmt.specs.Memory.Check.{mediaIn, controlsIn}
+use Rattle.isdb_mmt.specs.Memory.Check.{mediaIn, controlsIn, sectionsIn}
 use Rattle.isdb_mmt.specs.Memory.View.{assetEntry, controlEntry}
 use Rattle.isdb_mmt.specs.declared.decoder.place.Found.{Found}
 use Rattle.isdb_mmt.specs.declared.decoder.place.Found.the-variants.{At, Nothing}
@@ -64,6 +64,16 @@ place-for-was-full names limit x e = go (foundFrom 0 names x) e
 pub length-media : (l : List ℕ) → length (mediaIn l) ≡ usedOf l .«media_ids»
 unfolding mediaIn
 length-media l = length-map (placesFrom (usedOf l .«media_ids») mediaSize mediaPlaces l) mediaPlaceOf ∙ length-places mediaSize (usedOf l .«media_ids») mediaPlaces l
+
+pub length-controls : (l : List ℕ) → length (controlsIn l) ≡ usedOf l .«control_ids»
+unfolding controlsIn
+length-controls l =
+    length-map (placesFrom (usedOf l .«control_ids») controlSize controlPlaces l) controlPlaceOf ∙ length-places controlSize (usedOf l .«control_ids») controlPlaces l
+
+pub length-sections : (l : List ℕ) → length (sectionsIn l) ≡ usedOf l .sections
+unfolding sectionsIn
+length-sections l =
+    length-map (placesFrom (usedOf l .sections) sectionSize sectionPlaces l) sectionPlaceOf ∙ length-places sectionSize (usedOf l .sections) sectionPlaces l
 
 pub length-indexed : {A B : Type 0} (g : ℕ → A → B) (k : ℕ) (xs : List A) → length (indexed g k xs) ≡ length xs
 unfolding indexed

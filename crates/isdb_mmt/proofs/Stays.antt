@@ -3,19 +3,19 @@
 use Prim.Native.Nat.{ℕ, zero, suc, _+_, _*_, _≤_, _<_}
 use mathlib.Core.Path.{_≡_, refl, _∙_}
 use mathlib.Core.Bool.{Bool, true, false}
-use mathlib.Core.List.{List, [], _∷_, _++_, map}
+use mathlib.Core.List.{List, [], _∷_, _++_}
 use native.Mathlib.Omega.{arith}
-use lib.ListN.{length, getD, set, length-map}
+use lib.ListN.{length, getD, set}
 use native.Mathlib.Nat.{add-zero}
 use borrow.Author.Tests.{le-leb, leb-true}
 use Rattle.isdb_mmt.specs.Decoder.Packet.{Bytes}
 use Rattle.isdb_mmt.specs.Decoder.Objects.{Mfu}
 use Rattle.isdb_mmt.specs.Decoder.Reassembly.{PartialMessage}
 use Rattle.isdb_mmt.specs.Decoder.Needs.{heldLength}
-use Rattle.isdb_mmt.specs.Memory.Lent.{part, placesFrom, namesFrom, every, indexed}
+use Rattle.isdb_mmt.specs.Memory.Lent.{part, namesFrom, every, indexed}
 use Rattle.isdb_mmt.specs.Memory.Limits.{asked}
 use Rattle.isdb_mmt.specs.Memory.Layout.{mostCount, mediaPlaces, mediaSize, controlPlaces, controlSize, sectionPlaces, sectionSize}
-use Rattle.isdb_mmt.specs.Memory.Session.{Session, limitsOf, usedOf, latestOf, countersOf, mediaPlaceOf, controlPlaceOf, sectionPlaceOf}
+use Rattle.isdb_mmt.specs.Memory.Session.{Session, limitsOf, usedOf, latestOf, countersOf, sectionPlaceOf}
 use Rattle.isdb_mmt.specs.Memory.Check.{countFits, lengthFits, mediaSound, controlSound, sectionSound, mediaIn, controlsIn, sectionsIn, sound, lengthsOf, Sound}
 use Rattle.isdb_mmt.specs.Memory.View.{given, mfuOf, assetOfPlace, controlStateOf, assetEntry, controlEntry, sectionEntry, viewBy, view}
 use Rattle.isdb_mmt.specs.declared.decoder.limits.Limits.{Limits}
@@ -23,7 +23,7 @@ use Rattle.isdb_mmt.specs.declared.decoder.media.Media.{Media}
 use Rattle.isdb_mmt.specs.declared.decoder.control.Control.{Control}
 use Rattle.isdb_mmt.specs.declared.decoder.section.KeptSection.{KeptSection}
 use Rattle.isdb_mmt.proofs.Names.{true-not-false}
-use Rattle.isdb_mmt.proofs.Lent.{length-part, length-places}
+use Rattle.isdb_mmt.proofs.Lent.{length-part}
 use Rattle.isdb_mmt.proofs.Views.{keys}
 use Rattle.isdb_mmt.proofs.Limits.{passed, in-buffer}
 use Rattle.isdb_mmt.proofs.Checks.{media-is, control-is, is-sound, was-there}
@@ -34,7 +34,7 @@ use Rattle.isdb_mmt.proofs.Named.{Named}
 use Rattle.isdb_mmt.proofs.Joins.{JoinFits}
 use Rattle.isdb_mmt.proofs.PlaceFits.{TableOk, KeptOk, ControlOk}
 use Rattle.isdb_mmt.proofs.Storable.{MediaFits, ReassemblyFits, Storable}
-use Rattle.isdb_mmt.proofs.PlacesFor.{length-indexed, names-view, section-name, entry-names, control-names}
+use Rattle.isdb_mmt.proofs.PlacesFor.{length-media, length-controls, length-sections, length-indexed, names-view, section-name, entry-names, control-names}
 
 -- of each place with its index
 module _ {A : Type 0} (E : ℕ → A → Type 0) where
@@ -88,10 +88,6 @@ every-is : {A B : Type 0} (g : ℕ → A → ℕ × B) (f : A → Bool) (P : ℕ
 unfolding indexed every
 every-is g f P E h [] i a b = refl
 every-is g f P E h (x ∷ xs) i a b = rw (h i x (a .0) (b .0), every-is g f P E h xs (i + 1) (a .1) (b .1))
-
-module _ {A B : Type 0} (of : Bytes → A) (name : A → ℕ) (g : ℕ → A → ℕ × B) (size at n : ℕ) (l : Bytes) where
-  pub length-view : length (indexed g 0 (map of (placesFrom n size at l))) ≡ n
-  length-view = length-indexed g 0 (map of (placesFrom n size at l)) ∙ length-map (placesFrom n size at l) of ∙ length-places size n at l
 
 -- ---- one place
 
@@ -179,13 +175,12 @@ pub stays-sound : (s : Session) (n : ℕ) → n ≤ mostCount → asked (limitsO
 unfolding sound view viewBy mediaIn controlsIn sectionsIn
 stays-sound s n big a e h w =
     let l = limitsOf (s .state) in
-    let u = usedOf (s .state) in
     let p = passed l (lengthsOf s) a in
     let c = h .counters in
     let x = countersOf (s .state) in
-    let m1 = length-view mediaPlaceOf (λ m. m .«packet_id») (assetEntry l s) mediaSize mediaPlaces (u .«media_ids») (s .state) in
-    let m2 = length-view controlPlaceOf (λ m. m .«packet_id») (controlEntry l s) controlSize controlPlaces (u .«control_ids») (s .state) in
-    let m3 = length-view sectionPlaceOf (λ m. m .key) (sectionEntry l s) sectionSize sectionPlaces (u .sections) (s .state) in
+    let m1 = length-indexed (assetEntry l s) 0 (mediaIn (s .state)) ∙ length-media (s .state) in
+    let m2 = length-indexed (controlEntry l s) 0 (controlsIn (s .state)) ∙ length-controls (s .state) in
+    let m3 = length-indexed (sectionEntry l s) 0 (sectionsIn (s .state)) ∙ length-sections (s .state) in
     is-sound (s .state) (s .others) (lengthsOf s)
     (record {
       limits = a;
@@ -237,11 +232,10 @@ pub exact-was : (s : Session) → Sound (s .state) (s .others) (lengthsOf s) →
 unfolding mediaSound controlSound mediaIn controlsIn sectionsIn
 exact-was s q =
     let l = limitsOf (s .state) in
-    let u = usedOf (s .state) in
     let p = passed l (lengthsOf s) (q .limits) in
-    let m1 = length-map (placesFrom (u .«media_ids») mediaSize mediaPlaces (s .state)) mediaPlaceOf ∙ length-places mediaSize (u .«media_ids») mediaPlaces (s .state) in
-    let m2 = length-map (placesFrom (u .«control_ids») controlSize controlPlaces (s .state)) controlPlaceOf ∙ length-places controlSize (u .«control_ids») controlPlaces (s .state) in
-    let m3 = length-map (placesFrom (u .sections) sectionSize sectionPlaces (s .state)) sectionPlaceOf ∙ length-places sectionSize (u .sections) sectionPlaces (s .state) in
+    let m1 = length-media (s .state) in
+    let m2 = length-controls (s .state) in
+    let m3 = length-sections (s .state) in
     record {
       media =
           placed-all (mediaSound l) (mediaThere l s) (l .«media_ids»)
