@@ -20,6 +20,7 @@ use Rattle.isdb_tlv.specs.Fields.{written}
 use Rattle.isdb_tlv.proofs.Fields.{length-written}
 use Rattle.isdb_mmt.specs.declared.decoder.section.KeptSection.{KeptSection}
 use Rattle.isdb_mmt.specs.Pushes.TableOutcome.{placeAt, indexOf}
+use Rattle.isdb_mmt.proofs.Limits.{areas-next}
 use Rattle.isdb_mmt.proofs.Lent.{length-over, over-next, over-same}
 use Rattle.isdb_mmt.proofs.Views.{area-apart}
 use Rattle.isdb_mmt.specs.Pushes.PendingTables.{Logged, logged, withLog, bytesAt, committedEntry, committedRecent}
@@ -62,12 +63,6 @@ module _ (area : ℕ) (m : Bytes) where
         (ap (λ k. part (j * area) n (over k bs t)) (sym (add-zero (i * area)))
         ∙ area-apart area t bs i 0 (omega (arith, f .small)) w j n d b))
 
-  room-next : (i : ℕ) (es : List Logged) (n : ℕ) → (i + suc (length es)) * area ≤ n → ((i + 1) * area ≤ n) × ((i + 1 + length es) * area ≤ n)
-  room-next i es n h =
-      let k : (i + 1) * area ≤ (i + suc (length es)) * area = mul-le-mul-right area (omega arith) in
-      let e : i + 1 + length es ≡ i + suc (length es) = omega arith in
-      (omega arith, rw e h)
-
   -- a table that lies in its area is laid there again by nothing
   one-laid : (i : ℕ) (e : Logged) → EntryFits area m e → (t₀ t : Bytes) → (i + 1) * area ≤ length t
       → part (i * area) (e .place .length) t ≡ part (i * area) (e .place .length) t₀
@@ -84,7 +79,7 @@ module _ (area : ℕ) (m : Bytes) where
   unfolding putTables keptOver indexed
   put-is [] i t₀ t f w h = refl
   put-is (e ∷ es) i t₀ t f w h =
-      let r = room-next i es (length t) w in
+      let r = areas-next i (length es) area (length t) w in
       let t1 : Bytes = putOne (i * area) e m t in
       let l : length t1 ≡ length t = one-length i e (f .0) t (r .0) in
       let q : t1 ≡ over (i * area) (bytesAt m t₀ (i * area) (e .from) (e .place .length)) t =
@@ -98,7 +93,7 @@ module _ (area : ℕ) (m : Bytes) where
   unfolding putTables
   put-length [] i t f w = refl
   put-length (e ∷ es) i t f w =
-      let r = room-next i es (length t) w in
+      let r = areas-next i (length es) area (length t) w in
       let l : length (putOne (i * area) e m t) ≡ length t = one-length i e (f .0) t (r .0) in
       put-length es (i + 1) (putOne (i * area) e m t) (f .1) (omega (arith, r .1)) ∙ l
 
@@ -107,7 +102,7 @@ module _ (area : ℕ) (m : Bytes) where
   unfolding putTables
   put-apart [] i t f w j n h b = refl
   put-apart (e ∷ es) i t f w j n h b =
-      let r = room-next i es (length t) w in
+      let r = areas-next i (length es) area (length t) w in
       let l : length (putOne (i * area) e m t) ≡ length t = one-length i e (f .0) t (r .0) in
       put-apart es (i + 1) (putOne (i * area) e m t) (f .1) (omega (arith, r .1)) j n (omega arith) b
       ∙ one-apart i e (f .0) t (r .0) j n (λ q. absurd (omega arith)) b

@@ -4,7 +4,7 @@ use mathlib.Core.Path.{_≡_, refl, sym, ap, _∙_}
 use mathlib.Core.Bool.{true}
 use mathlib.Core.List.{List, [], _∷_, _++_, map, append-nil}
 use native.Mathlib.Omega.{arith}
-use native.Mathlib.Nat.{zero-add, mul-le-mul-right}
+use native.Mathlib.Nat.{zero-add}
 use lib.Dec.{eqb}
 use lib.ListN.{length, getD, take, drop, length-drop}
 use lib.Seq.{getD-drop, take-all, take-add, take-suc, drop-drop}
@@ -30,6 +30,7 @@ use Rattle.isdb_mmt.specs.declared.decoder.walk.WalkState.{WalkState}
 use Rattle.isdb_mmt.specs.Decoder.Kept.{withTableCounts}
 use Rattle.isdb_mmt.specs.declared.decoder.counts.Counters.{Counters}
 use Rattle.isdb_mmt.proofs.Lent.{length-part}
+use Rattle.isdb_mmt.proofs.Limits.{areas-next}
 use Rattle.isdb_mmt.proofs.Brief.{octets-part}
 use Rattle.isdb_mmt.proofs.Applied.{log-places}
 
@@ -96,11 +97,10 @@ module _ (m t : Bytes) (area : ℕ) where
   unfolding sectionRows indexed
   rows-of [] i f w = refl
   rows-of (e ∷ es) i f w =
-      let k : (i + 1) * area ≤ (i + suc (length es)) * area = mul-le-mul-right area (omega arith) in
-      let z : i + 1 + length es ≡ i + suc (length es) = omega arith in
-      let n : length (bytesAt m t (i * area) (e .from) (e .place .length)) ≡ e .place .length = entry-long i e (f .0) (omega arith) in
+      let q = areas-next i (length es) area (length t) w in
+      let n : length (bytesAt m t (i * area) (e .from) (e .place .length)) ≡ e .place .length = entry-long i e (f .0) (q .0) in
       ap (λ n. written (sectionFields (record { key = e .place .key; version = e .place .version; length = n })) ++ sectionRows (indexed (committedEntry m t area) (i + 1) es)) n
-      ∙ ap (λ (l : Bytes). written (sectionFields (e .place)) ++ l) (rows-of es (i + 1) (f .1) (rw z w))
+      ∙ ap (λ (l : Bytes). written (sectionFields (e .place)) ++ l) (rows-of es (i + 1) (f .1) (q .1))
 
   pub rows-are : (ix log : List ℕ) → Octets ix → (used : ℕ) → sectionSize * used ≤ length ix → AllFit area m (withLog (indexOf used ix) log)
       → used * area ≤ length t → length (withLog (indexOf used ix) log) ≡ used

@@ -1,6 +1,6 @@
 -- Laws of limits: what passing questions 1 to 4 says, and that the lengths which limits in range need fit 64 bits.
 -- Assumes nothing.
-use Prim.Native.Nat.{ℕ, _+_, _*_, _≤_, _<_}
+use Prim.Native.Nat.{ℕ, suc, _+_, _*_, _≤_, _<_}
 use mathlib.Core.Path.{_≡_, sym, ap, _∙_}
 use mathlib.Core.Bool.{true}
 use native.Mathlib.Nat.{mul-le-mul, mul-le-mul-right}
@@ -61,6 +61,10 @@ whole-area i k area m b w = let q : (i + 1) * area ≤ k * area = mul-le-mul-rig
 
 pub in-buffer : (i n area m k : ℕ) → n ≤ area → i < k → k * area ≤ m → i * area + n ≤ m
 in-buffer i n area m k h b w = omega (arith, whole-area i k area m b w)
+
+-- of one area and `k` more: the one, and the others
+pub areas-next : (i k area m : ℕ) → (i + suc k) * area ≤ m → ((i + 1) * area ≤ m) × ((i + 1 + k) * area ≤ m)
+areas-next i k area m w = let e : i + 1 + k ≡ i + suc k = omega arith in (whole-area i (i + suc k) area m (omega arith) w, rw e w)
 
 -- questions 1 to 4, of limits with the lengths that are lent
 pub record Passed (l : Limits) (lent : Lengths) : Type 0 where

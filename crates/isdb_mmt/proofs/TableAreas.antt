@@ -1,10 +1,10 @@
 -- Section places and the areas of tables, written and read back. Assumes nothing.
-use Prim.Native.Nat.{ℕ, suc, _+_, _*_, _≤_, _<_}
+use Prim.Native.Nat.{ℕ, _+_, _*_, _≤_, _<_}
 use mathlib.Core.Path.{_≡_, refl, sym, ap, _∙_}
 use mathlib.Core.Logic.{_⊎_, inl, inr, ⊎-elim}
 use mathlib.Core.Option.{Option, none, some}
 use mathlib.Core.List.{List, [], _∷_, _++_, map, append-assoc}
-use native.Mathlib.Nat.{add-zero, mul-le-mul-right}
+use native.Mathlib.Nat.{add-zero}
 use native.Mathlib.Omega.{arith}
 use lib.ListN.{length, take, length-append}
 use lib.Seq.{drop-append-seam, take-at}
@@ -21,6 +21,7 @@ use Rattle.isdb_mmt.specs.Memory.PlacesOf.{tableLength}
 use Rattle.isdb_mmt.specs.Pushes.Leaves.{keptPlace, sectionRows, bytesOver, keptOver}
 use Rattle.isdb_mmt.specs.declared.decoder.section.KeptSection.{KeptSection}
 use Rattle.isdb_mmt.proofs.Lent.{length-over, part-over}
+use Rattle.isdb_mmt.proofs.Limits.{areas-next}
 use Rattle.isdb_mmt.proofs.Stored.{section-back}
 use Rattle.isdb_mmt.proofs.Views.{area-apart}
 
@@ -98,10 +99,9 @@ module _ (area : ℕ) where
   length-kept [] i t f w = refl
   length-kept (e ∷ es) i t f w =
       let b : Bytes = e .1 .bytes in
-      let k : (i + 1) * area ≤ (i + suc (length es)) * area = mul-le-mul-right area (omega arith) in
-      let z : i + 1 + length es ≡ i + suc (length es) = omega arith in
+      let q = areas-next i (length es) area (length t) w in
       let n : length (over (i * area) b t) ≡ length t = length-over (i * area) b t (omega (arith, f .0 .short)) in
-      length-kept es (i + 1) (over (i * area) b t) (f .1) (rw (z, n) w) ∙ n
+      length-kept es (i + 1) (over (i * area) b t) (f .1) (rw n (q .1)) ∙ n
 
   -- other areas keep their bytes
   pub kept-apart : (es : List (ℕ × Kept)) (i : ℕ) (t : Bytes) → AllKept area es → (i + length es) * area ≤ length t → (j m : ℕ)
@@ -110,14 +110,13 @@ module _ (area : ℕ) where
   kept-apart [] i t f w j m d h = refl
   kept-apart (e ∷ es) i t f w j m d h =
       let b : Bytes = e .1 .bytes in
-      let k : (i + 1) * area ≤ (i + suc (length es)) * area = mul-le-mul-right area (omega arith) in
-      let z : i + 1 + length es ≡ i + suc (length es) = omega arith in
+      let q = areas-next i (length es) area (length t) w in
       let n : length (over (i * area) b t) ≡ length t = length-over (i * area) b t (omega (arith, f .0 .short)) in
       let ne : j ≡ i → ⊥ = λ q. ⊎-elim (λ x. omega arith) (λ x. omega arith) d in
       let a : part (j * area) m (over (i * area) b t) ≡ part (j * area) m t =
       rw (add-zero (i * area)) at (area-apart area t b i 0 (omega (arith, f .0 .short)) (omega arith) j m ne h) in
       let d′ : (j < i + 1) ⊎ (i + 1 + length es ≤ j) = ⊎-elim (λ x. inl (omega arith)) (λ x. inr (omega arith)) d in
-      kept-apart es (i + 1) (over (i * area) b t) (f .1) (rw (z, n) w) j m d′ h ∙ a
+      kept-apart es (i + 1) (over (i * area) b t) (f .1) (rw n (q .1)) j m d′ h ∙ a
 
   -- each lies in its area
   abbrev pub Lie : Bytes → ℕ → List (ℕ × Kept) → Type 0
@@ -129,10 +128,9 @@ module _ (area : ℕ) where
   kept-lie [] i t f w = tt
   kept-lie (e ∷ es) i t f w =
       let b : Bytes = e .1 .bytes in
-      let k : (i + 1) * area ≤ (i + suc (length es)) * area = mul-le-mul-right area (omega arith) in
-      let z : i + 1 + length es ≡ i + suc (length es) = omega arith in
+      let q = areas-next i (length es) area (length t) w in
       let n : length (over (i * area) b t) ≡ length t = length-over (i * area) b t (omega (arith, f .0 .short)) in
-      let w′ : (i + 1 + length es) * area ≤ length (over (i * area) b t) = rw (z, n) w in (
+      let w′ : (i + 1 + length es) * area ≤ length (over (i * area) b t) = rw n (q .1) in (
         kept-apart es (i + 1) (over (i * area) b t) (f .1) w′ i (length b) (inl (omega arith)) (f .0 .short)
             ∙ part-over (i * area) b t (omega (arith, f .0 .short)),
         kept-lie es (i + 1) (over (i * area) b t) (f .1) w′,
