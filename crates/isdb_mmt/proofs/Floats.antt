@@ -5,7 +5,7 @@ use Prim.Native.Nat.{ℕ, _+_, _-_, _*_, _/_, _%_, _^_, _≤_, _<_}
 use native.Mathlib.Nat.{mul-assoc, mul-comm, mul-right-comm, add-mul, mul-pos, mul-one, mul-sub, lt-of-lt-of-le, lt-of-mul-lt-mul-right, le-of-mul-le-mul-right, mul-lt-mul-of-pos-right, mul-le-mul-right}
 use lib.Pow.{shl-lt}
 use native.Mathlib.Omega.{arith}
-use lib.IntN.{pos}
+use lib.IntN.{ℤ, pos}
 use lib.Dec.{ltb, lit≤}
 use lib.Count.{trailingZeros}
 use borrow.Author.Tests.{lt-ltb, le-ltb, ltb-true, ltb-false}
@@ -81,32 +81,33 @@ module _ (p q u a b : ℕ) (pos-u : 0 < u) (vp : p * 2 ^ 32 ≡ a * u) (vq : q *
           (round-same binary64 false (p - q) u (a - b) (2 ^ 32) pos-u (omega arith)
           (sub-mul p q (2 ^ 32) ∙ ap₂ (λ (x y : ℕ). x - y) vp vq ∙ sym (sub-mul a b u)))
 
--- two numbers of units
+-- two numbers of units: both are finite, and stand over one denominator
 module _ (a b : ℕ) where
+  both-finite : (P : Float → Float → Type 0)
+      → ((m n : ℕ) (e d : ℤ) → m * up e * down d * 2 ^ 32 ≡ a * (down e * down d) → n * up d * down e * 2 ^ 32 ≡ b * (down e * down d) → P (fin false m e) (fin false n d))
+      → (x y : Float) → HasValue x false a (2 ^ 32) → HasValue y false b (2 ^ 32) → P x y
+  both-finite P f nan y v w = absurd v
+  both-finite P f (inf t) y v w = absurd v
+  both-finite P f (fin s m e) nan v w = absurd w
+  both-finite P f (fin s m e) (inf t) v w = absurd w
+  both-finite P f (fin s m e) (fin t n d) v w =
+      rw (v .0, w .0)
+      (f m n e d (lift (m * up e) (2 ^ 32) a (down e) (down d) (v .1))
+      (lift (n * up d) (2 ^ 32) b (down d) (down e) (w .1) ∙ ap (λ (k : ℕ). b * k) (mul-comm (down d) (down e))))
+
   total : (x y : Float) → HasValue x false a (2 ^ 32) → HasValue y false b (2 ^ 32) → add binary64 x y ≡ round binary64 false (a + b) (2 ^ 32)
   unfolding add sum
-  total nan y v w = absurd v
-  total (inf t) y v w = absurd v
-  total (fin s m e) nan v w = absurd w
-  total (fin s m e) (inf t) v w = absurd w
-  total (fin s m e) (fin t n d) v w =
-      let va = lift (m * up e) (2 ^ 32) a (down e) (down d) (v .1) in
-      let vb = lift (n * up d) (2 ^ 32) b (down d) (down e) (w .1) ∙ ap (λ (k : ℕ). b * k) (mul-comm (down d) (down e)) in
-      rw (v .0, w .0)
-      (round-same binary64 false (m * up e * down d + n * up d * down e) (down e * down d) (a + b) (2 ^ 32) (mul-pos (down-pos e) (down-pos d)) (omega arith)
+  total =
+      both-finite (λ x y. add binary64 x y ≡ round binary64 false (a + b) (2 ^ 32)) (λ m n e d va vb.
+      round-same binary64 false (m * up e * down d + n * up d * down e) (down e * down d) (a + b) (2 ^ 32) (mul-pos (down-pos e) (down-pos d)) (omega arith)
       (add-mul (m * up e * down d) (n * up d * down e) (2 ^ 32) ∙ ap₂ (λ (x y : ℕ). x + y) va vb ∙ sym (add-mul a b (down e * down d))))
 
   less : (x y : Float) → HasValue x false a (2 ^ 32) → HasValue y false b (2 ^ 32)
       → sub binary64 x y ≡ cond (ltb a b) (round binary64 true (b - a) (2 ^ 32)) (round binary64 false (a - b) (2 ^ 32))
   unfolding sub add neg sum
-  less nan y v w = absurd v
-  less (inf t) y v w = absurd v
-  less (fin s m e) nan v w = absurd w
-  less (fin s m e) (inf t) v w = absurd w
-  less (fin s m e) (fin t n d) v w =
-      let va = lift (m * up e) (2 ^ 32) a (down e) (down d) (v .1) in
-      let vb = lift (n * up d) (2 ^ 32) b (down d) (down e) (w .1) ∙ ap (λ (k : ℕ). b * k) (mul-comm (down d) (down e)) in
-      rw (v .0, w .0) (differ (m * up e * down d) (n * up d * down e) (down e * down d) a b (mul-pos (down-pos e) (down-pos d)) va vb)
+  less =
+      both-finite (λ x y. sub binary64 x y ≡ cond (ltb a b) (round binary64 true (b - a) (2 ^ 32)) (round binary64 false (a - b) (2 ^ 32))) (λ m n e d va vb.
+      differ (m * up e * down d) (n * up d * down e) (down e * down d) a b (mul-pos (down-pos e) (down-pos d)) va vb)
 
 pub exact : (t : ℕ) → t < 2 ^ 64 → t % 2048 ≡ 0 → Exact t (ntpToUnix t)
 unfolding ntpToUnix
