@@ -20,7 +20,7 @@ use Rattle.isdb_tlv.specs.Fields.{written}
 use Rattle.isdb_tlv.proofs.Fields.{length-written}
 use Rattle.isdb_mmt.specs.declared.decoder.section.KeptSection.{KeptSection}
 use Rattle.isdb_mmt.specs.Pushes.TableOutcome.{placeAt, indexOf}
-use Rattle.isdb_mmt.proofs.Limits.{areas-next}
+use Rattle.isdb_mmt.proofs.Limits.{whole-area, areas-next}
 use Rattle.isdb_mmt.proofs.Lent.{length-over, over-next, over-same}
 use Rattle.isdb_mmt.proofs.Views.{area-apart}
 use Rattle.isdb_mmt.specs.Pushes.PendingTables.{Logged, logged, withLog, bytesAt, committedEntry, committedRecent}
@@ -287,9 +287,8 @@ store-can tables ix log used area m few logs room f =
 pub areas-mpt : (t ix log : List ℕ) (g : WalkState) (l : Limits) (i : ℕ) (m : Bytes) → CanStoreAreas t ix log g l i m → (n k : ℕ) (t3 : List ℕ)
     → n ≡ length t → k ≡ n → length t3 ≡ k → CanStoreRecent t3 (g .mpt) (l .sections + i) (l .«table_area») m
 areas-mpt t ix log g l i m can n k t3 e1 e2 e3 =
-    let q : (l .sections + i + 1) * l .«table_area» ≤ (l .sections + l .«control_ids» + 2) * l .«table_area» =
-    mul-le-mul-right (l .«table_area») (omega (arith, can .place)) in
-    record { room = omega (arith, can .room); small = can .mpt }
+    let q = whole-area (l .sections + i) (l .sections + l .«control_ids» + 2) (l .«table_area») (length t) (omega (arith, can .place)) (can .room) in
+    record { room = omega arith; small = can .mpt }
 
 pub areas-done : (t ix log : List ℕ) (g : WalkState) (l : Limits) (i : ℕ) (m : Bytes) (t1 t2 t3 t4 : List ℕ)
     → t1 ≡ putTables (l .«table_area») 0 (loggedFrom (g .used) 0 ix log) m t

@@ -4,7 +4,6 @@ use mathlib.Core.Path.{_≡_, ap, _∙_}
 use mathlib.Core.Bool.{Bool}
 use mathlib.Core.List.{List, _++_}
 use native.Mathlib.Omega.{arith}
-use native.Mathlib.Nat.{mul-le-mul-right}
 use lib.ListN.{length, take, drop, replicate, length-take}
 use mir.Syntax.{w32, w64}
 use mir.Val.{Fits}
@@ -30,6 +29,7 @@ use Rattle.isdb_mmt.specs.declared.decoder.head.Used.{Used}
 use Rattle.isdb_mmt.specs.declared.decoder.head.Latest.{Latest}
 use Rattle.isdb_mmt.specs.declared.decoder.control.Control.{Control}
 use Rattle.isdb_mmt.specs.declared.decoder.walk.WalkState.{WalkState}
+use Rattle.isdb_mmt.proofs.Limits.{whole-area}
 use Rattle.isdb_mmt.proofs.Lent.{length-over}
 
 -- ---- the questions
@@ -86,9 +86,7 @@ module _ (state others joined tables ix log mine : List ℕ) (i : ℕ) (c : Cont
   pub walk-recent : (l .sections + i + 1) * l .«table_area» ≤ length tables
   walk-recent =
       let x : Limits = limitsOf state in
-      let q : (x .sections + i + 1) * x .«table_area» ≤ (x .sections + x .«control_ids» + 2) * x .«table_area» =
-      mul-le-mul-right (x .«table_area») (omega (arith, can .place)) in
-      rw el (omega (arith, can .go .room))
+      rw el (whole-area (x .sections + i) (x .sections + x .«control_ids» + 2) (x .«table_area») (length tables) (omega (arith, can .place)) (can .go .room))
 
   pub walk-before : (i + 1) * l .«message_area» ≤ length joined
   walk-before = rw el (can .room)
