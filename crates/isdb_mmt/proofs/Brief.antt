@@ -44,6 +44,7 @@ use Rattle.isdb_mmt.specs.Memory.Session.{Session, limitsFields}
 use Rattle.isdb_mmt.specs.Memory.Opening.{openedState, openedSession}
 use Rattle.isdb_mmt.specs.declared.decoder.limits.Limits.{Limits}
 use Rattle.isdb_mmt.specs.Memory.Layout.{usedPlace, stateSize}
+use Rattle.isdb_mmt.specs.Standards.StdB60Sections.{All}
 use Rattle.isdb_mmt.specs.Memory.Octets.{Octets, Lent}
 use Rattle.isdb_mmt.proofs.Amounts.{Grows, grows-within, units-le, unitCount, total}
 use Rattle.isdb_mmt.proofs.Smallness.{take-small, drop-small}
@@ -108,8 +109,12 @@ lent-opened l s h =
     }
 
 abbrev pub AllOctets : List Bytes → Type 0
-AllOctets [] = Unit {0}
-AllOctets (b ∷ bs) = Octets b × AllOctets bs
+AllOctets bs = All Octets bs
+
+-- what holds of all that is read from bytes
+pub all-read : {A : Type 0} (P : A → Type 0) (read : Bytes → A) → ((b : Bytes) → Octets b → P (read b)) → (bs : List Bytes) → AllOctets bs → All P (map read bs)
+all-read P read f [] o = tt
+all-read P read f (b ∷ bs) o = (f b (o .0), all-read P read f bs (o .1))
 
 -- ---- what is known of a packet
 

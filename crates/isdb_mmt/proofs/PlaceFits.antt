@@ -12,6 +12,7 @@ use Rattle.isdb_tlv.specs.Bytes.{be}
 use Rattle.isdb_tlv.specs.Crc.{crcOf}
 use Rattle.isdb_tlv.specs.Fields.{Field, Fit}
 use Rattle.isdb_tlv.proofs.Guards.{cond-elim}
+use Rattle.isdb_mmt.specs.Standards.StdB60Sections.{All}
 use Rattle.isdb_mmt.specs.declared.decoder.counts.Counters.{Counters}
 use Rattle.isdb_mmt.specs.Decoder.Packet.{Bytes, PayloadUnit, MpuPacket, readable}
 use Rattle.isdb_mmt.specs.Decoder.Maps.{find, orElse}
@@ -29,7 +30,7 @@ use Rattle.isdb_mmt.specs.Memory.PlacesOf.{noObject, heldFor, firstIn, p
 use Rattle.isdb_mmt.specs.declared.mpu.PayloadHeader.{PayloadHeader}
 use Rattle.isdb_mmt.specs.declared.table.section.LongSection.{LongSection}
 use Rattle.isdb_mmt.proofs.Every.{Every, every-put}
-use Rattle.isdb_mmt.proofs.Brief.{octets-take, AllOctets}
+use Rattle.isdb_mmt.proofs.Brief.{all-read, octets-take, AllOctets}
 use Rattle.isdb_mmt.specs.Theorems.Room.{mostAdded}
 use Rattle.isdb_mmt.proofs.Fits.{AssetFits, fresh-fits, asset-fits}
 use Rattle.isdb_mmt.proofs.Stores.{CountersFit, counted-one}
@@ -211,8 +212,7 @@ ReadOk (aSection x) = SectionOk x
 ReadOk (otherTable id) = Unit {0}
 
 abbrev pub AllRead : List Table → Type 0
-AllRead [] = Unit {0}
-AllRead (t ∷ ts) = ReadOk t × AllRead ts
+AllRead ts = All ReadOk ts
 
 key-small : (b : Bytes) → Octets b → keyOf b < 4294967296
 unfolding be
@@ -246,12 +246,10 @@ table-ok b o =
     })
 
 pub tables-ok : (bs : List Bytes) → AllOctets bs → AllRead (map tableRead bs)
-tables-ok [] o = tt
-tables-ok (b ∷ bs) o = (table-ok b (o .0), tables-ok bs (o .1))
+tables-ok = all-read ReadOk tableRead table-ok
 
 pub control-ok : (bs : List Bytes) → AllOctets bs → AllRead (controlTables bs)
-control-ok [] o = tt
-control-ok (b ∷ bs) o = (section-ok b (o .0), control-ok bs (o .1))
+control-ok = all-read ReadOk (λ b. aSection (sectionOf b)) section-ok
 
 -- one table, and all of them
 latest-ok : (area : ℕ) (ok : Bool) (o : Option Bytes) (b : Bytes) → TableOk area o → Octets b → cond ok (length b) 0 ≤ area → TableOk area (latest ok o b)

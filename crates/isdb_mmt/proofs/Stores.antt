@@ -12,6 +12,7 @@ use lib.Dec.{eqb, ltb}
 use borrow.Author.Tests.{eqb-true, eqb-false, ltb-true, ltb-false}
 use Rattle.isdb_tlv.specs.Bytes.{be}
 use Rattle.isdb_tlv.proofs.Guards.{cond-elim, either}
+use Rattle.isdb_mmt.specs.Standards.StdB60Sections.{All}
 use Rattle.isdb_mmt.specs.declared.decoder.counts.Counters.{Counters}
 use Rattle.isdb_mmt.specs.Decoder.Packet.{Bytes}
 use Rattle.isdb_mmt.specs.Decoder.Maps.{find, isSome}
@@ -24,7 +25,7 @@ use Rattle.isdb_mmt.specs.Decoder.GivenTables.{controlTables}
 use Rattle.isdb_mmt.proofs.Declared.{same-section, same-body, same-tot, same-mpt, same-plt}
 use Rattle.isdb_mmt.proofs.Every.{Every, every-put}
 use Rattle.isdb_mmt.proofs.Amounts.{breaksOf, section-breaks, table-breaks, total}
-use Rattle.isdb_mmt.proofs.Brief.{AllOctets}
+use Rattle.isdb_mmt.proofs.Brief.{all-read, AllOctets}
 use Rattle.isdb_mmt.proofs.Maps.{one-le}
 use Rattle.isdb_mmt.proofs.TableKinds.{by-kinds}
 
@@ -40,8 +41,7 @@ Sane (aSection x) = x .headerAndCrcGood ≡ true → x .bodyOk ≡ true → pars
 Sane (otherTable id) = Unit {0}
 
 abbrev pub AllSane : List Table → Type 0
-AllSane [] = Unit {0}
-AllSane (t ∷ ts) = Sane t × AllSane ts
+AllSane ts = All Sane ts
 
 -- the id is the high byte of the key
 key-id : (b : Bytes) → Octets b → keyOf b / 2 ^ 24 ≡ getD b 0 0
@@ -66,12 +66,10 @@ table-sane b o =
     })
 
 pub tables-sane : (bs : List Bytes) → AllOctets bs → AllSane (map tableRead bs)
-tables-sane [] o = tt
-tables-sane (b ∷ bs) o = (table-sane b (o .0), tables-sane bs (o .1))
+tables-sane = all-read Sane tableRead table-sane
 
 pub control-sane : (bs : List Bytes) → AllOctets bs → AllSane (controlTables bs)
-control-sane [] o = tt
-control-sane (b ∷ bs) o = (section-sane b (o .0), control-sane bs (o .1))
+control-sane = all-read Sane (λ b. aSection (sectionOf b)) section-sane
 
 -- how many loops break in tables
 abbrev pub breaksIn : List Table → ℕ
