@@ -30,6 +30,7 @@ use Rattle.isdb_tlv.specs.declared.mmtp.Header.{Header}
 use Rattle.isdb_tlv.specs.declared.mmtp.Parsed.{Parsed}
 use Rattle.isdb_tlv.specs.declared.mmtp.Parsed.the-variants.{None as notMmtp, Some as someMmtp}
 use Rattle.isdb_tlv.proofs.Guards.{cond-elim}
+use Rattle.isdb_mmt.specs.Standards.StdB60Sections.{All}
 use Rattle.isdb_mmt.specs.Formats.Mpu.{payloadHeader, declaredOf, unitsOf, unitsFrom, unitStep, unitAt, unitIn, item}
 use Rattle.isdb_mmt.specs.Decoder.Packet.{Bytes, PayloadUnit, MpuPacket, Packet, ipError, ntp, nonMmtp, media, message, control, other, headerIn, payloadUnit, payloadUnits, unitsFor, unitsRead, mediaOf, byType, mmtpIn, toPort, inFlow, datagramIn, byKind, classify, clear, readable}
 use Rattle.isdb_mmt.specs.Decoder.Maps.{isSome}
@@ -93,8 +94,7 @@ HeldOk none = Unit {0}
 HeldOk (some h) = ObjectOk h
 
 abbrev pub AllOk : List Mfu → Type 0
-AllOk [] = Unit {0}
-AllOk (h ∷ hs) = ObjectOk h × AllOk hs
+AllOk hs = All ObjectOk hs
 
 pub record PayloadUnitOk (u : PayloadUnit) : Type 0 where
   pub mfu : MfuOk (u .mfu)
@@ -102,8 +102,7 @@ pub record PayloadUnitOk (u : PayloadUnit) : Type 0 where
   pub octets : Octets (u .bytes)
 
 abbrev pub AllPayloadUnits : List PayloadUnit → Type 0
-AllPayloadUnits [] = Unit {0}
-AllPayloadUnits (u ∷ us) = PayloadUnitOk u × AllPayloadUnits us
+AllPayloadUnits us = All PayloadUnitOk us
 
 abbrev pub unitBytes : List PayloadUnit → ℕ
 unitBytes [] = 0

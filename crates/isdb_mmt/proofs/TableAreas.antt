@@ -10,6 +10,7 @@ use lib.ListN.{length, take, length-append}
 use lib.Seq.{drop-append-seam, take-at}
 use Rattle.isdb_tlv.specs.Fields.{written, Fit}
 use Rattle.isdb_tlv.proofs.Fields.{length-written}
+use Rattle.isdb_mmt.specs.Standards.StdB60Sections.{All}
 use Rattle.isdb_mmt.specs.Decoder.Packet.{Bytes}
 use Rattle.isdb_mmt.specs.Decoder.Maps.{isSome}
 use Rattle.isdb_mmt.specs.Decoder.Kept.{Kept}
@@ -31,8 +32,7 @@ pub record SectionFits (area : ℕ) (e : ℕ × Kept) : Type 0 where
   pub short : length (e .1 .bytes) ≤ area
 
 abbrev pub AllKept : ℕ → List (ℕ × Kept) → Type 0
-AllKept area [] = Unit {0}
-AllKept area (e ∷ es) = SectionFits area e × AllKept area es
+AllKept area es = All (SectionFits area) es
 
 -- ---- places
 
