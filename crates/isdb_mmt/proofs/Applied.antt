@@ -2,7 +2,7 @@
 use Prim.Native.Nat.{ℕ, zero, suc, _+_, _*_, _≤_, _<_, max}
 use mathlib.Core.Path.{_≡_, refl, sym, ap, _∙_}
 use mathlib.Core.Logic.{inr}
-use mathlib.Core.Bool.{true, false}
+use mathlib.Core.Bool.{Bool, true, false}
 use mathlib.Core.List.{List, [], _∷_, _++_, map}
 use native.Mathlib.Omega.{arith}
 use native.Mathlib.Nat.{zero-add}
@@ -30,7 +30,7 @@ use Rattle.isdb_mmt.specs.declared.decoder.table_outcome.TableAction.the
 use Rattle.isdb_mmt.specs.declared.decoder.table_outcome.TableOutcome.{TableOutcome}
 use Rattle.isdb_mmt.specs.declared.decoder.walk.WalkState.{WalkState}
 use Rattle.isdb_mmt.specs.Pushes.TableOutcome.{indexSize, indexOf}
-use Rattle.isdb_mmt.specs.Pushes.PendingTables.{mostByTable, mostBefore, Logged, logged, withLog, placesOf, PendingTables, pendingOf, recent, putAt, indexAfter, othersAfter, mptAfter, pltAfter, totAfter, keptLength, pendingAfter, Room, PutWithin, CanApply, countedBy, keptWith, filled, usedWith, WalkedTo, Applied}
+use Rattle.isdb_mmt.specs.Pushes.PendingTables.{mostByTable, mostBefore, Logged, logged, withLog, placesOf, PendingTables, pendingOf, recent, putAt, indexAfter, othersAfter, mptAfter, pltAfter, totAfter, keptLength, pendingAfter, Room, PutWithin, CanApply, marked, countedBy, keptWith, filled, usedWith, WalkedTo, Applied}
 use Rattle.isdb_mmt.proofs.TableOutcomes.{length-index}
 
 -- ---- an index with its log
@@ -121,17 +121,21 @@ getD-most l i k most h =
     (λ e. rw (getD-set-other l i k (getD l i 0 + 1) 0 (eqb-false k i e)) (omega (arith, h k))))
     (λ t. rw (set-out l i (getD l i 0 + 1) (ltb-false i (length l) t)) (omega (arith, h k)))
 
-pub room-more : (g : WalkState) (others : List ℕ) (n k : ℕ) → n ≤ k → Room g others n → Room g others k
-room-more g others n k h r =
+-- whatever it is marked with
+pub room-marked : (g : WalkState) (others : List ℕ) (bad : ℕ) (full : Bool) (n k : ℕ) → n ≤ k → bad ≤ k → Room g others n → Room (marked g bad full) others k
+room-marked g others bad full n k h b r =
     record {
       tables = omega (arith, r .tables);
       «crc_errors» = omega (arith, r .«crc_errors»);
       malformed = omega (arith, r .malformed);
       changes = omega (arith, r .changes);
       breaks = omega (arith, r .breaks);
-      bad = omega (arith, r .bad);
+      bad = b;
       each = λ j. omega (arith, r .each j);
     }
+
+pub room-more : (g : WalkState) (others : List ℕ) (n k : ℕ) → n ≤ k → Room g others n → Room g others k
+room-more g others n k h r = room-marked g others (g .«message_malformed») (g .full) n k h (omega (arith, r .bad)) r
 
 abbrev appliedBy : PendingTables → TableOutcome → TableAction → ℕ → PendingTables
 appliedBy d t z f =

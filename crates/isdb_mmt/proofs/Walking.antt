@@ -19,7 +19,7 @@ use Rattle.isdb_mmt.specs.Pushes.Placed.{Placed}
 use Rattle.isdb_mmt.specs.Pushes.TableOutcome.{indexOf, tableOutcome}
 use Rattle.isdb_mmt.specs.Pushes.PendingTables.{mostByTable, Logged, logged, withLog, placesOf, PendingTables, pendingOf, indexAfter, pendingAfter, pendingWith, pendingWithAll, Room, Copies, cutShort, WalkedTo, Applied, Walked}
 use Rattle.isdb_mmt.proofs.Names.{true-not-false}
-use Rattle.isdb_mmt.proofs.Applied.{log-places, room-more}
+use Rattle.isdb_mmt.proofs.Applied.{log-places, room-marked, room-more}
 
 -- ---- the index grows
 
@@ -64,17 +64,7 @@ module _ (read : Bytes → Table) where
         rw er
         (record {
           to = record { stays = λ y. y; over = λ y z. true-not-false (g .full) z y; now = λ y. (y, refl); used = u };
-          room =
-              λ most r.
-              record {
-                tables = omega (arith, r .tables);
-                «crc_errors» = omega (arith, r .«crc_errors»);
-                malformed = omega (arith, r .malformed);
-                changes = omega (arith, r .changes);
-                breaks = omega (arith, r .breaks);
-                bad = omega (arith, r .bad);
-                each = λ j. omega (arith, r .each j);
-              };
+          room = λ most r. room-marked g others _ _ most (most + 1 * mostByTable) (omega arith) (omega (arith, r .bad)) r;
           bad = refl;
         })
 
