@@ -13,7 +13,7 @@ use Rattle.isdb_tlv.specs.declared.cut.Cut.{Cut}
 use Rattle.isdb_tlv.specs.declared.cut.Cut.the-variants.{Packet, End as endHere, Short as shortHere, Bad as badHere}
 use Rattle.isdb_tlv.proofs.Guards.{either}
 use Rattle.isdb_tlv.specs.Facts.{moved}
-use Rattle.isdb_tlv.proofs.Cutting.{cut-drop, end-bad, end-short, end-clean, end-here, over-end}
+use Rattle.isdb_tlv.proofs.Cutting.{differ, cut-drop, end-bad, end-short, end-clean, end-here, over-end}
 use Rattle.isdb_mmt.specs.Decoder.Packet.{Bytes}
 use Rattle.isdb_mmt.specs.Memory.Session.{Session}
 use Rattle.isdb_mmt.specs.Formats.Part.{countOfUsize}
@@ -24,10 +24,6 @@ use Rattle.isdb_text.specs.DumpPackets.{toldOf, progressAt}
 use Rattle.isdb_text.proofs.PacketWalk.{walk-inside, walk-end, told-ahead}
 use Rattle.feeddump.specs.declared.Passed.{Passed}
 use Rattle.feeddump.specs.Pass.{mostBytes, StopsAt}
-
--- two different answers are not one
-differ : {A : Type 0} → _≡_ {A = ℕ} 0 1 → A
-differ e = absurd (omega arith)
 
 -- what is known before each call: the place is inside, and the packets in front of it are whole
 pub record Passing (w : Bytes) (at : ℕ) : Type 0 where

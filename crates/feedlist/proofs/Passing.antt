@@ -17,7 +17,8 @@ use Rattle.isdb_tlv.specs.declared.cut.Cut.{Cut}
 use Rattle.isdb_tlv.specs.declared.cut.Cut.the-variants.{Packet, End as endHere, Short as shortHere, Bad as badHere}
 use Rattle.isdb_tlv.proofs.Guards.{either}
 use Rattle.isdb_tlv.specs.Facts.{moved}
-use Rattle.isdb_tlv.proofs.Cutting.{recording-at, packet-lies, cut-drop, end-behind, end-bad, end-short, end-clean, end-here, over-end}
+use Rattle.isdb_text.proofs.PacketWalk.{emptyNot, tailOf, headLength}
+use Rattle.isdb_tlv.proofs.Cutting.{differ, recording-at, packet-lies, cut-drop, end-behind, end-bad, end-short, end-clean, end-here, over-end}
 use Rattle.isdb_mmt.specs.Formats.Part.{countOfUsize}
 use Rattle.isdb_mmt.specs.Decoder.Packet.{Bytes}
 use Rattle.isdb_mmt.specs.Memory.Session.{Session}
@@ -28,10 +29,6 @@ use Rattle.isdb_mmt.specs.declared.decoder.many.Halt.{Halt}
 use Rattle.isdb_mmt.specs.declared.decoder.many.Halt.the-variants.{End, Short, Bad as badHalt, Full, Refused as refusedHalt}
 use Rattle.feedlist.specs.declared.Passed.the-variants.{More, Bad}
 use Rattle.feedlist.specs.Pass.{mostBytes, endsReading, StopsAt}
-
--- two different answers are not one
-differ : {A : Type 0} → _≡_ {A = ℕ} 0 1 → A
-differ e = absurd (omega arith)
 
 goes-on : (n packets : ℕ) → endsReading n packets ≡ false → 0 < packets
 unfolding endsReading
@@ -49,18 +46,6 @@ ends-some n packets h r e = rw (ne-eqb packets 0 h) e
 above-none : (n : ℕ) → (n ≡ 0 → ⊥) → 0 < n
 above-none zero h = absurd (h refl)
 above-none (suc n) h = omega arith
-
-abbrev emptyNot : List TlvPacket → ℕ
-emptyNot [] = 0
-emptyNot (p ∷ ps) = 1
-
-abbrev tailOf : List TlvPacket → List TlvPacket
-tailOf [] = []
-tailOf (p ∷ ps) = ps
-
-abbrev headLength : List TlvPacket → ℕ
-headLength [] = 0
-headLength (p ∷ ps) = length (p .bytes)
 
 -- what ends a call at a place, where it is not turned down there
 abbrev HaltedBy : Halt → Cut → Type 0

@@ -13,7 +13,7 @@ use Rattle.isdb_tlv.specs.Cut.{TlvPacket, Recording, item, cutAt, recordingFrom
 use Rattle.isdb_tlv.specs.declared.cut.Cut.{Cut}
 use Rattle.isdb_tlv.specs.declared.cut.Cut.the-variants.{Packet, End as endHere, Short as shortHere, Bad as badHere}
 use Rattle.isdb_tlv.proofs.Guards.{either}
-use Rattle.isdb_tlv.proofs.Cutting.{recording-at, packet-lies, cut-drop, end-behind}
+use Rattle.isdb_tlv.proofs.Cutting.{differ, recording-at, packet-lies, cut-drop, end-behind}
 use Rattle.isdb_mmt.specs.Decoder.Packet.{Bytes}
 use Rattle.isdb_mmt.specs.Memory.Session.{Session}
 use Rattle.isdb_mmt.specs.Pushes.Push.{asks, replyOf}
@@ -21,10 +21,6 @@ use Rattle.isdb_mmt.specs.Pushes.PushAll.{lineSize, nothingTaken, Run, runOf, i
 use Rattle.isdb_mmt.specs.declared.decoder.many.Progress.{Progress}
 use Rattle.isdb_mmt.specs.declared.decoder.many.Pushes.{Pushes}
 use Rattle.isdb_text.specs.DumpPackets.{toldOf, nextPlace, behindOf, progressAt}
-
--- two different answers are not one
-differ : {A : Type 0} → _≡_ {A = ℕ} 0 1 → A
-differ e = absurd (omega arith)
 
 -- ---- one step
 
@@ -96,15 +92,15 @@ walk-end w base most lines a (suc k) =
 
 -- ---- the packets of the input
 
-abbrev emptyNot : List TlvPacket → ℕ
+abbrev pub emptyNot : List TlvPacket → ℕ
 emptyNot [] = 0
 emptyNot (p ∷ ps) = 1
 
-abbrev tailOf : List TlvPacket → List TlvPacket
+abbrev pub tailOf : List TlvPacket → List TlvPacket
 tailOf [] = []
 tailOf (p ∷ ps) = ps
 
-abbrev headLength : List TlvPacket → ℕ
+abbrev pub headLength : List TlvPacket → ℕ
 headLength [] = 0
 headLength (p ∷ ps) = length (p .bytes)
 

@@ -22,7 +22,7 @@ use Rattle.isdb_tlv.specs.Cut.{cutAt, ends, withFirst, item, recordingFr
 use Rattle.isdb_tlv.specs.Facts.{moved, WindowTheorem}
 
 -- two different answers are not one
-differ : {A : Type 0} → _≡_ {A = ℕ} 0 1 → A
+pub differ : {A : Type 0} → _≡_ {A = ℕ} 0 1 → A
 differ e = absurd (omega arith)
 
 -- a packet leads ahead
