@@ -1,5 +1,7 @@
 // Runs the readings of isdb_tlv and isdb_mmt on cases from standard input, a line each: a word that names the reading, a space, and
 // bytes in hexadecimal, at most 65,536. It writes the line again, with what was found behind it, or with what is wrong with it.
+#![tactic(auto)]
+
 mod answer;
 mod descriptors;
 mod print;

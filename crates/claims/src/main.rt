@@ -1,5 +1,7 @@
 // Claims about the values that the libraries' contracts and definitions decide: theorems in specs/, and functions here where a
 // contract speaks for itself. Nothing is run.
+#![tactic(auto)]
+
 ghost use Rattle.std.specs.Prelude.{◌≡◌, take, drop};
 ghost use Rattle.claims.specs.Session.{Refused};
 

@@ -1,4 +1,6 @@
 // Lists everything that a recording holds: standard input as TLV packets, pushed into a session.
+#![tactic(auto)]
+
 mod tables;
 
 ghost use Rattle.std.specs.Prelude.{◌≡◌};
@@ -19,7 +21,7 @@ const MOST: usize = 65535;
 const FULL: usize = 64512;
 
 // How far reading came: the place in the window, the packets taken, the place in the text, and whether what stands there is no packet.
-#[derive(Drop)]
+#[derive(Clone, Copy)]
 struct Passed {
     at: usize,
     packets: u64,
@@ -28,7 +30,7 @@ struct Passed {
 }
 
 // How far the packets of a call are written: the place in the text, and where the packet behind them stands.
-#[derive(Drop)]
+#[derive(Clone, Copy)]
 struct Told {
     text: usize,
     behind: Progress,

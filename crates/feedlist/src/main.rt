@@ -1,4 +1,6 @@
 // Lists the media ids of a recording: standard input as TLV packets, pushed into a session.
+#![tactic(auto)]
+
 ghost use Rattle.std.specs.Prelude.{◌≡◌};
 ghost use Rattle.feedlist.specs.Pass.{ends_reading, StopsAt};
 
@@ -13,7 +15,7 @@ use isdb_tlv::cut::Stop;
 const MOST: usize = 16384;
 
 // What was made of a window: all whole packets in it taken, and where the rest starts; or where reading stops.
-#[derive(Drop)]
+#[derive(Clone, Copy)]
 enum Passed {
     More(usize),
     Bad(usize),

@@ -26,7 +26,7 @@ pub fn length_width(tag: u16) -> usize
 }
 
 // What stands at a place of a descriptor loop: a descriptor, the end, or one that does not fit.
-#[derive(Drop)]
+#[derive(Clone, Copy)]
 pub enum Step {
     End,
     Broken(usize),
@@ -62,7 +62,7 @@ pub fn next(b: &[u8], at: usize) -> Step
 }
 
 // How many descriptors a loop has, and whether one that does not fit ended them.
-#[derive(Drop)]
+#[derive(Clone, Copy)]
 pub struct Counted {
     pub count: usize,
     pub broken: bool,
@@ -100,7 +100,7 @@ pub fn decode_all(b: &[u8]) -> Counted
 }
 
 // An ISO 639 language code.
-#[derive(Drop)]
+#[derive(Clone, Copy)]
 pub struct Language {
     pub first: u8,
     pub second: u8,
@@ -109,7 +109,7 @@ pub struct Language {
 
 // A descriptor that was decoded. Texts are parts of its body; lists are walked (next_timestamp, next_mpu, next_service,
 // next_genre).
-#[derive(Drop)]
+#[derive(Clone, Copy)]
 pub enum Descriptor {
     // 0001h: presentation times of MPUs.
     MpuTimestamp,
@@ -329,7 +329,7 @@ impl Descriptor {
 }
 
 // The first descriptor of a loop that has a tag and could be decoded, with its body's place in the loop.
-#[derive(Drop)]
+#[derive(Clone, Copy)]
 pub enum Found {
     None,
     Some(Descriptor, Part),
@@ -357,7 +357,7 @@ pub fn first_of(b: &[u8], tag: u16) -> Found
 }
 
 // An entry of a service list.
-#[derive(Drop)]
+#[derive(Clone, Copy)]
 pub enum ServiceStep {
     End,
     Service {
@@ -382,7 +382,7 @@ pub fn next_service(b: &[u8], at: usize) -> ServiceStep
 }
 
 // A genre of a content descriptor: two levels and the broadcaster's own byte.
-#[derive(Drop)]
+#[derive(Clone, Copy)]
 pub enum GenreStep {
     End,
     Genre {

@@ -6,7 +6,7 @@ ghost use Rattle.isdb_mmt.specs.Formats.Desc.{step_at};
 use crate::desc;
 use crate::desc::Step;
 
-#[derive(Drop)]
+#[derive(Clone, Copy)]
 pub struct DescriptorWalk<'a> {
     pub src: &'a [u8],
     pub at: usize,

@@ -1,4 +1,6 @@
 // The upper layers of an ISDB-S3 feed: what an MMTP payload or a section holds.
+#![tactic(auto)]
+
 pub mod decoder;
 pub mod desc;
 pub mod descriptor_walk;

@@ -7,7 +7,7 @@ use crate::maybe::MaybeU16;
 use crate::part::Part;
 use isdb_tlv::bytes;
 
-#[derive(Drop)]
+#[derive(Clone, Copy)]
 pub enum Location {
     // 00h: an MMTP packet id in the same IP data flow.
     SameFlow(u16),
@@ -43,14 +43,14 @@ pub enum Location {
 }
 
 // A location that may be absent.
-#[derive(Drop)]
+#[derive(Clone, Copy)]
 pub enum MaybeLocation {
     None,
     Some(Location),
 }
 
 // A location and the bytes it took.
-#[derive(Drop)]
+#[derive(Clone, Copy)]
 pub enum Located {
     None,
     Some(Location, usize),

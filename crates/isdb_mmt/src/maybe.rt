@@ -22,7 +22,7 @@ pub fn number_at(numbers: &[u64], i: usize) -> u64
     0
 }
 
-#[derive(Drop)]
+#[derive(Clone, Copy)]
 pub enum MaybeU16 {
     None,
     Some(u16),
@@ -49,7 +49,7 @@ impl MaybeU16 {
     }
 }
 
-#[derive(Drop)]
+#[derive(Clone, Copy)]
 pub enum MaybeU32 {
     None,
     Some(u32),
@@ -85,13 +85,13 @@ impl MaybeU32 {
     }
 }
 
-#[derive(Drop)]
+#[derive(Clone, Copy)]
 pub enum MaybeU64 {
     None,
     Some(u64),
 }
 
-#[derive(Drop)]
+#[derive(Clone, Copy)]
 pub enum MaybeUsize {
     None,
     Some(usize),

@@ -9,7 +9,7 @@ use crate::part::Part;
 use isdb_tlv::{bytes, mmtp};
 
 // What a control payload's first byte says.
-#[derive(Drop)]
+#[derive(Clone, Copy)]
 pub enum Division {
     // 00: a whole message.
     Undivided,
@@ -21,7 +21,7 @@ pub enum Division {
     Last,
 }
 
-#[derive(Drop)]
+#[derive(Clone, Copy)]
 pub struct Fragment {
     pub division: Division,
     // Lengths of 4 bytes where aggregated, else of 2.
@@ -49,7 +49,7 @@ pub fn fragment_of(flags: u8) -> Fragment
 }
 
 // A message of an aggregated payload.
-#[derive(Drop)]
+#[derive(Clone, Copy)]
 pub enum MessageStep {
     // Fewer bytes than a length has: they are dropped.
     End,
@@ -82,7 +82,7 @@ pub fn next_message(b: &[u8], long: bool, at: usize) -> MessageStep
 }
 
 // What a message holds.
-#[derive(Drop)]
+#[derive(Clone, Copy)]
 pub enum Content {
     // Too short for its id, its length or its table.
     Malformed,
@@ -159,7 +159,7 @@ pub fn content_of(m: &[u8]) -> Content
 }
 
 // A table of a PA message's body.
-#[derive(Drop)]
+#[derive(Clone, Copy)]
 pub enum TableStep {
     End,
     Malformed,

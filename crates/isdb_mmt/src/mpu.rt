@@ -10,7 +10,7 @@ use crate::part::Part;
 use isdb_tlv::bytes;
 
 // MPU_fragment_type (Table 6-2).
-#[derive(Drop)]
+#[derive(Clone, Copy)]
 pub enum FragmentType {
     // 0.
     MpuMetadata,
@@ -48,7 +48,7 @@ impl FragmentType {
 }
 
 // fragmentation_indicator (Table 6-3).
-#[derive(Drop)]
+#[derive(Clone, Copy)]
 pub enum FragmentationIndicator {
     // 00: undivided.
     Complete,
@@ -97,7 +97,7 @@ impl FragmentationIndicator {
     }
 }
 
-#[derive(Drop)]
+#[derive(Clone, Copy)]
 pub struct PayloadHeader {
     pub fragment_type: FragmentType,
     pub timed: bool,
@@ -107,7 +107,7 @@ pub struct PayloadHeader {
     pub mpu_sequence_number: u32,
 }
 
-#[derive(Drop)]
+#[derive(Clone, Copy)]
 pub enum MaybeHeader {
     None,
     Some(PayloadHeader),
@@ -152,7 +152,7 @@ pub fn declared(p: &[u8]) -> &[u8]
 }
 
 // The header of an MFU of timed data.
-#[derive(Drop)]
+#[derive(Clone, Copy)]
 pub struct MfuHeader {
     pub movie_fragment_sequence_number: u32,
     pub sample_number: u32,
@@ -161,7 +161,7 @@ pub struct MfuHeader {
     pub dependency_counter: u8,
 }
 
-#[derive(Drop)]
+#[derive(Clone, Copy)]
 pub enum MaybeMfu {
     None,
     Some(MfuHeader),
@@ -195,14 +195,14 @@ impl MaybeMfu {
 }
 
 // A unit: a header where the data are timed, else an item id; its data by their place in the declared bytes.
-#[derive(Drop)]
+#[derive(Clone, Copy)]
 pub struct Unit {
     pub mfu: MaybeMfu,
     pub item_id: MaybeU32,
     pub data: Part,
 }
 
-#[derive(Drop)]
+#[derive(Clone, Copy)]
 pub enum UnitStep {
     End,
     Malformed,
@@ -314,7 +314,7 @@ pub fn next_unit(q: &[u8], timed: bool, aggregated: bool, at: usize) -> UnitStep
 }
 
 // How many units there are, where all are whole.
-#[derive(Drop)]
+#[derive(Clone, Copy)]
 pub enum UnitCount {
     Malformed,
     Count(usize),

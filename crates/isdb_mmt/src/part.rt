@@ -4,7 +4,7 @@ ghost use Rattle.isdb_mmt.specs.Formats.Part.{part_of, count_of_usize};
 
 use isdb_tlv::bytes;
 
-#[derive(Drop)]
+#[derive(Clone, Copy)]
 pub struct Part {
     pub start: usize,
     pub length: usize,

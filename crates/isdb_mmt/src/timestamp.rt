@@ -9,7 +9,7 @@ use crate::part::Part;
 use isdb_tlv::bytes;
 
 // An entry of an MPU timestamp descriptor: the presentation time of an MPU's first access unit, an NTP timestamp.
-#[derive(Drop)]
+#[derive(Clone, Copy)]
 pub enum TimestampStep {
     End,
     Timestamp {
@@ -34,7 +34,7 @@ pub fn next_timestamp(b: &[u8], at: usize) -> TimestampStep
 }
 
 // The head of an extended timestamp descriptor; its MPUs stand from start on.
-#[derive(Drop)]
+#[derive(Clone, Copy)]
 pub struct Extended {
     // Time units per second, where given.
     pub timescale: MaybeU32,
@@ -45,14 +45,14 @@ pub struct Extended {
     pub start: usize,
 }
 
-#[derive(Drop)]
+#[derive(Clone, Copy)]
 pub enum MaybeExtended {
     None,
     Some(Extended),
 }
 
 // One MPU; units are the bytes of its access units.
-#[derive(Drop)]
+#[derive(Clone, Copy)]
 pub enum MpuStep {
     End,
     Broken,
@@ -182,14 +182,14 @@ pub fn parse_extended(b: &[u8]) -> MaybeExtended
 }
 
 // An access unit, in decoding order.
-#[derive(Drop)]
+#[derive(Clone, Copy)]
 pub struct AccessUnit {
     pub dts_pts_offset: u16,
     // Its own, or the default where there is one.
     pub pts_offset: MaybeU16,
 }
 
-#[derive(Drop)]
+#[derive(Clone, Copy)]
 pub enum AccessUnitStep {
     End,
     Unit(AccessUnit, usize),

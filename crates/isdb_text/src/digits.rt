@@ -6,7 +6,7 @@ ghost use Rattle.isdb_text.specs.Digits.{letter_of, value_of, byte_of, bytes_in,
 use crate::text;
 
 // What is made of a text: so many bytes; or why none.
-#[derive(Drop)]
+#[derive(Clone, Copy)]
 pub enum Decoded {
     Bytes(usize),
     // The letter with this index is no digit.

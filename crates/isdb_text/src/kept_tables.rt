@@ -8,7 +8,7 @@ use isdb_mmt::decoder::readings::{NameReading, TableReading};
 use isdb_mmt::decoder::{ids, kept};
 
 // Which table: the MPT of a control id, the section of a key, or one that stands by itself.
-#[derive(Drop)]
+#[derive(Clone, Copy)]
 pub enum Table {
     Mpt(u32),
     Plt,
@@ -17,7 +17,7 @@ pub enum Table {
 }
 
 // What a walk has before it: the MPTs of the control ids from a number on, the sections with keys from first to last, or one table.
-#[derive(Drop)]
+#[derive(Clone, Copy)]
 pub enum Ahead {
     Nothing,
     Mpts(u32),
@@ -27,7 +27,7 @@ pub enum Ahead {
 }
 
 // A step of a walk: a table with what is read of it, and what lies before it then.
-#[derive(Drop)]
+#[derive(Clone, Copy)]
 pub enum Step {
     End,
     Kept {

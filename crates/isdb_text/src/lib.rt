@@ -1,4 +1,6 @@
 // Text in lent bytes, and what the programs write.
+#![tactic(auto)]
+
 pub mod digits;
 pub mod dump_descriptors;
 pub mod dump_kept;

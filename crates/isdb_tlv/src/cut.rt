@@ -6,7 +6,7 @@ use crate::bytes;
 
 // Where reading a recording stops: at its end, at the first byte of what is no packet or not whole, or at a packet that is
 // turned down, with the number.
-#[derive(Drop)]
+#[derive(Clone, Copy)]
 pub enum Stop {
     Clean,
     Bad(u64),
@@ -14,7 +14,7 @@ pub enum Stop {
 }
 
 // What stands at a place.
-#[derive(Drop)]
+#[derive(Clone, Copy)]
 pub enum Cut {
     // A packet: its kind, the place and the number of its data, and the place of what follows.
     Packet {

@@ -7,14 +7,14 @@ ghost use Rattle.isdb_tlv.specs.Ip.{flow4, flow6, ipv4_of, ipv6_of, partial_ipv4
 use crate::bytes;
 
 // An address as a number; one of 16 bytes as two halves, the high one first.
-#[derive(Drop)]
+#[derive(Clone, Copy)]
 pub enum Address {
     V4(u32),
     V6(u64, u64),
 }
 
 // A UDP flow: source and destination address and port.
-#[derive(Drop)]
+#[derive(Clone, Copy)]
 pub struct Flow {
     pub src: Address,
     pub dst: Address,
@@ -23,21 +23,21 @@ pub struct Flow {
 }
 
 // The flow, where the packet carries its addresses.
-#[derive(Drop)]
+#[derive(Clone, Copy)]
 pub enum MaybeFlow {
     None,
     Some(Flow),
 }
 
 // The context id of a compressed packet.
-#[derive(Drop)]
+#[derive(Clone, Copy)]
 pub enum MaybeContext {
     None,
     Some(u16),
 }
 
 // A UDP datagram: its payload runs from start to the end of the packet's data.
-#[derive(Drop)]
+#[derive(Clone, Copy)]
 pub struct Datagram {
     pub context: MaybeContext,
     pub flow: MaybeFlow,
@@ -45,7 +45,7 @@ pub struct Datagram {
 }
 
 // Why a packet's IP content could not be read.
-#[derive(Drop)]
+#[derive(Clone, Copy)]
 pub enum IpError {
     // Shorter than its headers.
     Truncated,
@@ -57,7 +57,7 @@ pub enum IpError {
     Version(u8),
 }
 
-#[derive(Drop)]
+#[derive(Clone, Copy)]
 pub enum IpResult {
     Ok(Datagram),
     Err(IpError),
@@ -227,7 +227,7 @@ pub fn compressed(b: &[u8]) -> IpResult
 }
 
 // The wire check's answer: good, or the first failing test by its letter.
-#[derive(Drop)]
+#[derive(Clone, Copy)]
 pub enum Wire {
     Good,
     A,

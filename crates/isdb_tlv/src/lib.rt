@@ -1,4 +1,6 @@
 // The lower layers of an ISDB-S3 feed: from a TLV packet's kind and data to an MMTP payload or a list of sections.
+#![tactic(auto)]
+
 pub mod bytes;
 pub mod crc;
 pub mod cut;

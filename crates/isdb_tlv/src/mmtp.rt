@@ -8,7 +8,7 @@ ghost use Rattle.isdb_tlv.specs.Messages.{no_table_ids, word_of, has, insert, in
 use crate::bytes;
 
 // FEC_type (Table 6-5).
-#[derive(Drop)]
+#[derive(Clone, Copy)]
 pub enum FecType {
     // 0: not protected by AL-FEC.
     NotProtected,
@@ -46,7 +46,7 @@ impl FecType {
 }
 
 // payload_type (Table 6-6).
-#[derive(Drop)]
+#[derive(Clone, Copy)]
 pub enum PayloadType {
     // 0x00: a fragment of an MPU.
     Mpu,
@@ -88,7 +88,7 @@ impl PayloadType {
 }
 
 // What a multi-type header extension says of scrambling.
-#[derive(Drop)]
+#[derive(Clone, Copy)]
 pub enum Scramble {
     // No entry of type 1.
     Absent,
@@ -122,14 +122,14 @@ impl Scramble {
 }
 
 // The scramble bits, where there are any.
-#[derive(Drop)]
+#[derive(Clone, Copy)]
 pub enum MaybeControl {
     None,
     Some(u8),
 }
 
 // The fields of the header that are used here.
-#[derive(Drop)]
+#[derive(Clone, Copy)]
 pub struct Header {
     pub fec_type: FecType,
     // Random access point.
@@ -146,13 +146,13 @@ pub struct Header {
 }
 
 // A packet: its payload runs from start to the end of the data.
-#[derive(Drop)]
+#[derive(Clone, Copy)]
 pub struct Packet {
     pub header: Header,
     pub start: usize,
 }
 
-#[derive(Drop)]
+#[derive(Clone, Copy)]
 pub enum Parsed {
     None,
     Some(Packet),
@@ -193,7 +193,7 @@ fn scramble_of(s: &[u8]) -> Scramble
 }
 
 // What follows the fixed part of a header.
-#[derive(Drop)]
+#[derive(Clone, Copy)]
 enum Extension {
     Bad,
     Good(Scramble, usize),
@@ -278,7 +278,7 @@ pub fn parse(b: &[u8]) -> Parsed
 }
 
 // A set of table ids: bit i of word k stands for the id 64 k + i.
-#[derive(Drop)]
+#[derive(Clone, Copy)]
 pub struct TableIds {
     pub w0: u64,
     pub w1: u64,
@@ -329,13 +329,13 @@ pub const M2_SECTION_MESSAGE: u16 = 0x8000;
 pub const M2_SHORT_SECTION_MESSAGE: u16 = 0x8002;
 
 // A control message: its id and the ids of the tables it carries.
-#[derive(Drop)]
+#[derive(Clone, Copy)]
 pub struct Message {
     pub id: u16,
     pub tables: TableIds,
 }
 
-#[derive(Drop)]
+#[derive(Clone, Copy)]
 pub enum MaybeMessage {
     None,
     Some(Message),
@@ -456,7 +456,7 @@ fn other(id: u16) -> Message
 
 // What stands at a place of a payload: a message and the place behind it, or nothing more, or what makes the whole
 // payload refused.
-#[derive(Drop)]
+#[derive(Clone, Copy)]
 pub enum MessageStep {
     Refused,
     End,
@@ -524,7 +524,7 @@ pub fn next_message(p: &[u8], at: usize) -> MessageStep
     message_at(p, at)
 }
 
-#[derive(Drop)]
+#[derive(Clone, Copy)]
 pub enum MessageCount {
     Refused,
     Count(usize),

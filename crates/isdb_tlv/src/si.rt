@@ -10,7 +10,7 @@ ghost use Rattle.isdb_tlv.specs.Si.{is_tlv_si, section_at, next_section_of};
 use crate::{bytes, crc};
 
 // A section found in a control packet's data.
-#[derive(Drop)]
+#[derive(Clone, Copy)]
 pub struct Section {
     // Where it starts.
     pub offset: usize,
@@ -33,7 +33,7 @@ impl Section {
     }
 }
 
-#[derive(Drop)]
+#[derive(Clone, Copy)]
 pub enum MaybeSection {
     None,
     Some(Section),

@@ -3,7 +3,7 @@
 ghost use Rattle.std.specs.Prelude.{◌≡◌};
 ghost use Rattle.isdb_tlv.specs.Tlv.{packet_type};
 
-#[derive(Drop)]
+#[derive(Clone, Copy)]
 pub enum PacketType {
     // An IPv4 packet (01h).
     Ipv4,

@@ -1,5 +1,7 @@
 // Replays a fixed list of feeds: standard input as items one behind the other. `S` and a byte opens a session, whose scrambled payloads
 // are passed on where the byte is not 0; a TLV packet (7Fh, kind, length, data) is pushed into it; `L` lists what the session holds.
+#![tactic(auto)]
+
 ghost use Rattle.std.specs.Prelude.{◌<◌, length};
 
 mod kept;

@@ -1,5 +1,7 @@
 // Standard input and output, as the programs use them. Nothing can be said of the bytes that are read and written; what is said here is what
 // a read leaves alone.
+#![tactic(auto)]
+
 ghost use Rattle.stdio.specs.Reading.{ReadBehind};
 
 use isdb_tlv::bytes;

@@ -10,7 +10,7 @@ use crate::decoder::layout::{CONTROL_PLACES, CONTROL_SIZE};
 use crate::decoder::place::flag;
 use isdb_tlv::bytes;
 
-#[derive(Drop)]
+#[derive(Clone, Copy)]
 pub(crate) struct Control {
     pub packet_id: u32,
     // The last packet's number, where there was one.

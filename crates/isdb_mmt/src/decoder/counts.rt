@@ -9,7 +9,7 @@ use crate::decoder::layout::{COUNTERS, STATS};
 use isdb_tlv::bytes;
 
 // The counts of a media packet id.
-#[derive(Drop)]
+#[derive(Clone, Copy)]
 pub struct AssetStats {
     pub packets: u64,
     pub packets_lost: u64,
@@ -24,7 +24,7 @@ pub struct AssetStats {
 
 // The counts of the feed. Of messages: fragments without a message, messages above the maximum, and messages and tables
 // whose lengths do not fit. Broken descriptor loops are the last.
-#[derive(Drop)]
+#[derive(Clone, Copy)]
 pub struct Counters {
     pub tlv_packets: u64,
     pub ip_errors: u64,

@@ -14,7 +14,7 @@ use crate::decoder::place::{flag, long, word};
 use isdb_tlv::bytes;
 
 // How many places of each sort are in use. They are taken in order.
-#[derive(Drop)]
+#[derive(Clone, Copy)]
 pub(crate) struct Used {
     pub media_ids: u32,
     pub control_ids: u32,
@@ -22,7 +22,7 @@ pub(crate) struct Used {
 }
 
 // Whether a PLT and a TOT are kept, and their lengths.
-#[derive(Drop)]
+#[derive(Clone, Copy)]
 pub(crate) struct Latest {
     pub plt: bool,
     pub plt_length: u32,
@@ -31,7 +31,7 @@ pub(crate) struct Latest {
 }
 
 // The last NTP timestamp, where there was one.
-#[derive(Drop)]
+#[derive(Clone, Copy)]
 pub(crate) struct Time {
     pub seen: bool,
     pub timestamp: u64,

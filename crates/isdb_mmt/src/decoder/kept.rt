@@ -27,7 +27,7 @@ use crate::table::tot::TotResult;
 use crate::table::{mpt, plt, tot};
 
 // A part of the lent tables.
-#[derive(Drop)]
+#[derive(Clone, Copy)]
 pub(crate) enum MaybePart {
     None,
     Some(Part),
@@ -256,7 +256,7 @@ pub fn tot(
     }
 }
 
-#[derive(Drop)]
+#[derive(Clone, Copy)]
 pub(crate) enum MaybeAsset {
     None,
     Some(Asset),

@@ -4,7 +4,7 @@ ghost use Rattle.isdb_mmt.specs.Memory.Limits.{in_range, places_in_range, areas_
 
 use crate::decoder::layout;
 
-#[derive(Drop)]
+#[derive(Clone, Copy)]
 pub struct Limits {
     // How many packet ids of media, packet ids of control messages and kept sections have a place.
     pub media_ids: u64,
@@ -21,7 +21,7 @@ pub struct Limits {
 }
 
 // The lengths of what is lent: the session's state and its three areas.
-#[derive(Drop)]
+#[derive(Clone, Copy)]
 pub struct Lengths {
     pub state: u64,
     pub objects: u64,
@@ -30,7 +30,7 @@ pub struct Lengths {
 }
 
 // What limits ask for, or the number of the question that they fail.
-#[derive(Drop)]
+#[derive(Clone, Copy)]
 pub enum Need {
     Bytes(Lengths),
     Refused(u8),

@@ -16,7 +16,7 @@ use isdb_tlv::cut::Cut;
 use isdb_tlv::{bytes, cut};
 
 // How far a call has come: the place in the input, the packets taken, and the records and data bytes that they handed out.
-#[derive(Drop)]
+#[derive(Clone, Copy)]
 pub struct Progress {
     pub at: usize,
     pub packets: usize,
@@ -25,7 +25,7 @@ pub struct Progress {
 }
 
 // Why a call ends.
-#[derive(Drop)]
+#[derive(Clone, Copy)]
 pub enum Halt {
     // The input does.
     End,
@@ -39,14 +39,14 @@ pub enum Halt {
     Refused(u8),
 }
 
-#[derive(Drop)]
+#[derive(Clone, Copy)]
 pub struct Pushes {
     pub progress: Progress,
     pub halt: Halt,
 }
 
 // What a turn leads to: a packet more, or the end.
-#[derive(Drop)]
+#[derive(Clone, Copy)]
 pub(crate) enum Turn {
     Taken(Progress),
     Halted(Halt),

@@ -14,7 +14,7 @@ use crate::mpu::MfuHeader;
 use isdb_tlv::bytes;
 
 // What is known of a held object beside its bytes: fields of its first unit, 0 where absent, and its length so far.
-#[derive(Drop)]
+#[derive(Clone, Copy)]
 pub(crate) struct Object {
     pub mpu_sequence_number: u32,
     pub rap: bool,
@@ -26,7 +26,7 @@ pub(crate) struct Object {
     pub length: u32,
 }
 
-#[derive(Drop)]
+#[derive(Clone, Copy)]
 pub(crate) struct Media {
     pub packet_id: u32,
     // The last packet's number, where there was one.

@@ -21,7 +21,7 @@ use crate::message::{Division, Fragment};
 use isdb_tlv::bytes;
 
 // What becomes of a fragment.
-#[derive(Drop)]
+#[derive(Clone, Copy)]
 pub(crate) enum FragmentOutcome {
     // Fewer bytes than its header has.
     Short,
@@ -40,7 +40,7 @@ pub(crate) enum FragmentOutcome {
 }
 
 // A message that is being joined, as a place holds it.
-#[derive(Drop)]
+#[derive(Clone, Copy)]
 pub(crate) struct Joined {
     pub joining: bool,
     pub long_length: bool,
@@ -49,7 +49,7 @@ pub(crate) struct Joined {
 }
 
 // A fragment as it is received: which place its id has, what that place holds, and what becomes of the fragment.
-#[derive(Drop)]
+#[derive(Clone, Copy)]
 pub(crate) struct ReceivedFragment {
     pub place_for: PlaceFor,
     pub place: Control,

@@ -13,14 +13,14 @@ pub(crate) fn flag(p: &[u8], at: usize) -> bool
     bytes::get_u8(p, at) != 0
 }
 
-#[derive(Drop)]
+#[derive(Clone, Copy)]
 pub(crate) enum Found {
     At(usize),
     Nothing,
 }
 
 // Where a name has its place, or takes the next free one, or that none is free.
-#[derive(Drop)]
+#[derive(Clone, Copy)]
 pub(crate) enum PlaceFor {
     Own(usize),
     Free(usize),

@@ -31,7 +31,7 @@ use isdb_tlv::bytes;
 use isdb_tlv::mmtp::{FecType, Header, MaybeControl, PayloadType};
 
 // Whether the packet was taken, with one record and so many bytes of data handed out, or with none.
-#[derive(Drop)]
+#[derive(Clone, Copy)]
 pub(crate) enum Plain {
     No,
     Yes(usize),

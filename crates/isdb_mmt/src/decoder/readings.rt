@@ -13,14 +13,14 @@ use crate::mpu::MaybeMfu;
 use crate::part::Part;
 use crate::table::mpt::Asset;
 
-#[derive(Drop)]
+#[derive(Clone, Copy)]
 pub enum CountersReading {
     Refused(u8),
     Counters(Counters),
 }
 
 // The last NTP timestamp.
-#[derive(Drop)]
+#[derive(Clone, Copy)]
 pub enum TimeReading {
     Refused(u8),
     Nothing,
@@ -28,14 +28,14 @@ pub enum TimeReading {
 }
 
 // How many tables of an id came that are not decoded.
-#[derive(Drop)]
+#[derive(Clone, Copy)]
 pub enum CountReading {
     Refused(u8),
     Count(u64),
 }
 
 // A packet id, or a key: table id, table id extension and section number.
-#[derive(Drop)]
+#[derive(Clone, Copy)]
 pub enum NameReading {
     Refused(u8),
     Nothing,
@@ -43,20 +43,20 @@ pub enum NameReading {
 }
 
 // The first and the last MPU number of a media packet id.
-#[derive(Drop)]
+#[derive(Clone, Copy)]
 pub struct MpuRange {
     pub first: u32,
     pub last: u32,
 }
 
-#[derive(Drop)]
+#[derive(Clone, Copy)]
 pub enum MaybeRange {
     None,
     Some(MpuRange),
 }
 
 // What is known of a media packet id. Held is the length of the held object.
-#[derive(Drop)]
+#[derive(Clone, Copy)]
 pub struct MediaState {
     pub stats: AssetStats,
     pub sequence: MaybeU32,
@@ -64,7 +64,7 @@ pub struct MediaState {
     pub held: MaybeU32,
 }
 
-#[derive(Drop)]
+#[derive(Clone, Copy)]
 pub enum MediaReading {
     Refused(u8),
     Nothing,
@@ -72,7 +72,7 @@ pub enum MediaReading {
 }
 
 // A held object: the fields of its first unit, and where its bytes so far lie in the lent objects.
-#[derive(Drop)]
+#[derive(Clone, Copy)]
 pub struct HeldObject {
     pub mpu_sequence_number: u32,
     pub rap: bool,
@@ -81,7 +81,7 @@ pub struct HeldObject {
     pub bytes: Part,
 }
 
-#[derive(Drop)]
+#[derive(Clone, Copy)]
 pub enum HeldReading {
     Refused(u8),
     NoId,
@@ -90,13 +90,13 @@ pub enum HeldReading {
 }
 
 // What is known of a control message's packet id. Joined is the length of the message being joined.
-#[derive(Drop)]
+#[derive(Clone, Copy)]
 pub struct ControlState {
     pub sequence: MaybeU32,
     pub joined: MaybeU32,
 }
 
-#[derive(Drop)]
+#[derive(Clone, Copy)]
 pub enum ControlReading {
     Refused(u8),
     Nothing,
@@ -104,7 +104,7 @@ pub enum ControlReading {
 }
 
 // A kept table: where its bytes lie in the lent tables.
-#[derive(Drop)]
+#[derive(Clone, Copy)]
 pub enum TableReading {
     Refused(u8),
     Nothing,
@@ -113,7 +113,7 @@ pub enum TableReading {
 
 // The asset that a packet id carries: the MPT that names it, by the packet id of its messages and its bytes in the lent tables, the
 // service of the MPT, and the asset, whose parts count in the MPT's bytes.
-#[derive(Drop)]
+#[derive(Clone, Copy)]
 pub struct CarriedAsset {
     pub control_id: u32,
     pub mpt: Part,
@@ -121,7 +121,7 @@ pub struct CarriedAsset {
     pub asset: Asset,
 }
 
-#[derive(Drop)]
+#[derive(Clone, Copy)]
 pub enum AssetReading {
     Refused(u8),
     Nothing,

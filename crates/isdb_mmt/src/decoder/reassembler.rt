@@ -19,7 +19,7 @@ use crate::part::Part;
 
 // What the units do: the object held after them, how many are dropped, the records and data given out, the longest object held
 // on the way, and the data of the last unit.
-#[derive(Drop)]
+#[derive(Clone, Copy)]
 pub(crate) struct MediaEffect {
     pub held: bool,
     pub object: Object,
@@ -30,7 +30,7 @@ pub(crate) struct MediaEffect {
     pub last: Part,
 }
 
-#[derive(Drop)]
+#[derive(Clone, Copy)]
 pub(crate) enum UnitsEffect {
     Malformed,
     Units(MediaEffect),
@@ -412,7 +412,7 @@ fn both(a: bool, b: bool) -> bool
 
 // What a packet would do: whether its payload is malformed, whether its units are taken, the payload's header, the effect of the
 // units.
-#[derive(Drop)]
+#[derive(Clone, Copy)]
 pub(crate) struct MediaOutcome {
     pub bad: bool,
     pub taken: bool,

@@ -17,7 +17,7 @@ use isdb_tlv::bytes;
 pub(crate) const ROW_SIZE: usize = 36;
 
 // What a push answers: 0, or the number of the question that is answered no; the records and data bytes handed out.
-#[derive(Drop)]
+#[derive(Clone, Copy)]
 pub struct Answer {
     pub number: u8,
     pub records: u64,

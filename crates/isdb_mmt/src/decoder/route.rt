@@ -10,7 +10,7 @@ use isdb_tlv::tlv::PacketType;
 use isdb_tlv::{bytes, ip};
 
 // A null packet and one of an undefined kind are told apart, though both are only counted.
-#[derive(Drop)]
+#[derive(Clone, Copy)]
 pub(crate) enum Route {
     // IP data that cannot be read.
     IpError,

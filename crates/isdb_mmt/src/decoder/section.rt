@@ -8,7 +8,7 @@ ghost use Rattle.isdb_mmt.specs.Memory.Session.{section_place_of, section_fields
 use crate::decoder::layout::{SECTION_PLACES, SECTION_SIZE};
 use isdb_tlv::bytes;
 
-#[derive(Drop)]
+#[derive(Clone, Copy)]
 pub(crate) struct KeptSection {
     // Table id, table id extension and section number.
     pub key: u32,

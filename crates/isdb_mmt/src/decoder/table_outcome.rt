@@ -30,7 +30,7 @@ use crate::table::{amt, bit, eit, mpt, nit, plt, sdt, section, tot};
 use isdb_tlv::bytes;
 
 // Whether a section's body parses, and how many descriptor loops break on the way.
-#[derive(Drop)]
+#[derive(Clone, Copy)]
 pub(crate) struct BodyRead {
     pub ok: bool,
     pub breaks: usize,
@@ -38,7 +38,7 @@ pub(crate) struct BodyRead {
 
 // The MPT, the PLT or the TOT that is kept: whether there is one, its version, where it lies (0: in its area, else one more than
 // its place in the message) and its length.
-#[derive(Drop)]
+#[derive(Clone, Copy)]
 pub(crate) struct Recent {
     pub there: bool,
     pub version: u8,
@@ -47,7 +47,7 @@ pub(crate) struct Recent {
 }
 
 // What a table leaves to do.
-#[derive(Drop)]
+#[derive(Clone, Copy)]
 pub(crate) enum TableAction {
     Nothing,
     Other(u8),
@@ -59,7 +59,7 @@ pub(crate) enum TableAction {
 }
 
 // What a table adds to the counts, and what it leaves to do.
-#[derive(Drop)]
+#[derive(Clone, Copy)]
 pub(crate) struct TableOutcome {
     pub crc_errors: u64,
     pub malformed: u64,

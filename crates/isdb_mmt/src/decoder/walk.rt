@@ -19,7 +19,7 @@ use isdb_tlv::{bytes, si};
 const SECTIONS: usize = MOST_SECTIONS as usize;
 
 // What the walk carries.
-#[derive(Drop)]
+#[derive(Clone, Copy)]
 pub(crate) struct WalkState {
     pub used: usize,
     pub tables: u64,

@@ -9,19 +9,19 @@ use crate::table::section::{LongSection, SectionError, SectionHeader};
 use isdb_tlv::bytes;
 use isdb_tlv::ip::Address;
 
-#[derive(Drop)]
+#[derive(Clone, Copy)]
 pub struct Amt {
     pub services: u16,
 }
 
-#[derive(Drop)]
+#[derive(Clone, Copy)]
 pub enum AmtResult {
     Ok(SectionHeader, Amt),
     Err(SectionError),
 }
 
 // A service's source and destination, each an address and the length of its mask.
-#[derive(Drop)]
+#[derive(Clone, Copy)]
 pub struct AmtService {
     pub service_id: u16,
     pub src: Address,
@@ -30,7 +30,7 @@ pub struct AmtService {
     pub dst_mask: u8,
 }
 
-#[derive(Drop)]
+#[derive(Clone, Copy)]
 pub enum AmtStep {
     Malformed,
     Service(AmtService, usize),

@@ -9,21 +9,21 @@ use crate::table::section::{Entry, EntryStep, LongSection, SectionError, Section
 use isdb_tlv::bytes;
 
 // The fields of a section's body: its first descriptor loop, and how many broadcasters stand behind it.
-#[derive(Drop)]
+#[derive(Clone, Copy)]
 pub struct Bit {
     pub broadcast_view_propriety: bool,
     pub descriptors: Part,
     pub broadcasters: usize,
 }
 
-#[derive(Drop)]
+#[derive(Clone, Copy)]
 pub enum BitResult {
     Ok(SectionHeader, Bit),
     Err(SectionError),
 }
 
 // What a section gives, and how many descriptor loops broke on the way.
-#[derive(Drop)]
+#[derive(Clone, Copy)]
 pub struct BitParsed {
     pub result: BitResult,
     pub breaks: usize,
@@ -83,13 +83,13 @@ pub fn parse(b: &[u8]) -> BitParsed
     }
 }
 
-#[derive(Drop)]
+#[derive(Clone, Copy)]
 pub struct Broadcaster {
     pub broadcaster_id: u8,
     pub descriptors: Part,
 }
 
-#[derive(Drop)]
+#[derive(Clone, Copy)]
 pub enum BroadcasterStep {
     End,
     Malformed,

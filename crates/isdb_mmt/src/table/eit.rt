@@ -13,7 +13,7 @@ use crate::table::section::{Entry, EntryStep, LongSection, SectionError, Section
 use isdb_tlv::bytes;
 
 // The fields of a section's body, and how many events it has.
-#[derive(Drop)]
+#[derive(Clone, Copy)]
 pub struct Eit {
     pub tlv_stream_id: u16,
     pub original_network_id: u16,
@@ -22,14 +22,14 @@ pub struct Eit {
     pub events: usize,
 }
 
-#[derive(Drop)]
+#[derive(Clone, Copy)]
 pub enum EitResult {
     Ok(SectionHeader, Eit),
     Err(SectionError),
 }
 
 // What a section gives, and how many descriptor loops broke on the way.
-#[derive(Drop)]
+#[derive(Clone, Copy)]
 pub struct EitParsed {
     pub result: EitResult,
     pub breaks: usize,
@@ -81,7 +81,7 @@ pub fn parse(b: &[u8]) -> EitParsed
     }
 }
 
-#[derive(Drop)]
+#[derive(Clone, Copy)]
 pub struct Event {
     pub event_id: u16,
     // Start time, 40 bits: Japan standard time, a day number and BCD.
@@ -93,7 +93,7 @@ pub struct Event {
     pub descriptors: Part,
 }
 
-#[derive(Drop)]
+#[derive(Clone, Copy)]
 pub enum EventStep {
     End,
     Malformed,

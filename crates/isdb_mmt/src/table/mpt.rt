@@ -26,7 +26,7 @@ pub fn declared_length(b: &[u8]) -> MaybeUsize
     MaybeUsize::Some(n)
 }
 
-#[derive(Drop)]
+#[derive(Clone, Copy)]
 pub struct Asset {
     pub identifier_type: u8,
     pub asset_id_scheme: u32,
@@ -40,7 +40,7 @@ pub struct Asset {
     pub descriptors: Part,
 }
 
-#[derive(Drop)]
+#[derive(Clone, Copy)]
 pub enum AssetStep {
     Malformed,
     Asset(Asset, usize),
@@ -123,7 +123,7 @@ pub fn asset_at(t: &[u8], at: usize) -> AssetStep
 }
 
 // Whether n assets are whole, and how many of their descriptor loops break up to where one is not.
-#[derive(Drop)]
+#[derive(Clone, Copy)]
 pub struct AssetLoop {
     pub whole: bool,
     pub breaks: usize,
@@ -157,7 +157,7 @@ fn read_loop(t: &[u8], n: u8, from: usize) -> AssetLoop
     }
 }
 
-#[derive(Drop)]
+#[derive(Clone, Copy)]
 pub struct Mpt {
     // 20h, or 11h to 1Fh for a subset.
     pub table_id: u8,
@@ -170,14 +170,14 @@ pub struct Mpt {
     pub start: usize,
 }
 
-#[derive(Drop)]
+#[derive(Clone, Copy)]
 pub enum MaybeMpt {
     None,
     Some(Mpt),
 }
 
 // What a table gives, and how many descriptor loops broke on the way.
-#[derive(Drop)]
+#[derive(Clone, Copy)]
 pub struct MptParsed {
     pub mpt: MaybeMpt,
     pub breaks: usize,

@@ -12,14 +12,14 @@ use crate::table::section::{Entry, EntryStep, LongSection, SectionError, Section
 use isdb_tlv::bytes;
 
 // The parts of a section's body: the network's descriptors, the loop of streams, and how many they are.
-#[derive(Drop)]
+#[derive(Clone, Copy)]
 pub struct Nit {
     pub descriptors: Part,
     pub loop_part: Part,
     pub streams: usize,
 }
 
-#[derive(Drop)]
+#[derive(Clone, Copy)]
 pub enum NitResult {
     Ok(SectionHeader, Nit),
     Err(SectionError),
@@ -77,14 +77,14 @@ pub fn parse(b: &[u8]) -> NitResult
     }
 }
 
-#[derive(Drop)]
+#[derive(Clone, Copy)]
 pub struct NitStream {
     pub tlv_stream_id: u16,
     pub original_network_id: u16,
     pub descriptors: Part,
 }
 
-#[derive(Drop)]
+#[derive(Clone, Copy)]
 pub enum StreamStep {
     End,
     Malformed,
@@ -116,7 +116,7 @@ pub fn next_stream(streams: &[u8], at: usize) -> StreamStep
 }
 
 // A TLV-SI descriptor; a loop ends where one does not fit.
-#[derive(Drop)]
+#[derive(Clone, Copy)]
 pub enum TlvStep {
     End,
     Descriptor { tag: u8, body: Part, next: usize },
@@ -190,7 +190,7 @@ pub fn satellite_frequency_khz(tag: u8, b: &[u8]) -> MaybeU64
     }
 }
 
-#[derive(Drop)]
+#[derive(Clone, Copy)]
 pub enum MaybePart {
     None,
     Some(Part),

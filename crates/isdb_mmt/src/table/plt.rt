@@ -10,7 +10,7 @@ use crate::part::Part;
 use crate::table::mpt;
 use isdb_tlv::bytes;
 
-#[derive(Drop)]
+#[derive(Clone, Copy)]
 pub struct Package {
     pub package_id: Part,
     // A URL's place counts from the location's first byte, location_start.
@@ -18,7 +18,7 @@ pub struct Package {
     pub location_start: usize,
 }
 
-#[derive(Drop)]
+#[derive(Clone, Copy)]
 pub enum PackageStep {
     Malformed,
     Package(Package, usize),
@@ -66,13 +66,13 @@ fn packages_end(t: &[u8], n: u8, from: usize) -> MaybeUsize
     MaybeUsize::Some(at)
 }
 
-#[derive(Drop)]
+#[derive(Clone, Copy)]
 pub struct IpDelivery {
     pub transport_file_id: u32,
     pub location_type: u8,
 }
 
-#[derive(Drop)]
+#[derive(Clone, Copy)]
 pub enum DeliveryStep {
     Malformed,
     Delivery(IpDelivery, usize),
@@ -137,7 +137,7 @@ fn deliveries_whole(t: &[u8], n: u8, from: usize) -> bool
     true
 }
 
-#[derive(Drop)]
+#[derive(Clone, Copy)]
 pub struct Plt {
     pub version: u8,
     // How many packages there are; the first stands at 5.
@@ -147,7 +147,7 @@ pub struct Plt {
     pub deliveries_start: usize,
 }
 
-#[derive(Drop)]
+#[derive(Clone, Copy)]
 pub enum MaybePlt {
     None,
     Some(Plt),

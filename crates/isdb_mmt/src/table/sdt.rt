@@ -13,20 +13,20 @@ use crate::table::section::{Entry, EntryStep, LongSection, SectionError, Section
 use isdb_tlv::bytes;
 
 // The field of a section's body, and how many services it has.
-#[derive(Drop)]
+#[derive(Clone, Copy)]
 pub struct Sdt {
     pub original_network_id: u16,
     pub services: usize,
 }
 
-#[derive(Drop)]
+#[derive(Clone, Copy)]
 pub enum SdtResult {
     Ok(SectionHeader, Sdt),
     Err(SectionError),
 }
 
 // What a section gives, and how many descriptor loops broke on the way.
-#[derive(Drop)]
+#[derive(Clone, Copy)]
 pub struct SdtParsed {
     pub result: SdtResult,
     pub breaks: usize,
@@ -75,7 +75,7 @@ pub fn parse(b: &[u8]) -> SdtParsed
     }
 }
 
-#[derive(Drop)]
+#[derive(Clone, Copy)]
 pub struct SdtService {
     pub service_id: u16,
     pub eit_user_defined_flags: u8,
@@ -86,7 +86,7 @@ pub struct SdtService {
     pub descriptors: Part,
 }
 
-#[derive(Drop)]
+#[derive(Clone, Copy)]
 pub enum SdtStep {
     End,
     Malformed,

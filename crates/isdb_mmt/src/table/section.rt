@@ -9,7 +9,7 @@ use crate::desc;
 use crate::part::Part;
 use isdb_tlv::{bytes, crc};
 
-#[derive(Drop)]
+#[derive(Clone, Copy)]
 pub struct SectionHeader {
     pub table_id: u8,
     // Table id extension: service id, TLV stream id, network id, ..
@@ -24,7 +24,7 @@ pub struct SectionHeader {
 }
 
 // Why a section was not read.
-#[derive(Drop)]
+#[derive(Clone, Copy)]
 pub enum SectionError {
     // Shorter than its header or its section_length.
     Truncated,
@@ -34,7 +34,7 @@ pub enum SectionError {
     Malformed,
 }
 
-#[derive(Drop)]
+#[derive(Clone, Copy)]
 pub enum LongSection {
     Ok(SectionHeader),
     Err(SectionError),
@@ -81,13 +81,13 @@ pub fn long_section(b: &[u8]) -> LongSection
 }
 
 // An entry of a table's loop: fields from at on, then a descriptor loop behind its length of 12 bits.
-#[derive(Drop)]
+#[derive(Clone, Copy)]
 pub struct Entry {
     pub at: usize,
     pub descriptors: Part,
 }
 
-#[derive(Drop)]
+#[derive(Clone, Copy)]
 pub enum EntryStep {
     End,
     Malformed,
@@ -120,7 +120,7 @@ pub fn next_entry(b: &[u8], fields: u8, at: usize) -> EntryStep
 }
 
 // How many entries a loop has, how many of their descriptor loops break, and whether it ends with its last entry.
-#[derive(Drop)]
+#[derive(Clone, Copy)]
 pub struct Entries {
     pub count: usize,
     pub breaks: usize,

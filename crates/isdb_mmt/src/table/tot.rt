@@ -8,21 +8,21 @@ use crate::table::section;
 use crate::table::section::SectionError;
 use isdb_tlv::{bytes, crc};
 
-#[derive(Drop)]
+#[derive(Clone, Copy)]
 pub struct Tot {
     // Japan standard time, 40 bits: a day number and BCD.
     pub jst: u64,
     pub descriptors: Part,
 }
 
-#[derive(Drop)]
+#[derive(Clone, Copy)]
 pub enum TotResult {
     Ok(Tot),
     Err(SectionError),
 }
 
 // What a section gives, and how many descriptor loops broke on the way.
-#[derive(Drop)]
+#[derive(Clone, Copy)]
 pub struct TotParsed {
     pub result: TotResult,
     pub breaks: usize,

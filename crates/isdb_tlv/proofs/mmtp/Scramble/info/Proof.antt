@@ -1,9 +1,0 @@
-use borrow.Author.Rules.{rules}
-use Rattle.isdb_tlv.proofs.mmtp.Scramble.info.Statement.{statement}
-use Rattle.isdb_tlv.proofs.mmtp.Scramble.info.Tie as tie
-
-returns-3 : tie.Need-returns-3
-returns-3 c = rw c.before.self.given.1
-
-pub info_spec : {M : Type 1} → statement M
-info_spec = tie.close (tie.spec (λ c. search rules) (λ c. search rules) (λ c. search rules) (λ c. search rules) (λ c. search rules) returns-3)
