@@ -45,7 +45,16 @@ class Function:
         """The path of today for the old one: c, so many .before, then rest."""
         if not rest:
             raise Lost("a place as a whole")
-        first = flat(rest[0])
+        # the scripts before took some steps for definitions of their name
+        first, last = flat(rest[0]), None
+        for first in (first, first[:1].lower() + first[1:], first[2:3].lower() + first[3:], re.sub(r"_(of|lem)$", "", first)):
+            try:
+                return self.step(first, at, befores, rest)
+            except Lost as e:
+                last = last or e
+        raise last
+
+    def step(self, first, at, befores, rest):
         if first in ("args", "requires", "ranges", "type_inv", "well_formed"):
             return ["c"] + rest
         places, chain = self.n["places"], self.chain(at)
@@ -251,6 +260,8 @@ def turn(crate, name, folder, names, said):
             was, need = m.group(1), flat(m.group(2))
             if need not in needs and need.startswith("overflow_"):
                 need = need[9:]
+            if need not in needs and need.startswith("slice_bounds_"):
+                need = "part_" + need[13:]
             if need not in needs:
                 say(f"no need {m.group(2)}: has {sorted(needs)}")
                 continue

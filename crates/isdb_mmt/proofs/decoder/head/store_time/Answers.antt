@@ -1,0 +1,9 @@
+use Rattle.isdb_mmt.proofs.Lent.{put_none}
+use Rattle.isdb_mmt.specs.Memory.Layout.{time_place}
+use Rattle.isdb_mmt.specs.Memory.Session.{time_fields}
+use Rattle.isdb_mmt.proofs.Stored.{stored}
+use Rattle.std.proofs.Common.{refl, arith}
+use Rattle.isdb_mmt.proofs.decoder.head.store_time.Goals as goal
+
+pub returns : goal.returns
+returns c = let x = c.args in stored (time_fields x.x) time_place x.s.now (omega arith) (rw (c.put4.ensures, put_none, put_none) refl)

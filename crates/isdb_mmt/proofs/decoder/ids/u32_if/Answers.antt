@@ -1,0 +1,4 @@
+use Rattle.isdb_mmt.proofs.decoder.ids.u32_if.Goals as goal
+
+pub returns-then-there : goal.returns-then-there
+returns-then-there c = rw c.if-there.true

@@ -1,9 +1,0 @@
-use Rattle.std.proofs.Common.{rules}
-use Rattle.isdb_mmt.proofs.decoder.ids.u32_if.Statement.{statement}
-use Rattle.isdb_mmt.proofs.decoder.ids.u32_if.Tie as tie
-
-returns : tie.Need-returns
-returns c = rw c.if1.true
-
-pub u32_if_spec : {M : Type 1} → statement M
-u32_if_spec = tie.close (tie.spec returns (λ c. search rules))

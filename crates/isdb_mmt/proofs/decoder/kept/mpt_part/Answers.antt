@@ -1,0 +1,16 @@
+use Rattle.isdb_mmt.proofs.KeptParts.{mpt_in_use, mpt_none, mpt_some}
+use Rattle.isdb_mmt.proofs.Checks.{controls_within}
+use Rattle.std.proofs.Common.{rules}
+use Rattle.isdb_mmt.proofs.decoder.kept.mpt_part.Goals as goal
+
+pub find-requires : goal.find-requires
+find-requires c = search (rules, controls_within)
+
+pub mpt_part_at-requires : goal.mpt_part_at-requires
+mpt_part_at-requires c = search (rules, mpt_in_use)
+
+pub returns-in-Nothing : goal.returns-in-Nothing
+returns-in-Nothing c = search (rules, mpt_none)
+
+pub returns-in-At : goal.returns-in-At
+returns-in-At c = search (rules, mpt_some)

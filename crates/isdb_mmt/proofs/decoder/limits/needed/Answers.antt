@@ -1,0 +1,22 @@
+use Rattle.isdb_mmt.proofs.Guards.{yes}
+use Rattle.isdb_mmt.specs.Memory.Limits.{needed_of}
+use Rattle.isdb_mmt.proofs.decoder.limits.needed.Goals as goal
+
+pub returns-then-not-places_in_range : goal.returns-then-not-places_in_range
+unfolding needed_of
+returns-then-not-places_in_range c = simp (← c.places_in_range.ensures, c.if-not-places_in_range.true)
+
+pub returns-then-not-areas_in_range : goal.returns-then-not-areas_in_range
+unfolding needed_of
+returns-then-not-areas_in_range c = simp (← c.places_in_range.ensures, c.if-not-places_in_range.false, ← c.areas_in_range.ensures, c.if-not-areas_in_range.true)
+
+pub returns-then-not-packets_in_range : goal.returns-then-not-packets_in_range
+unfolding needed_of
+returns-then-not-packets_in_range c = simp (← c.places_in_range.ensures, c.if-not-places_in_range.false, ← c.areas_in_range.ensures, c.if-not-areas_in_range.false, ← c.packets_in_range.ensures, c.if-not-packets_in_range.true)
+
+pub lengths_for-requires : goal.lengths_for-requires
+lengths_for-requires c = (yes c.places_in_range.ensures c.if-not-places_in_range.false, yes c.areas_in_range.ensures c.if-not-areas_in_range.false)
+
+pub returns : goal.returns
+unfolding needed_of
+returns c = simp (← c.places_in_range.ensures, c.if-not-places_in_range.false, ← c.areas_in_range.ensures, c.if-not-areas_in_range.false, ← c.packets_in_range.ensures, c.if-not-packets_in_range.false, ← c.lengths_for.ensures)

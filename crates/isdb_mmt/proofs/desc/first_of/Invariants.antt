@@ -1,0 +1,9 @@
+use Rattle.std.proofs.Common.{◌≡◌, ◌-◌, length}
+use Rattle.isdb_mmt.specs.Formats.Desc.{first_of}
+use Rattle.isdb_mmt.proofs.desc.first_of.Given as goal
+
+abbrev pub invariant-loop-t : goal.invariant-loop-t
+invariant-loop-t l = first_of l.tag l.b l.at ≡ first_of l.tag l.b 0
+
+abbrev pub decreases-loop-t : goal.decreases-loop-t
+decreases-loop-t l = length l.b - l.at

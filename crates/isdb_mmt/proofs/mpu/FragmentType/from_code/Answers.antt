@@ -1,0 +1,19 @@
+use Rattle.std.proofs.Common.{ne_eqb}
+use Rattle.isdb_mmt.specs.Formats.Mpu.{fragment_type_of}
+use Rattle.isdb_mmt.proofs.mpu.FragmentType.from_code.Goals as goal
+
+pub returns-in-0 : goal.returns-in-0
+unfolding fragment_type_of
+returns-in-0 c = rw c.in-0.is
+
+pub returns-in-1 : goal.returns-in-1
+unfolding fragment_type_of
+returns-in-1 c = rw c.in-1.is
+
+pub returns-in-2 : goal.returns-in-2
+unfolding fragment_type_of
+returns-in-2 c = rw c.in-2.is
+
+pub returns-in_default : goal.returns-in_default
+unfolding fragment_type_of
+returns-in_default c = let r = c.in_default.in_default-own.rest in rw (ne_eqb _ 0 r.0.0.1, ne_eqb _ 1 r.0.1, ne_eqb _ 2 r.1)

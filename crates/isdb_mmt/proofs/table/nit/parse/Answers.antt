@@ -1,0 +1,10 @@
+use Rattle.isdb_mmt.specs.Formats.Nit.{nit_of}
+use Rattle.isdb_mmt.proofs.table.nit.parse.Goals as goal
+
+pub returns-in-Err : goal.returns-in-Err
+unfolding nit_of
+returns-in-Err c = rw (← c.long_section.ensures, c.in-Err.is)
+
+pub returns-in-Ok : goal.returns-in-Ok
+unfolding nit_of
+returns-in-Ok c = rw (← c.long_section.ensures, c.in-Ok.is, ← c.of.ensures, ← c.read.ensures)
