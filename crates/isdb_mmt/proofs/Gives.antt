@@ -1,5 +1,5 @@
 -- Records written one behind the other: one turn of the walk. Assumes nothing.
-use Rattle.std.proofs.Common.{◌≡◌, ℕ, ◌+◌, ◌-◌, ◌*◌, ◌<◌, ◌≤◌, Bool, true, false, List, [], ◌∷◌, map, length, sym, refl, ap, ◌∙◌, arith, w32, w64, Fits}
+use Rattle.std.proofs.Common.{◌≡◌, ℕ, ◌+◌, ◌-◌, ◌*◌, ◌<◌, ◌≤◌, Bool, true, false, List, [], ◌∷◌, map, subst, length, sym, refl, ap, ◌∙◌, arith, w32, w64, Fits}
 use mathlib.Core.Option.{Option, none, some}
 use borrow.Rule.Slice.PartMut.{put_mid}
 use Rattle.isdb_tlv.specs.Bytes.{put_be}
@@ -17,6 +17,7 @@ use Rattle.isdb_mmt.specs.Pushes.Records.{row_size, record_flags, record_fields,
 use Rattle.isdb_mmt.specs.Pushes.MediaEffect.{unit_object}
 use Rattle.isdb_mmt.specs.Pushes.MediaCommit.{OneFits, OnePut}
 use Rattle.isdb_mmt.specs.Pushes.Giving.{unit_rec, unit_recs, Outputs, Gave}
+use Rattle.isdb_mmt.specs.declared.mpu.FragmentationIndicator.{FragmentationIndicator}
 use Rattle.isdb_mmt.specs.declared.mpu.FragmentationIndicator.TheVariants.{Complete}
 use Rattle.isdb_mmt.specs.declared.mpu.MfuHeader.{MfuHeader}
 use Rattle.isdb_mmt.specs.declared.mpu.PayloadHeader.{PayloadHeader}
@@ -236,5 +237,6 @@ pub complete_gives : (m : MpuPacket) (h : PayloadHeader) (q : Bytes) → h.fragm
 unfolding delivered_by tagged unit_recs unit_effect effect_of object_of
 complete_gives m h q e [] a = refl
 complete_gives m h q e (u ∷ us) a =
-    let i = complete_gives m h q e us (after_unit a (unit_effect m a (payload_unit h q u))) in
-    rw e (ap (λ (rs : List Rec). unit_rec m.id (mpu_number m.header) m.rap q u ∷ rs) (rw e at i))
+    let i = subst (λ (k : FragmentationIndicator). tagged m.id (delivered_by m (after_unit a (effect_of k a.held (object_of m (payload_unit h q u)))) (map (payload_unit h q) us)) ≡ unit_recs m.id (mpu_number m.header) m.rap q (some us)) e
+            (complete_gives m h q e us (after_unit a (unit_effect m a (payload_unit h q u)))) in
+    rw e (ap (λ (rs : List Rec). unit_rec m.id (mpu_number m.header) m.rap q u ∷ rs) i)

@@ -249,7 +249,7 @@ module _ (st ot ob me ta : List ℕ) (h : Header) (b rows out : Bytes) (i : ℕ)
   zero_is = ap (λ (z : Answer). z.number) answer_is
 
   own : Own i ≡ media_place_for st h.packet_id
-  own = sym whole.own_val
+  own = sym whole.own
 
   place_here : m ≡ place_in st (Own i)
   unfolding place_in
@@ -282,7 +282,7 @@ module _ (st ot ob me ta : List ℕ) (h : Header) (b rows out : Bytes) (i : ℕ)
         }
 
     id_is : m.packet_id ≡ h.packet_id
-    id_is = own_id st h.packet_id i whole.own_val
+    id_is = own_id st h.packet_id i whole.own
 
     after_is : place_after_of h.packet_id m h.sequence h.scramble_info r.header r.bad r.units ≡ next_of m h.sequence
     unfolding complete_unit next_of

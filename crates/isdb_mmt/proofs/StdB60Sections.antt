@@ -102,6 +102,8 @@ entries_read s k at (e ∷ es) c h n =
 
 each_length : {A B : Type 0} (R : A → B → Type 0) (xs : List A) (ys : List B) → Each R xs ys → length ys ≡ length xs
 each_length R [] [] h = refl
+each_length R [] (y ∷ ys) h = elim h [ ]
+each_length R (x ∷ xs) [] h = elim h [ ]
 each_length R (x ∷ xs) (y ∷ ys) h = rw (each_length R xs ys h.1)
 
 -- a kind of things that a table tells of, with `k` bytes of fields for each: one that conforms is sent as an entry, and what is
@@ -128,6 +130,8 @@ module _ {A B W : Type 0} {k : ℕ} {conforms : A → Type 0} {sends : A → Sen
   all_told : (s : List ℕ) (xs : List A) → All conforms xs → (ys : List Entry) → Each (Holds s) (map sends xs) ys
       → map (seen s) (map (of s) ys) ≡ map value xs
   all_told s [] h [] g = refl
+  all_told s [] h (y ∷ ys) g = elim g [ ]
+  all_told s (x ∷ xs) h [] g = elim g [ ]
   all_told s (x ∷ xs) h (y ∷ ys) g = ap₂ ◌∷◌ (kind.told s x h.0 y g.0) (all_told s xs h.1 ys g.1)
 
   -- behind other bytes, and to the end

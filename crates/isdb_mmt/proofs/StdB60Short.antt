@@ -73,10 +73,10 @@ flow_step {s} {at} x c h =
 flows_read : {s : List ℕ} {at : ℕ} (xs : List SentFlow) → All FlowConforming xs → FoundAt s at (flows_sent xs)
     → services_from (length xs) s at ≡ some (map (λ x. flow_seen x x.flow) xs)
 flows_read [] c h = refl
-flows_read (x ∷ xs) c h =
+flows_read {s = s} {at = at} (x ∷ xs) c h =
     rw (
       flow_step x c.0 (located_front (flow_sent x) (flows_sent xs) h),
-      flows_read xs c.1 (located_rest (flow_sent x) (flows_sent xs) h refl),
+      flows_read {at = at + length (flow_sent x)} xs c.1 (located_rest (flow_sent x) (flows_sent xs) h refl),
     )
 
 abbrev amt_head : SentAmt → List Field

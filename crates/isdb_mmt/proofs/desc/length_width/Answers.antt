@@ -20,7 +20,7 @@ returns-in-61440-to-65535 c = let t = c.args.tag in rw (ne_eqb t 2 (λ e. omega 
 
 pub returns-in_default : goal.returns-in_default
 unfolding length_width_of
-returns-in_default c = let t = c.args.tag in rw (ne_eqb t 2 c.in_default-1.rest.1, lt-ltb t 0x4000 (omega arith))
+returns-in_default c = let t = c.args.tag in rw (ne_eqb t 2 (λ e. omega arith), lt-ltb t 0x4000 (omega arith))
 
 pub returns-in_default-2 : goal.returns-in_default-2
 unfolding length_width_of

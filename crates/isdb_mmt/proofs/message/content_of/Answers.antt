@@ -29,7 +29,7 @@ returns-in_default c = let t = c.get_u16.result in
     rw (
       le-ltb _ _ c.if-m-lt2.false,
       ← c.get_u16.ensures,
-      ne_eqb t 0 c.in_default-1.rest.1,
+      ne_eqb t 0 (λ e. omega arith),
       lt-ltb t 0x8000 (omega arith),
     )
 

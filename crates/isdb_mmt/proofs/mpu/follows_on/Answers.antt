@@ -3,4 +3,4 @@ use Rattle.isdb_mmt.proofs.mpu.follows_on.Goals as goal
 
 pub returns : goal.returns
 unfolding follows
-returns c = rw c.wrapping_add_u32.ensures
+returns c = rw c.wrapping_add_u32.ensures.value

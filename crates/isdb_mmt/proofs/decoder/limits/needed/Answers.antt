@@ -1,3 +1,4 @@
+use Rattle.std.proofs.Common.{ap, not}
 use Rattle.isdb_mmt.proofs.Guards.{yes}
 use Rattle.isdb_mmt.specs.Memory.Limits.{needed_of}
 use Rattle.isdb_mmt.proofs.decoder.limits.needed.Goals as goal
@@ -15,7 +16,7 @@ unfolding needed_of
 returns-then-not-packets_in_range c = simp (← c.places_in_range.ensures, c.if-not-places_in_range.false, ← c.areas_in_range.ensures, c.if-not-areas_in_range.false, ← c.packets_in_range.ensures, c.if-not-packets_in_range.true)
 
 pub lengths_for-requires : goal.lengths_for-requires
-lengths_for-requires c = (yes c.places_in_range.ensures c.if-not-places_in_range.false, yes c.areas_in_range.ensures c.if-not-areas_in_range.false)
+lengths_for-requires c = (yes c.places_in_range.ensures (ap not c.if-not-places_in_range.false), yes c.areas_in_range.ensures (ap not c.if-not-areas_in_range.false))
 
 pub returns : goal.returns
 unfolding needed_of

@@ -1,4 +1,4 @@
-use Rattle.std.proofs.Common.{◌≡◌, ◌+◌, ◌-◌, ◌*◌, ◌≤◌, ◌∷◌}
+use Rattle.std.proofs.Common.{◌≡◌, ◌+◌, ◌-◌, ◌*◌, ◌≤◌, [], ◌∷◌}
 use Rattle.isdb_mmt.proofs.Names.{Marked, few_cell}
 use Rattle.isdb_mmt.specs.Memory.Lent.{names_from}
 use Rattle.isdb_mmt.proofs.decoder.place.few_apart.Given as goal

@@ -1,3 +1,4 @@
+use borrow.Enum.Refused.{opened}
 use Rattle.isdb_mmt.proofs.Assets.{no_tag}
 use Rattle.isdb_mmt.specs.Formats.Mpt.{component_tag_of_lem}
 use Rattle.isdb_mmt.proofs.table.mpt.component_tag.Goals as goal
@@ -12,4 +13,4 @@ returns-in-StreamIdentifier c = rw (← c.first_of.ensures, c.in-Some.is, c.in-S
 
 pub returns-in_default : goal.returns-in_default
 unfolding component_tag_of_lem
-returns-in_default c = rw (← c.first_of.ensures, c.in-Some.is, no_tag c.in-Some.d c.in_default.in_default-own.keys2)
+returns-in_default c = rw (← c.first_of.ensures, c.in-Some.is, no_tag c.in-Some.d (opened c.in_default.in_default-own.keys2))
