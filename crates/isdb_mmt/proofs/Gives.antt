@@ -238,5 +238,5 @@ unfolding delivered_by tagged unit_recs unit_effect effect_of object_of
 complete_gives m h q e [] a = refl
 complete_gives m h q e (u ∷ us) a =
     let i = subst (λ (k : FragmentationIndicator). tagged m.id (delivered_by m (after_unit a (effect_of k a.held (object_of m (payload_unit h q u)))) (map (payload_unit h q) us)) ≡ unit_recs m.id (mpu_number m.header) m.rap q (some us)) e
-            (complete_gives m h q e us (after_unit a (unit_effect m a (payload_unit h q u)))) in
+    (complete_gives m h q e us (after_unit a (unit_effect m a (payload_unit h q u)))) in
     rw e (ap (λ (rs : List Rec). unit_rec m.id (mpu_number m.header) m.rap q u ∷ rs) i)

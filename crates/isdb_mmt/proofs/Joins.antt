@@ -5,7 +5,7 @@ use mathlib.Core.Option.{Option, none, some}
 use Rattle.isdb_tlv.proofs.Guards.{cond_elim}
 use Rattle.isdb_mmt.specs.declared.decoder.counts.Counters.{Counters}
 use Rattle.isdb_mmt.specs.Formats.Part.{part_of}
-use Rattle.isdb_mmt.specs.Decoder.Packet.{Bytes, MessagePacket, ntp}
+use Rattle.isdb_mmt.specs.Decoder.Packet.{Bytes, MessagePacket}
 use Rattle.isdb_mmt.specs.Formats.Message.{tables_from, aggregated_from, content_of_lem}
 use Rattle.isdb_mmt.specs.Decoder.Objects.{gap}
 use Rattle.isdb_mmt.specs.Decoder.Reassembly.{PartialMessage, Reassembly, most_message, short, flags_of, part_before, joined_on, part_after, whole_of, reassembly_after, message_completed, orphan, oversize, TablesFound, parts_of, tables_in, tables_of, tables_of_all, messages_of, cut_of, cut_of_all}

@@ -1,5 +1,5 @@
 -- Where kept tables lie, and whether they parse: one law for each return. Assumes nothing.
-use Rattle.std.proofs.Common.{◌≡◌, ℕ, ◌+◌, ◌*◌, ◌/◌, ◌<◌, Bool, true, false, not, length, sym, refl, ap, ◌∙◌, arith, w64, Fits}
+use Rattle.std.proofs.Common.{◌≡◌, ℕ, ◌+◌, ◌*◌, ◌/◌, ◌<◌, Bool, true, false, not, sym, refl, ap, ◌∙◌, arith, w64, Fits}
 use mathlib.Core.Option.{Option, some}
 use borrow.Author.Tests.{not-true, not-false}
 use Rattle.isdb_tlv.specs.Guards.{if◌then◌else◌}

@@ -33,7 +33,7 @@ use Rattle.isdb_mmt.proofs.TableAreas.{AllKept, length_laid, length_kept}
 use Rattle.isdb_mmt.proofs.StateWrites.{TablesFit, length_tables, latest_tables, limits_tables, sections_tables, long_latest, latest_read}
 use Rattle.isdb_mmt.proofs.Placed.{Tied}
 use Rattle.isdb_mmt.proofs.MediaLeaves.{in_objects, within_old, keeps_old, media_old, new_facts, keeps_new, media_new, place_for_free, held_room, tied_next}
-use Rattle.isdb_mmt.proofs.MessageLeaves.{Says, ranges, in_table, kept_within, media_same, controls_same, media_2, sections_t2, long_1, length_1, long_t, len0, len1, len2, in2, in_messages, joined_length, controls_old, message_old, controls_new, all_before, message_new}
+use Rattle.isdb_mmt.proofs.MessageLeaves.{Says, in_table, kept_within, media_same, controls_same, media_2, sections_t2, long_1, length_1, long_t, len0, len1, len2, in2, in_messages, joined_length, controls_old, message_old, controls_new, all_before, message_new}
 use Rattle.isdb_mmt.proofs.PacketLeaves.{Stores, MessageFits, own, place_for_free as control_free, old_free, new_free, sections_plt, sections_tot}
 use Rattle.isdb_mmt.proofs.Stays.{Placed, media_there_lem, control_there_lem, section_there, Exact, exact_was, placed_set, placed_snoc, placed_mono}
 

@@ -1,5 +1,5 @@
 -- What the copies stand for at the start of a walk is the session's view. Assumes nothing.
-use Rattle.std.proofs.Common.{◌≡◌, ℕ, zero, suc, ◌+◌, ◌*◌, ◌≤◌, Bool, true, false, List, [], ◌∷◌, map, length, get_or, take, drop, replicate, refl, ap, ◌∙◌, add-zero, arith, drop-drop, leb-true}
+use Rattle.std.proofs.Common.{◌≡◌, ℕ, zero, suc, ◌+◌, ◌*◌, ◌≤◌, Bool, true, false, List, [], ◌∷◌, map, get_or, take, drop, replicate, refl, ap, ◌∙◌, add-zero, arith, drop-drop, leb-true}
 use Rattle.isdb_mmt.specs.Memory.Layout.{most_sections, section_places, section_size}
 use Rattle.isdb_mmt.specs.Decoder.Packet.{Bytes}
 use Rattle.isdb_mmt.specs.Decoder.Kept.{Kept}

@@ -2,7 +2,7 @@
 use Rattle.std.proofs.Common.{◌≡◌, ℕ, ◌+◌, ◌*◌, ◌≤◌, Bool, true, false, cond, not, ltb, leb, [], length, sym, refl, ◌∙◌, arith, ltb-false, ltb-true, le-leb}
 use borrow.Author.Tests.{lt-leb}
 use Rattle.isdb_tlv.proofs.Guards.{either}
-use Rattle.isdb_mmt.specs.Decoder.Packet.{Bytes, MpuPacket, Packet, media, message}
+use Rattle.isdb_mmt.specs.Decoder.Packet.{Bytes, MpuPacket, Packet, media}
 use Rattle.isdb_mmt.specs.Decoder.Model.{pushed, gives}
 use Rattle.isdb_mmt.specs.Decoder.Needs.{Needs, needs}
 use Rattle.isdb_mmt.specs.Memory.Session.{Session, limits_of, used_of}

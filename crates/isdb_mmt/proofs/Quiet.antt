@@ -3,7 +3,6 @@ use Rattle.std.proofs.Common.{◌≡◌, ℕ, ◌+◌, ◌*◌, ◌<◌, ◌≤�
 use borrow.Author.Tests.{lt-leb}
 use Rattle.isdb_tlv.specs.Guards.{if◌then◌else◌, ◌<?◌}
 use Rattle.isdb_tlv.proofs.Guards.{either}
-use Rattle.isdb_mmt.specs.Decoder.Packet.{message}
 use Rattle.isdb_mmt.specs.Decoder.Needs.{Needs}
 use Rattle.isdb_mmt.specs.Pushes.Records.{row_size}
 use Rattle.isdb_mmt.specs.Pushes.Push.{has_places, has_areas, has_outputs}

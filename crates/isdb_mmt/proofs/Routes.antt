@@ -17,7 +17,6 @@ use Rattle.isdb_mmt.specs.Decoder.Packet.{Bytes, ntp, in_flow, datagram_in, by_k
 use Rattle.isdb_mmt.specs.Pushes.Route.{flow_route, ip_route, route_of, time_in, time_given, routed}
 use Rattle.isdb_mmt.specs.declared.maybe.MaybeU64.TheVariants.{None as no_u64, Some as some_u64}
 use Rattle.isdb_mmt.specs.declared.decoder.route.Route.{Route}
-use Rattle.isdb_mmt.specs.declared.decoder.route.Route.TheVariants as Route
 
 time_given_lem : (p : Bytes) → time_given (time_in p) ≡ cond (ltb (length p) 48) none (some (be 8 p 40))
 time_given_lem p = either (ltb (length p) 48) (λ t. rw t) (λ f. rw f)

@@ -17,7 +17,7 @@ use Rattle.isdb_mmt.specs.declared.decoder.limits.Limits.{Limits}
 use Rattle.isdb_mmt.specs.declared.decoder.head.Used.{Used}
 use Rattle.isdb_mmt.proofs.Lent.{length_over, places_apart}
 use Rattle.isdb_mmt.proofs.Stored.{apart, limits_own, latest_own, time_own, counters_own, used_back, latest_back, counters_back, flag_small}
-use Rattle.isdb_mmt.proofs.Sessions.{Sort, media, controls, sections, in_use, named, place_apart, used_apart}
+use Rattle.isdb_mmt.proofs.Sessions.{Sort, sections, in_use, named, place_apart, used_apart}
 use Rattle.isdb_mmt.proofs.TableAreas.{AllKept, length_rows, rows_read}
 
 -- a sort with as many places in use as before

@@ -25,7 +25,6 @@ use Rattle.isdb_mmt.specs.Pushes.Push.{Fits, asks_of, PacketPushed, QuietPushed,
 use Rattle.isdb_mmt.specs.declared.maybe.MaybeU64.{MaybeU64}
 use Rattle.isdb_mmt.specs.declared.decoder.records.Answer.{Answer}
 use Rattle.isdb_mmt.specs.declared.decoder.route.Route.{Route}
-use Rattle.isdb_mmt.specs.declared.decoder.route.Route.TheVariants as Route
 use Rattle.isdb_mmt.proofs.Counting.{state_countable}
 use Rattle.isdb_mmt.proofs.Questions.{asks_zero, quiet_pushed, media_asks_lem}
 use Rattle.isdb_mmt.proofs.Routes.{route_is}

@@ -5,7 +5,6 @@ use mathlib.Core.Path.{◌≡◌, refl, ap, ◌∙◌}
 use mathlib.Core.Bool.{Bool, true, false, cond, not}
 use mathlib.Core.List.{List, [], ◌∷◌, ◌++◌}
 use mathlib.Core.Option.{Option}
-use mathlib.Core.Option as Option
 use native.Mathlib.Nat.{pow-suc, one-le-pow, div-eq_of_lt, mul-div-mul_right, zero-div}
 use native.Mathlib.Omega.{arith}
 use lib.ListN.{length, take, drop, get_or, length-take, length-drop}

@@ -1,5 +1,5 @@
 -- The walk on copies: an index with a log, and what one table makes of them. Its memory is not limited here.
-use Rattle.std.specs.Prelude.{◌≡◌, ℕ, ◌+◌, ◌-◌, ◌*◌, ◌<◌, ◌≤◌, max, Bool, true, false, List, [], ◌∷◌, ◌++◌, map, length, set, slice_index, slice_set}
+use Rattle.std.specs.Prelude.{◌≡◌, ℕ, ◌+◌, ◌-◌, ◌*◌, ◌<◌, ◌≤◌, max, Bool, true, false, List, [], ◌∷◌, ◌++◌, map, length, slice_index, slice_set}
 use Rattle.std.proofs.Math.Option.{Option, none, some}
 use Rattle.isdb_tlv.specs.Guards.{if◌then◌else◌, ◌<?◌, ◌=?◌}
 use Rattle.isdb_mmt.specs.declared.decoder.counts.Counters.{Counters}

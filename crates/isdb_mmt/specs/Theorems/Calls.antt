@@ -1,6 +1,6 @@
 -- Calls on a session, one after the other, and the claim over every list of them from an accepted opening, turned-down ones among
 -- them. What was accepted and what was handed out is read off the answers; what the session says is read off its bytes.
-use Rattle.std.specs.Prelude.{◌≡◌, ℕ, ◌*◌, Bool, true, List, [], ◌∷◌, ◌++◌, length, ◌≢◌}
+use Rattle.std.specs.Prelude.{◌≡◌, ℕ, ◌*◌, Bool, true, List, [], ◌∷◌, ◌++◌, ◌≢◌}
 use Rattle.std.proofs.Math.Option.{Option, none, some}
 use Rattle.isdb_tlv.specs.Guards.{if◌then◌else◌, ◌=?◌}
 use Rattle.isdb_mmt.specs.Decoder.Packet.{Bytes, Packet}

@@ -33,5 +33,6 @@ returns-in_default c = let t = c.get_u16-id.result in
       ne_eqb t 0 c.in_default-1.rest.1,
       c.other.ensures,
     ) (elim c.in_default.branch [
-      in_default-via-then-id-lt32768 w ↦ rw (lt-ltb t 0x8000 (omega arith))
-      | in_default-via-else-id-lt32768+else-id-lt32771 w ↦ rw (le-ltb t 0x8000 (omega arith), lt-leb t 0x8002 (omega arith)) ])
+      | in_default-via-then-id-lt32768 w ↦ rw (lt-ltb t 0x8000 (omega arith))
+      | in_default-via-else-id-lt32768+else-id-lt32771 w ↦ rw (le-ltb t 0x8000 (omega arith), lt-leb t 0x8002 (omega arith))
+    ])
