@@ -1,0 +1,4 @@
+use Rattle.isdb_host.proofs.descriptors.location_said.Goals as goal
+
+pub returns-in-Some : goal.returns-in-Some
+returns-in-Some c = rw c.in-Some.is c.says_location.ensures

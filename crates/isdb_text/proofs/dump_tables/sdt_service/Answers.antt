@@ -1,0 +1,13 @@
+use Rattle.isdb_text.proofs.Written.{wrote_append}
+use Rattle.isdb_text.specs.DumpTables.{service_text}
+use Rattle.isdb_text.proofs.dump_tables.sdt_service.Goals as goal
+
+pub returns : goal.returns
+unfolding service_text
+returns c =
+    rw (
+      ← c.flag.ensures,
+      ← c.flag-2.ensures,
+      ← c.flag-3.ensures,
+      ← c.of.ensures,
+    ) (wrote_append c.fill-p.ensures c.descriptors.ensures)

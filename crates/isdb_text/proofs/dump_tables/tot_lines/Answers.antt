@@ -1,0 +1,11 @@
+use Rattle.isdb_text.specs.DumpTables.{tot_text}
+use Rattle.isdb_text.proofs.dump_tables.tot_lines.Goals as goal
+
+pub returns-in-Err : goal.returns-in-Err
+unfolding tot_text
+returns-in-Err c = rw (← c.parse-parsed.ensures, c.in-Err.is) c.place.ensures
+
+pub returns-in-Ok : goal.returns-in-Ok
+unfolding tot_text
+returns-in-Ok c =
+    rw (← c.parse-parsed.ensures, c.in-Ok.is) c.tot_table.ensures
