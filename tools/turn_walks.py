@@ -46,8 +46,8 @@ class Function:
         if not rest:
             raise Lost("a place as a whole")
         # the scripts before took some steps for definitions of their name
-        first, last = flat(rest[0]), None
-        for first in (first, first[:1].lower() + first[1:], first[2:3].lower() + first[3:], re.sub(r"_(of|lem)$", "", first)):
+        first, last = flat(rest[0].strip("«»")), None
+        for first in (first, first.lower(), first[:1].lower() + first[1:], first[2:3].lower() + first[3:], re.sub(r"_(of|lem)$", "", first)):
             try:
                 return self.step(first, at, befores, rest)
             except Lost as e:
@@ -86,7 +86,7 @@ def tokens(text):
 
 def turn_paths(text, f, at, say):
     """Rewrites each c.before..step.field; aliases of places are put in first."""
-    for _ in range(5):
+    for _ in range(40):
         m = re.search(r"let (\w+) = (c(?:\.before)+) in\s*", text)
         if not m:
             break

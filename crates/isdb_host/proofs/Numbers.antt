@@ -22,6 +22,7 @@ length_numbers (suc n) (x ∷ xs) = ap suc (length_numbers n xs)
 
 number_at : (n : ℕ) (xs : List ℕ) (i : ℕ) → i < n → get_or (numbers_for n xs) i 0 ≡ get_or xs i 0
 unfolding numbers_for
+number_at zero xs i h = elim h [ ]
 number_at (suc n) [] zero h = refl
 number_at (suc n) [] (suc i) h = number_at n [] i (le_of_suc-le-suc h)
 number_at (suc n) (x ∷ xs) zero h = refl

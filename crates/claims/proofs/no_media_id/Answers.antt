@@ -3,4 +3,4 @@ use mathlib.Core.Path.{refl}
 use Rattle.claims.proofs.no_media_id.Goals as goal
 
 pub returns : goal.returns
-returns c = turned_down _ _ _ _ refl c.before.before.«open».ensures
+returns c = turned_down _ _ _ _ refl c.open.ensures

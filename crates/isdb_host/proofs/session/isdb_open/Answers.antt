@@ -3,4 +3,4 @@ use Rattle.isdb_host.proofs.Lent.{opened_as}
 use Rattle.isdb_host.proofs.session.isdb_open.Goals as goal
 
 pub returns : goal.returns
-returns c = opened_as c.before.before.«open».ensures (sym c.limits_from.ensures)
+returns c = opened_as c.open.ensures (sym c.limits_from.ensures)

@@ -15,7 +15,7 @@ loop-left-preserved c =
     (
       search rules,
       texts_turn _ _ _ c.loop-left.invariant.1 c.loop-left-test.true
-          (rw (← c.package_at.ensures, c.in-Package.is) refl) c.before.before.«package».ensures,
+          (rw (← c.package_at.ensures, c.in-Package.is) refl) c.package-p.ensures,
     )
 
 pub returns : goal.returns
