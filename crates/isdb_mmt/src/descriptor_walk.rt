@@ -1,5 +1,4 @@
-// A descriptor loop with a position in it: the walk of desc::next as a value. The borrow checker covers no function over such a
-// struct, so each is thin and proved by hand; the work is done by desc::next.
+// A descriptor loop with a position in it: the walk of desc::next as a value. Each function is thin; the work is done by desc::next.
 ghost use Rattle.std.specs.Prelude.{◌≡◌};
 ghost use Rattle.isdb_mmt.specs.Formats.Desc.{step_at};
 

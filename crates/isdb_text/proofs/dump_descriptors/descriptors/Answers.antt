@@ -17,13 +17,12 @@ returns-in-Broken c = texts_ended _ _ _ c.loop-left.invariant.1 (rw
     (← c.next.ensures, c.in-Broken.is) refl)
 
 pub loop-left-preserved : goal.loop-left-preserved
-loop-left-preserved c =
-    (
-      search rules,
-      texts_turn _ _ _ c.loop-left.invariant.1 c.loop-left-test.true
-          (rw (← c.next.ensures, c.in-Raw.is, ← c.of.ensures) refl)
-          c.descriptor_line-p.ensures,
-    )
+loop-left-preserved c = (
+  search rules,
+  texts_turn _ _ _ c.loop-left.invariant.1 c.loop-left-test.true
+      (rw (← c.next.ensures, c.in-Raw.is, ← c.of.ensures) refl)
+      c.descriptor_line-p.ensures,
+)
 
 pub returns : goal.returns
 returns c = texts_end _ _ _ c.loop-left.invariant.1 c.loop-left-test.false

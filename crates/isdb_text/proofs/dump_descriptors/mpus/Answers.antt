@@ -22,13 +22,12 @@ returns-in-Broken c = texts_ended _ _ _ c.loop-left.invariant.1 (rw
     (← c.next_mpu.ensures, c.in-Broken.is) refl)
 
 pub loop-left-preserved : goal.loop-left-preserved
-loop-left-preserved c =
-    (
-      search rules,
-      texts_turn _ _ _ c.loop-left.invariant.1 c.loop-left-test.true (rw
-          (← c.next_mpu.ensures, c.in-Mpu.is, ← c.of.ensures) refl)
-          (wrote_append c.comma-p.ensures c.mpu_text-p.ensures),
-    )
+loop-left-preserved c = (
+  search rules,
+  texts_turn _ _ _ c.loop-left.invariant.1 c.loop-left-test.true (rw
+      (← c.next_mpu.ensures, c.in-Mpu.is, ← c.of.ensures) refl)
+      (wrote_append c.comma-p.ensures c.mpu_text-p.ensures),
+)
 
 pub returns : goal.returns
 returns c = texts_end _ _ _ c.loop-left.invariant.1 c.loop-left-test.false

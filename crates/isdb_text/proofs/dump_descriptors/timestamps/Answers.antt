@@ -17,13 +17,12 @@ returns-in-End c = texts_ended _ _ _ c.loop-left.invariant.1 (rw
     (← c.next_timestamp.ensures, c.in-End.is) refl)
 
 pub loop-left-preserved : goal.loop-left-preserved
-loop-left-preserved c =
-    (
-      search rules,
-      texts_turn _ _ _ c.loop-left.invariant.1 c.loop-left-test.true (rw
-          (← c.next_timestamp.ensures, c.in-Timestamp.is) refl) (wrote_append c.comma-p.ensures
-          c.fill-p.ensures),
-    )
+loop-left-preserved c = (
+  search rules,
+  texts_turn _ _ _ c.loop-left.invariant.1 c.loop-left-test.true (rw
+      (← c.next_timestamp.ensures, c.in-Timestamp.is) refl) (wrote_append c.comma-p.ensures
+      c.fill-p.ensures),
+)
 
 pub returns : goal.returns
 returns c = texts_end _ _ _ c.loop-left.invariant.1 c.loop-left-test.false

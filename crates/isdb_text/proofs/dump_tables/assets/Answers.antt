@@ -11,12 +11,11 @@ returns-in-Malformed c = texts_ended _ _ _ c.loop-left.invariant.1 (rw
     (← c.asset_at.ensures, c.in-Malformed.is) refl)
 
 pub loop-left-preserved : goal.loop-left-preserved
-loop-left-preserved c =
-    (
-      search rules,
-      texts_turn _ _ _ c.loop-left.invariant.1 c.loop-left-test.true
-          (rw (← c.asset_at.ensures, c.in-Asset.is) refl) c.asset-p.ensures,
-    )
+loop-left-preserved c = (
+  search rules,
+  texts_turn _ _ _ c.loop-left.invariant.1 c.loop-left-test.true
+      (rw (← c.asset_at.ensures, c.in-Asset.is) refl) c.asset-p.ensures,
+)
 
 pub returns : goal.returns
 returns c = texts_end _ _ _ c.loop-left.invariant.1 c.loop-left-test.false

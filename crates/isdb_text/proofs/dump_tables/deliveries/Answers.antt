@@ -11,12 +11,11 @@ returns-in-Malformed c = texts_ended _ _ _ c.loop-left.invariant.1 (rw
     (← c.delivery_at.ensures, c.in-Malformed.is) refl)
 
 pub loop-left-preserved : goal.loop-left-preserved
-loop-left-preserved c =
-    (
-      search rules,
-      texts_turn _ _ _ c.loop-left.invariant.1 c.loop-left-test.true
-          (rw (← c.delivery_at.ensures, c.in-Delivery.is) refl) c.fill-p.ensures,
-    )
+loop-left-preserved c = (
+  search rules,
+  texts_turn _ _ _ c.loop-left.invariant.1 c.loop-left-test.true
+      (rw (← c.delivery_at.ensures, c.in-Delivery.is) refl) c.fill-p.ensures,
+)
 
 pub returns : goal.returns
 returns c = texts_end _ _ _ c.loop-left.invariant.1 c.loop-left-test.false

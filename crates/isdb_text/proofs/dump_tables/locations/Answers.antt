@@ -17,13 +17,12 @@ overflow_add-i c =
     c.location_at.ensures ∙ c.in-Some.is) in omega arith
 
 pub loop-left-preserved : goal.loop-left-preserved
-loop-left-preserved c =
-    (
-      search rules,
-      texts_turn _ _ _ c.loop-left.invariant.1 c.loop-left-test.true
-          (rw (← c.location_at.ensures, c.in-Some.is, ← c.rest.ensures) refl)
-          c.location_line-p.ensures,
-    )
+loop-left-preserved c = (
+  search rules,
+  texts_turn _ _ _ c.loop-left.invariant.1 c.loop-left-test.true
+      (rw (← c.location_at.ensures, c.in-Some.is, ← c.rest.ensures) refl)
+      c.location_line-p.ensures,
+)
 
 pub returns : goal.returns
 returns c = texts_end _ _ _ c.loop-left.invariant.1 c.loop-left-test.false

@@ -15,12 +15,11 @@ returns-in-Malformed c = texts_ended _ _ _ c.loop-left.invariant.1 (rw
     (← c.next_stream.ensures, c.in-Malformed.is) refl)
 
 pub loop-left-preserved : goal.loop-left-preserved
-loop-left-preserved c =
-    (
-      search rules,
-      texts_turn _ _ _ c.loop-left.invariant.1 c.loop-left-test.true
-          (rw (← c.next_stream.ensures, c.in-Stream.is) refl) c.stream-p.ensures,
-    )
+loop-left-preserved c = (
+  search rules,
+  texts_turn _ _ _ c.loop-left.invariant.1 c.loop-left-test.true
+      (rw (← c.next_stream.ensures, c.in-Stream.is) refl) c.stream-p.ensures,
+)
 
 pub returns : goal.returns
 returns c = texts_end _ _ _ c.loop-left.invariant.1 c.loop-left-test.false

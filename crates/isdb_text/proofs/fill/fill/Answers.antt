@@ -10,15 +10,14 @@ pub overflow_add-v-in-loop-i : goal.overflow_add-v-in-loop-i
 overflow_add-v-in-loop-i c = record { fits = omega (arith, taken_small _ _ c.taken-v.ensures) }
 
 pub loop-i-preserved : goal.loop-i-preserved
-loop-i-preserved c =
-    (
-      search rules,
-      omega (arith, taken_small _ _ c.taken-v.ensures),
-      search rules,
-      fill_turn _ _ _ _ _ _ _ _ _ c.loop-i.invariant.3 c.loop-i-test.true refl c.places-k.ensures
-          c.number_at.ensures c.number_at-in-loop-i.ensures
-          c.spelled-p.ensures c.taken-v.ensures,
-    )
+loop-i-preserved c = (
+  search rules,
+  omega (arith, taken_small _ _ c.taken-v.ensures),
+  search rules,
+  fill_turn _ _ _ _ _ _ _ _ _ c.loop-i.invariant.3 c.loop-i-test.true refl c.places-k.ensures
+      c.number_at.ensures c.number_at-in-loop-i.ensures
+      c.spelled-p.ensures c.taken-v.ensures,
+)
 
 pub returns : goal.returns
 returns c = search (rules, fill_end)

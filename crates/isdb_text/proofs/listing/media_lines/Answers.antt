@@ -12,13 +12,12 @@ pub returns-then-id : goal.returns-then-id
 returns-then-id c = search (rules, lines_most)
 
 pub loop-left-preserved : goal.loop-left-preserved
-loop-left-preserved c =
-    (
-      search rules,
-      lines_turn _ _ _ c.loop-left.invariant.1 _ c.next_media.ensures _ c.in-Name.is
-          c.loop-left-test.true _
-          c.media.ensures c.media_text-p.ensures,
-    )
+loop-left-preserved c = (
+  search rules,
+  lines_turn _ _ _ c.loop-left.invariant.1 _ c.next_media.ensures _ c.in-Name.is
+      c.loop-left-test.true _
+      c.media.ensures c.media_text-p.ensures,
+)
 
 pub returns-in-Nothing : goal.returns-in-Nothing
 returns-in-Nothing c = search (rules, lines_none)
