@@ -14,7 +14,7 @@ use isdb_text::digits::Decoded;
 
 fn main() {
     let mut buf = [0u8; 524288];
-    let n = io::read_full(0, &mut buf);
+    let n = stdio::read_full(&mut buf);
     if n == 524288 {
         return print::say(
             b"# the input is too long: it must have fewer than 524288 bytes, and none of it is answered\n",

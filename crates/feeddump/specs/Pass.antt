@@ -1,6 +1,7 @@
 -- What is made of a window on the input.
 use Rattle.std.specs.Prelude.{◌≡◌, ℕ, Bool, true, false, List, length}
-use Rattle.isdb_tlv.specs.Guards.{if◌then◌else◌, ◌≤?◌}
+use Rattle.isdb_tlv.specs.Guards.{◌≤?◌}
+use Rattle.std.specs.Prelude.{if◌then◌else◌}
 use Rattle.isdb_tlv.specs.Cut.{cut_at, recording_of}
 use Rattle.isdb_tlv.specs.declared.cut.Cut.{Cut}
 use Rattle.isdb_tlv.specs.declared.cut.Cut.TheVariants.{Packet as packet_here, End as end_here, Short as short_here, Bad as bad_here}

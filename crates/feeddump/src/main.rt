@@ -50,21 +50,21 @@ fn limits() -> Limits {
 }
 
 // Writes out the text in front of a place; the next stands at 0 again.
-fn write_text(text: &[u8; 65536], at: usize) -> usize {
-    stdio::write_text(text, at);
+fn write_text(rt: HostRuntime, text: &[u8; 65536], at: usize) -> usize {
+    stdio::write_text(rt, text, at);
     0
 }
 
 // A place where a line has room.
-fn make_room(text: &[u8; 65536], at: usize) -> usize {
+fn make_room(rt: HostRuntime, text: &[u8; 65536], at: usize) -> usize {
     if at < FULL {
         return at;
     }
-    write_text(text, at)
+    write_text(rt, text, at)
 }
 
 // The lines of a packet of a call, which stands at x, and of the records up to those of the next, at y.
-fn packet_lines(
+fn packet_lines(rt: HostRuntime, 
     text: &mut [u8; 65536],
     at: usize,
     first: u64,
@@ -76,11 +76,11 @@ fn packet_lines(
     x: Progress,
     y: Progress,
 ) -> usize {
-    let mut p = make_room(text, at);
+    let mut p = make_room(rt, text, at);
     p = dump_packets::packet_line(text, p, first, input, MOST, lines, a, x);
     let mut i = x.records;
     while i < y.records {
-        p = make_room(text, p);
+        p = make_room(rt, text, p);
         p = dump_packets::record_line(text, p, rows, data, x, i);
         i += 1;
     }
@@ -88,7 +88,7 @@ fn packet_lines(
 }
 
 // The lines of all packets of a call that are to be written. The first has the number first.
-fn call_lines(
+fn call_lines(rt: HostRuntime, 
     text: &mut [u8; 65536],
     at: usize,
     first: u64,
@@ -106,7 +106,7 @@ fn call_lines(
     let mut k: usize = 0;
     while k < n {
         let y = dump_packets::behind(input, MOST, lines, a, x);
-        p = packet_lines(text, p, first, input, rows, data, lines, a, x, y);
+        p = packet_lines(rt, text, p, first, input, rows, data, lines, a, x, y);
         x = y;
         k += 1;
     }
@@ -114,7 +114,7 @@ fn call_lines(
 }
 
 // Pushes the packets of a window, and writes the lines of each.
-fn pass(
+fn pass(rt: HostRuntime, 
     state: &mut [u8; 13144],
     others: &mut [u64; 256],
     objects: &mut [u8; 2097152],
@@ -146,7 +146,7 @@ fn pass(
                 let a = decoder::push_all(
                     state, others, objects, messages, tables, rest, MOST, rows, data, lines,
                 );
-                let t = call_lines(text, p, n, rest, rows, data, lines, a);
+                let t = call_lines(rt, text, p, n, rest, rows, data, lines, a);
                 let x = t.behind;
                 p = t.text;
                 n = std::num::wrapping_add_u64(n, x.packets as u64);
@@ -171,8 +171,8 @@ fn stopped(at: usize, packets: u64, text: usize, bad: bool) -> Passed
 }
 
 // The line that says how reading ended: with n bytes left from base on.
-fn end_line(text: &mut [u8; 65536], at: usize, n: usize, base: u64, packets: u64) -> usize {
-    let p = make_room(text, at);
+fn end_line(rt: HostRuntime, text: &mut [u8; 65536], at: usize, n: usize, base: u64, packets: u64) -> usize {
+    let p = make_room(rt, text, at);
     if n == 0 {
         return dump_session::end_packets(text, p, packets);
     }
@@ -180,7 +180,7 @@ fn end_line(text: &mut [u8; 65536], at: usize, n: usize, base: u64, packets: u64
 }
 
 // Reads to the end, and answers the place in the text.
-fn read_all(
+fn read_all(rt: HostRuntime, 
     state: &mut [u8; 13144],
     others: &mut [u64; 256],
     objects: &mut [u8; 2097152],
@@ -198,19 +198,19 @@ fn read_all(
     let mut p: usize = 0;
     let mut turns = u64::MAX;
     while turns > 0 {
-        let m = stdio::read_behind(window, n);
+        let m = stdio::read_behind(rt, window, n);
         if m <= n {
-            return end_line(text, p, n, base, packets);
+            return end_line(rt, text, p, n, base, packets);
         }
         let w = bytes::part(window, 0, m);
-        let x = pass(
+        let x = pass(rt, 
             state, others, objects, messages, tables, rows, data, lines, text, w, packets, p,
         );
         packets = x.packets;
         p = x.text;
         base = std::num::wrapping_add_u64(base, x.at as u64);
         if x.bad {
-            return end_line(text, p, 1, base, packets);
+            return end_line(rt, text, p, 1, base, packets);
         }
         n = window::to_front(window, x.at, m);
         turns -= 1;
@@ -219,7 +219,7 @@ fn read_all(
 }
 
 // Everything that is kept.
-fn report(
+fn report(rt: HostRuntime, 
     state: &[u8; 13144],
     others: &[u64; 256],
     objects: &[u8; 2097152],
@@ -228,10 +228,10 @@ fn report(
     text: &mut [u8; 65536],
     at: usize,
 ) {
-    let p = write_text(text, at);
+    let p = write_text(rt, text, at);
     let q = dump_session::session_lines(state, others, objects, messages, tables, text, p);
-    write_text(text, q);
-    tables::write_tables(state, others, objects, messages, tables);
+    write_text(rt, text, q);
+    tables::write_tables(rt, state, others, objects, messages, tables);
 }
 
 fn open_session(
@@ -244,7 +244,7 @@ fn open_session(
     decoder::open(limits(), state, others, objects, messages, tables);
 }
 
-fn main() {
+fn main(rt: HostRuntime) {
     let mut state = [0u8; 13144];
     let mut others = [0u64; 256];
     let mut objects = [0u8; 2097152];
@@ -256,7 +256,7 @@ fn main() {
     let mut text = [0u8; 65536];
     let mut window = [0u8; 131072];
     open_session(&mut state, &mut others, &objects, &messages, &tables);
-    let at = read_all(
+    let at = read_all(rt, 
         &mut state,
         &mut others,
         &mut objects,
@@ -268,5 +268,5 @@ fn main() {
         &mut text,
         &mut window,
     );
-    report(&state, &others, &objects, &messages, &tables, &mut text, at);
+    report(rt, &state, &others, &objects, &messages, &tables, &mut text, at);
 }

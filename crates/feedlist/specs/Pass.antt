@@ -1,6 +1,7 @@
 -- What is made of a window on the input.
 use Rattle.std.specs.Prelude.{◌≡◌, ℕ, Bool, true, not, List, length}
-use Rattle.isdb_tlv.specs.Guards.{if◌then◌else◌, ◌≤?◌, ◌=?◌}
+use Rattle.isdb_tlv.specs.Guards.{◌≤?◌, ◌=?◌}
+use Rattle.std.specs.Prelude.{if◌then◌else◌}
 use Rattle.isdb_tlv.specs.Cut.{cut_at, recording_of}
 use Rattle.isdb_tlv.specs.declared.cut.Cut.TheVariants.{Bad as bad_here}
 use Rattle.isdb_tlv.specs.declared.cut.Stop.TheVariants.{Clean, Bad as bad_at}

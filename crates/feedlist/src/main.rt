@@ -89,7 +89,7 @@ fn pass(
     }
 }
 
-fn read_all(
+fn read_all(rt: HostRuntime, 
     state: &mut [u8; 13144],
     others: &mut [u64; 256],
     objects: &mut [u8; 16384],
@@ -104,7 +104,7 @@ fn read_all(
     let mut n: usize = 0;
     let mut turns = u64::MAX;
     while turns > 0 {
-        let m = stdio::read_behind(window, n);
+        let m = stdio::read_behind(rt, window, n);
         if m <= n {
             if n == 0 {
                 return Stop::Clean;
@@ -135,7 +135,7 @@ fn read_all(
 }
 
 // Writes the list.
-fn report(
+fn report(rt: HostRuntime, 
     state: &[u8; 13144],
     others: &[u64; 256],
     objects: &[u8; 16384],
@@ -145,10 +145,10 @@ fn report(
 ) {
     let mut text = [0u8; 4096];
     let n = listing::listing(state, others, objects, messages, tables, stop, &mut text, 0);
-    stdio::write_text(&text, n);
+    stdio::write_text(rt, &text, n);
 }
 
-fn main() {
+fn main(rt: HostRuntime) {
     let mut state = [0u8; 13144];
     let mut others = [0u64; 256];
     let mut objects = [0u8; 16384];
@@ -166,7 +166,7 @@ fn main() {
         &messages,
         &tables,
     );
-    let stop = read_all(
+    let stop = read_all(rt, 
         &mut state,
         &mut others,
         &mut objects,
@@ -177,5 +177,5 @@ fn main() {
         &mut data,
         &mut lines,
     );
-    report(&state, &others, &objects, &messages, &tables, stop);
+    report(rt, &state, &others, &objects, &messages, &tables, stop);
 }

@@ -1,6 +1,7 @@
 -- Locations and descriptors as a host sees them: the numbers of each answer, in their order.
 use Rattle.std.specs.Prelude.{ℕ, List, [], ◌∷◌}
-use Rattle.isdb_tlv.specs.Guards.{if◌then◌else◌, ◌=?◌, ◌≠?◌}
+use Rattle.isdb_tlv.specs.Guards.{◌=?◌, ◌≠?◌}
+use Rattle.std.specs.Prelude.{if◌then◌else◌}
 use Rattle.isdb_tlv.specs.declared.ip.Address.{Address}
 use Rattle.isdb_tlv.specs.declared.ip.Address.TheVariants.{V4, V6}
 use Rattle.isdb_mmt.specs.declared.maybe.MaybeU16.{MaybeU16}

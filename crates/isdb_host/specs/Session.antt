@@ -1,6 +1,7 @@
 -- The calls on a session, as a host sees them: the limits it gives, and what each call writes to the numbers of its answer.
 use Rattle.std.specs.Prelude.{ℕ, not, List, [], ◌∷◌, get_or}
-use Rattle.isdb_tlv.specs.Guards.{if◌then◌else◌, ◌=?◌}
+use Rattle.isdb_tlv.specs.Guards.{◌=?◌}
+use Rattle.std.specs.Prelude.{if◌then◌else◌}
 use Rattle.isdb_mmt.specs.Decoder.Packet.{Bytes}
 use Rattle.isdb_mmt.specs.Memory.Session.{Session}
 use Rattle.isdb_mmt.specs.Pushes.Push.{Input, Pushed}

@@ -1,6 +1,7 @@
 -- The place of a control id: what is known of it before a message packet, and after any. Assumes nothing.
 use Rattle.std.proofs.Common.{◌≡◌, ℕ, ◌+◌, ◌-◌, ◌*◌, ◌<◌, ◌≤◌, true, false, List, [], ◌∷◌, length, get_or, sym, refl, ap, ◌∙◌, subst, add-zero, arith, length-append, length-set}
-use Rattle.isdb_tlv.specs.Guards.{if◌then◌else◌, ◌<?◌}
+use Rattle.isdb_tlv.specs.Guards.{◌<?◌}
+use Rattle.std.specs.Prelude.{if◌then◌else◌}
 use Rattle.isdb_mmt.specs.Decoder.Packet.{Bytes, MessagePacket, message}
 use Rattle.isdb_mmt.specs.Memory.Lent.{part, names_from, found_from}
 use Rattle.isdb_mmt.specs.Memory.Layout.{control_places, control_size}

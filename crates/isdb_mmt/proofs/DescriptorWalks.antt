@@ -4,7 +4,8 @@ use Rattle.std.proofs.Common.{◌≡◌, ℕ, suc, ◌+◌, ◌-◌, ◌*◌, �
 use lib.ListN.{length-map}
 use Rattle.isdb_tlv.specs.Bytes.{be}
 use Rattle.isdb_tlv.specs.Walk.{turn}
-use Rattle.isdb_tlv.specs.Guards.{if◌then◌else◌, ◌<?◌}
+use Rattle.isdb_tlv.specs.Guards.{◌<?◌}
+use Rattle.std.specs.Prelude.{if◌then◌else◌}
 use Rattle.isdb_tlv.proofs.Guards.{cond_elim, either}
 use Rattle.isdb_mmt.specs.Formats.Part.{part_of}
 use Rattle.isdb_mmt.specs.Decoder.Maps.{is_some}

@@ -1,7 +1,8 @@
 -- A message packet with which no message is whole: what is asked and stored is what the model asks and leaves. Assumes nothing.
 use Rattle.std.proofs.Common.{◌≡◌, ℕ, ◌+◌, ◌*◌, ◌<◌, ◌≤◌, false, ltb, List, [], map, length, sym, refl, ap, ◌∙◌, subst, inr, add-zero, arith, ltb-false, le-ltb, lt-ltb}
 use mathlib.Core.Option.{Option}
-use Rattle.isdb_tlv.specs.Guards.{if◌then◌else◌, ◌<?◌}
+use Rattle.isdb_tlv.specs.Guards.{◌<?◌}
+use Rattle.std.specs.Prelude.{if◌then◌else◌}
 use Rattle.isdb_tlv.specs.Fields.{written}
 use Rattle.isdb_tlv.proofs.Fields.{length_written}
 use Rattle.isdb_tlv.proofs.Guards.{either}

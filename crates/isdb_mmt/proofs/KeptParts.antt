@@ -2,7 +2,7 @@
 use Rattle.std.proofs.Common.{◌≡◌, ℕ, ◌+◌, ◌*◌, ◌/◌, ◌<◌, Bool, true, false, not, sym, refl, ap, ◌∙◌, arith, w64, Fits}
 use mathlib.Core.Option.{Option, some}
 use borrow.Author.Tests.{not-true, not-false}
-use Rattle.isdb_tlv.specs.Guards.{if◌then◌else◌}
+use Rattle.std.specs.Prelude.{if◌then◌else◌}
 use Rattle.isdb_mmt.specs.Decoder.Packet.{Bytes}
 use Rattle.isdb_mmt.specs.Formats.Part.{part_of}
 use Rattle.isdb_mmt.specs.Memory.Layout.{most_sections, control_places, control_size, section_places, section_size}

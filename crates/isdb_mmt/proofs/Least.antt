@@ -3,7 +3,8 @@ use Rattle.std.proofs.Common.{◌≡◌, ℕ, zero, suc, ◌+◌, ◌-◌, ◌<�
 use lib.Arith.{lt_of_le-ne}
 use borrow.Author.Tests.{lt-leb, eqb-false}
 use Rattle.isdb_tlv.specs.Bytes.{be}
-use Rattle.isdb_tlv.specs.Guards.{if◌then◌else◌, ◌<?◌, ◌≤?◌}
+use Rattle.isdb_tlv.specs.Guards.{◌<?◌, ◌≤?◌}
+use Rattle.std.specs.Prelude.{if◌then◌else◌}
 use Rattle.isdb_tlv.proofs.Guards.{either}
 use Rattle.isdb_mmt.specs.Memory.Lent.{names_from, among, distinct}
 use Rattle.isdb_mmt.specs.Answers.Readings.{lesser, least_from, most_name, then_above, ascending_from, ascending}

@@ -1,7 +1,8 @@
 -- The questions of a packet that hands nothing out. Assumes nothing.
 use Rattle.std.proofs.Common.{◌≡◌, ℕ, ◌+◌, ◌*◌, ◌<◌, ◌≤◌, not, ltb, leb, refl, ap, ◌∙◌, arith, ltb-false, ltb-true, le-ltb, le-leb}
 use borrow.Author.Tests.{lt-leb}
-use Rattle.isdb_tlv.specs.Guards.{if◌then◌else◌, ◌<?◌}
+use Rattle.isdb_tlv.specs.Guards.{◌<?◌}
+use Rattle.std.specs.Prelude.{if◌then◌else◌}
 use Rattle.isdb_tlv.proofs.Guards.{either}
 use Rattle.isdb_mmt.specs.Decoder.Needs.{Needs}
 use Rattle.isdb_mmt.specs.Pushes.Records.{row_size}

@@ -1,6 +1,6 @@
 -- What a reading answers, question by question, and the places that it looks at. Assumes nothing.
 use Rattle.std.proofs.Common.{◌≡◌, ℕ, ◌+◌, ◌*◌, ◌<◌, ◌≤◌, Bool, true, false, not, eqb, List, [], ◌∷◌, length, sym, refl, ap, ◌∙◌, arith, w64, Fits}
-use Rattle.isdb_tlv.specs.Guards.{if◌then◌else◌}
+use Rattle.std.specs.Prelude.{if◌then◌else◌}
 use Rattle.isdb_tlv.proofs.Guards.{either}
 use Rattle.isdb_mmt.specs.Memory.Lent.{names_from, found_from}
 use Rattle.isdb_mmt.specs.Memory.Layout.{most_media_ids, most_mfu_area}

@@ -1,7 +1,8 @@
 -- A message packet with which a message is whole, and the model: what is asked and left. Assumes nothing.
 use Rattle.std.proofs.Common.{◌≡◌, ℕ, zero, suc, ◌+◌, ◌*◌, ◌<◌, ◌≤◌, Bool, true, false, not, ltb, List, ◌++◌, map, length, get_or, take, drop, sym, refl, ap, ◌∙◌, subst, arith, length-append, length-drop, length-take, w8, Fits, ltb-false, lt-ltb}
 use mathlib.Core.Option.{Option, some}
-use Rattle.isdb_tlv.specs.Guards.{if◌then◌else◌, ◌<?◌}
+use Rattle.isdb_tlv.specs.Guards.{◌<?◌}
+use Rattle.std.specs.Prelude.{if◌then◌else◌}
 use Rattle.isdb_tlv.proofs.Guards.{either, cond_elim}
 use Rattle.isdb_mmt.specs.Memory.Layout.{most_sections, most_message_area, table_ids, control_places, control_size, section_places, section_size}
 use Rattle.isdb_mmt.specs.Decoder.Packet.{Bytes, MessagePacket, message}

@@ -2,7 +2,8 @@
 // MPU's sequence number.
 // Translated from mpu.rs of isdb-rs (Apache-2.0, see NOTICE) and changed.
 ghost use Rattle.std.specs.Prelude.{◌≡◌, ◌≤◌, false, length};
-ghost use Rattle.isdb_tlv.specs.Guards.{if◌then◌else◌, ◌≤?◌};
+ghost use Rattle.isdb_tlv.specs.Guards.{◌≤?◌};
+ghost use Rattle.std.specs.Prelude.{if◌then◌else◌};
 ghost use Rattle.isdb_mmt.specs.Formats.Mpu.{fragment_code_of, fragment_type_of, indicator_code_of, indicator, completes_of, payload_header_fields, payload_header, mfu_at, has_header, header_or, unit_in, unit_at, unit_step, units_of, counted, declared_of, follows, lost_from};
 
 use crate::maybe::MaybeU32;

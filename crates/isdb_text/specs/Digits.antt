@@ -1,7 +1,8 @@
 -- Bytes out of hexadecimal text.
 use Rattle.std.specs.Prelude.{ℕ, ◌+◌, ◌-◌, ◌*◌, ◌/◌, ◌%◌, List, [], ◌∷◌, length}
 use Rattle.std.proofs.lemmas.List.Edits.{sets}
-use Rattle.isdb_tlv.specs.Guards.{if◌then◌else◌, ◌<?◌, ◌≤?◌, ◌=?◌}
+use Rattle.isdb_tlv.specs.Guards.{◌<?◌, ◌≤?◌, ◌=?◌}
+use Rattle.std.specs.Prelude.{if◌then◌else◌}
 use Rattle.isdb_text.specs.declared.digits.Decoded.{Decoded}
 use Rattle.isdb_text.specs.declared.digits.Decoded.TheVariants.{Bytes, Foreign, Odd, TooLong}
 

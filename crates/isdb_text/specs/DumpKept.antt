@@ -1,6 +1,7 @@
 -- The lines of a kept table as `feeddump` writes them, by which table it is.
 use Rattle.std.specs.Prelude.{ℕ, List, []}
-use Rattle.isdb_tlv.specs.Guards.{if◌then◌else◌, ◌=?◌}
+use Rattle.isdb_tlv.specs.Guards.{◌=?◌}
+use Rattle.std.specs.Prelude.{if◌then◌else◌}
 use Rattle.isdb_mmt.specs.Formats.Part.{part_of}
 use Rattle.isdb_mmt.specs.Answers.Readings.{table_id_of_lem}
 use Rattle.isdb_mmt.specs.declared.decoder.readings.TableReading.{TableReading}

@@ -1,7 +1,8 @@
 -- What a call for many packets gave, packet by packet, as `feeddump` writes it: which answer a packet got, and where its records and data
 -- begin, by what the call answered and by the lines that it left.
 use Rattle.std.specs.Prelude.{ℕ, zero, suc, ◌+◌, ◌*◌, ◌%◌, ◌^◌, List, [], drop}
-use Rattle.isdb_tlv.specs.Guards.{if◌then◌else◌, ◌<?◌, ◌=?◌}
+use Rattle.isdb_tlv.specs.Guards.{◌<?◌, ◌=?◌}
+use Rattle.std.specs.Prelude.{if◌then◌else◌}
 use Rattle.isdb_tlv.specs.Bytes.{be}
 use Rattle.isdb_tlv.specs.Cut.{cut_at}
 use Rattle.isdb_tlv.specs.declared.cut.Cut.{Cut}

@@ -1,6 +1,7 @@
 -- Templates: a line of text with marks for the values in it.
 use Rattle.std.specs.Prelude.{ℕ, suc, List, [], ◌∷◌, ◌++◌, drop, slice_index}
-use Rattle.isdb_tlv.specs.Guards.{if◌then◌else◌, ◌=?◌}
+use Rattle.isdb_tlv.specs.Guards.{◌=?◌}
+use Rattle.std.specs.Prelude.{if◌then◌else◌}
 use Rattle.isdb_text.specs.Text.{ascii, decimal_of, hex_digit}
 
 -- the marks: `#` stands for a value in decimal, `?` for two values, of which the second counts unless the first is 0, and a run

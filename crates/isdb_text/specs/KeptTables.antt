@@ -1,6 +1,7 @@
 -- The kept tables of a session one after the other, and the orders in which the programs write them.
 use Rattle.std.specs.Prelude.{ℕ, ◌+◌}
-use Rattle.isdb_tlv.specs.Guards.{if◌then◌else◌, ◌<?◌, ◌=?◌}
+use Rattle.isdb_tlv.specs.Guards.{◌<?◌, ◌=?◌}
+use Rattle.std.specs.Prelude.{if◌then◌else◌}
 use Rattle.isdb_mmt.specs.Memory.Session.{Session}
 use Rattle.isdb_mmt.specs.Answers.Readings.{most_name, next_control_read, next_key_read, mpt_read, plt_read, section_read, tot_read}
 use Rattle.isdb_mmt.specs.declared.decoder.readings.NameReading.{NameReading}

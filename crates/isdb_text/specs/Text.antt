@@ -3,7 +3,8 @@ use Rattle.std.specs.Prelude.{◌≡◌, ℕ, zero, suc, ◌+◌, ◌/◌, ◌%�
 use Prim.Native.Char.{code}
 use Prim.Native.String.{String, [] as empty, ◌∷◌ as ◌then◌}
 use Rattle.std.proofs.lemmas.List.Edits.{sets}
-use Rattle.isdb_tlv.specs.Guards.{if◌then◌else◌, ◌<?◌}
+use Rattle.isdb_tlv.specs.Guards.{◌<?◌}
+use Rattle.std.specs.Prelude.{if◌then◌else◌}
 
 -- the codes of a quoted text
 abbrev pub ascii : String → List ℕ

@@ -1,7 +1,8 @@
 -- What a reader of these definitions may ask, and no contract cites: is a code kept that has no name, is the set of table ids the list
 -- of them, does a window on a recording show what the recording has. Proved in proofs/Codes, Messages and Cutting.
 use Rattle.std.specs.Prelude.{ℕ, ◌+◌, ◌%◌, ◌<◌, ◌≡◌, Bool, true, false, List, [], ◌∷◌, ◌++◌, take, drop, get_or}
-use Rattle.isdb_tlv.specs.Guards.{if◌then◌else◌, ◌=?◌}
+use Rattle.isdb_tlv.specs.Guards.{◌=?◌}
+use Rattle.std.specs.Prelude.{if◌then◌else◌}
 use Rattle.isdb_tlv.specs.Tlv.{type_byte, packet_type}
 use Rattle.isdb_tlv.specs.Mmtp.{fec_code_of, fec_type_of, payload_code_of, payload_type_of}
 use Rattle.isdb_tlv.specs.Messages.{has, set_of}

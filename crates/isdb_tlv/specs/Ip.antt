@@ -1,7 +1,8 @@
 -- What is read of the IP data of a TLV packet, whatever its bytes, and the wire check of an IPv4 datagram.
 -- Fields by their places in RFC 791 (IPv4), RFC 8200 (IPv6), RFC 768 (UDP) and ARIB STD-B32 Part 3, 3.7 (compressed IP).
 use Rattle.std.specs.Prelude.{ℕ, ◌+◌, ◌-◌, ◌*◌, ◌/◌, ◌%◌, List, length, get_or}
-use Rattle.isdb_tlv.specs.Guards.{if◌then◌else◌, ◌<?◌, ◌=?◌, ◌≠?◌}
+use Rattle.isdb_tlv.specs.Guards.{◌<?◌, ◌=?◌, ◌≠?◌}
+use Rattle.std.specs.Prelude.{if◌then◌else◌}
 use Rattle.isdb_tlv.specs.Bytes.{be}
 use Rattle.isdb_tlv.specs.declared.ip.Address.TheVariants.{V4, V6}
 use Rattle.isdb_tlv.specs.declared.ip.Flow.{Flow}

@@ -2,7 +2,8 @@
 -- ARIB STD-B32 Part 3, Figure 2 (the payload) and STD-B60, 4.2 and 7.2.3, Tables 4-6 and 4-8 (the messages).
 use Rattle.std.specs.Prelude.{ℕ, ◌+◌, ◌-◌, ◌*◌, ◌/◌, ◌%◌, ◌^◌, List, [], ◌∷◌, ◌++◌, Bool, length, take, drop, get_or}
 use Rattle.std.proofs.Math.Option.{Option}
-use Rattle.isdb_tlv.specs.Guards.{if◌then◌else◌, ◌<?◌, ◌≤?◌, ◌=?◌, ◌≠?◌}
+use Rattle.isdb_tlv.specs.Guards.{◌<?◌, ◌≤?◌, ◌=?◌, ◌≠?◌}
+use Rattle.std.specs.Prelude.{if◌then◌else◌}
 use Rattle.isdb_tlv.specs.Bytes.{be, with_bit_of}
 use Rattle.isdb_tlv.specs.Walk.{Next, stop, more, run, walk, also, count_of}
 use Rattle.isdb_tlv.specs.declared.mmtp.TableIds.{TableIds}

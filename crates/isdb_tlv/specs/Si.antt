@@ -1,7 +1,8 @@
 -- The scan of a control packet's data for sections of TLV-SI: ARIB STD-B60, 5 and Table 4-2 (TLV-NIT and AMT), in the
 -- extended section format of ISO/IEC 13818-1, 2.4.4.11.
 use Rattle.std.specs.Prelude.{ℕ, ◌+◌, ◌-◌, ◌/◌, ◌%◌, List, [], ◌∷◌, Bool, true, not, length, take, drop, get_or}
-use Rattle.isdb_tlv.specs.Guards.{if◌then◌else◌, ◌<?◌, ◌=?◌, ◌≠?◌}
+use Rattle.isdb_tlv.specs.Guards.{◌<?◌, ◌=?◌, ◌≠?◌}
+use Rattle.std.specs.Prelude.{if◌then◌else◌}
 use Rattle.isdb_tlv.specs.Bytes.{be}
 use Rattle.isdb_tlv.specs.Crc.{crc_of}
 use Rattle.isdb_tlv.specs.Walk.{Next, stop, more, walk}

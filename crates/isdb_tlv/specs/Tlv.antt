@@ -1,6 +1,7 @@
 -- The packet_type byte of a TLV packet: ARIB STD-B32 Part 3, 3.5.
 use Rattle.std.specs.Prelude.{ℕ}
-use Rattle.isdb_tlv.specs.Guards.{if◌then◌else◌, ◌=?◌}
+use Rattle.isdb_tlv.specs.Guards.{◌=?◌}
+use Rattle.std.specs.Prelude.{if◌then◌else◌}
 use Rattle.isdb_tlv.specs.declared.tlv.PacketType.{PacketType}
 use Rattle.isdb_tlv.specs.declared.tlv.PacketType.TheVariants.{Ipv4, Ipv6, Compressed, Control, Null, Other}
 

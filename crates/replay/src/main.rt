@@ -35,7 +35,7 @@ fn row_bytes(records: u64) -> usize {
 }
 
 // What a push gave: its number, records and data bytes, and the CRCs of both.
-fn say_answer(a: Answer, rows: &[u8], data: &[u8]) {
+fn say_answer(rt: HostRuntime, a: Answer, rows: &[u8], data: &[u8]) {
     let mut text = [0u8; 256];
     let given_rows = bytes::part(rows, 0, row_bytes(a.records));
     let given = bytes::part(data, 0, a.bytes as usize);
@@ -52,10 +52,10 @@ fn say_answer(a: Answer, rows: &[u8], data: &[u8]) {
         b"push # records # bytes # %%%%%%%% %%%%%%%%\n",
         &values,
     );
-    stdio::write_text(&text, n);
+    stdio::write_text(rt, &text, n);
 }
 
-fn open_session(
+fn open_session(rt: HostRuntime, 
     state: &mut [u8; 13144],
     others: &mut [u64; 256],
     objects: &[u8; 131072],
@@ -67,10 +67,10 @@ fn open_session(
     let number = decoder::open(limits(passing), state, others, objects, messages, tables);
     let values = [passing as u64, number as u64];
     let n = fill::fill(&mut text, 0, b"open # number #\n", &values);
-    stdio::write_text(&text, n);
+    stdio::write_text(rt, &text, n);
 }
 
-fn list(
+fn list(rt: HostRuntime, 
     state: &[u8; 13144],
     others: &[u64; 256],
     objects: &[u8; 131072],
@@ -79,12 +79,12 @@ fn list(
 ) {
     let mut text = [0u8; 65536];
     let n = dump_session::session_lines(state, others, objects, messages, tables, &mut text, 0);
-    stdio::write_text(&text, n);
-    kept::say_all(state, others, objects, messages, tables);
+    stdio::write_text(rt, &text, n);
+    kept::say_all(rt, state, others, objects, messages, tables);
 }
 
 // Pushes the packet that stands at a place, and answers the place behind it; where none stands, the end.
-fn take_packet(
+fn take_packet(rt: HostRuntime, 
     state: &mut [u8; 13144],
     others: &mut [u64; 256],
     objects: &mut [u8; 131072],
@@ -109,18 +109,18 @@ fn take_packet(
             let a = decoder::push(
                 state, others, objects, messages, tables, kind, packet, rows, data,
             );
-            say_answer(a, rows, data);
+            say_answer(rt, a, rows, data);
             next
         }
         _ => {
-            stdio::say(b"no item\n");
+            stdio::say(rt, b"no item\n");
             input.len()
         }
     }
 }
 
 // Takes the items one after the other, up to the end or to what is none.
-fn run(
+fn run(rt: HostRuntime, 
     state: &mut [u8; 13144],
     others: &mut [u64; 256],
     objects: &mut [u8; 131072],
@@ -135,20 +135,20 @@ fn run(
         let item = input[at];
         if item == b'S' {
             let passing = bytes::get_u8(input, at + 1);
-            open_session(state, others, objects, messages, tables, passing);
+            open_session(rt, state, others, objects, messages, tables, passing);
             at += 2;
         } else if item == b'L' {
-            list(state, others, objects, messages, tables);
+            list(rt, state, others, objects, messages, tables);
             at += 1;
         } else {
-            at = take_packet(
+            at = take_packet(rt, 
                 state, others, objects, messages, tables, rows, data, input, at,
             );
         }
     }
 }
 
-fn replay(input: &[u8]) {
+fn replay(rt: HostRuntime, input: &[u8]) {
     let mut state = [0u8; 13144];
     let mut others = [0u64; 256];
     let mut objects = [0u8; 131072];
@@ -156,7 +156,7 @@ fn replay(input: &[u8]) {
     let mut tables = [0u8; 286720];
     let mut rows = [0u8; 36864];
     let mut data = [0u8; 131072];
-    run(
+    run(rt, 
         &mut state,
         &mut others,
         &mut objects,
@@ -168,11 +168,11 @@ fn replay(input: &[u8]) {
     );
 }
 
-fn main() {
+fn main(rt: HostRuntime) {
     let mut input = [0u8; 524288];
-    let n = io::read_full(0, &mut input);
+    let n = stdio::read_full(rt, &mut input);
     if n == 524288 {
-        return stdio::say(b"the list is too long: it must have fewer than 524288 bytes\n");
+        return stdio::say(rt, b"the list is too long: it must have fewer than 524288 bytes\n");
     }
-    replay(&input[..n]);
+    replay(rt, &input[..n]);
 }

@@ -2,7 +2,8 @@
 -- Translated from decoder.rs of isdb-rs (Apache-2.0, see NOTICE) and changed.
 use Rattle.std.specs.Prelude.{ℕ, ◌+◌, ◌*◌, ◌^◌, Bool, true, false, cond, not, ◌&&◌, List, [], ◌∷◌, length, take, slice_index, slice_index_or, slice_set}
 use Rattle.std.proofs.Math.Option.{Option, none, some}
-use Rattle.isdb_tlv.specs.Guards.{if◌then◌else◌, ◌<?◌, ◌≤?◌, ◌=?◌}
+use Rattle.isdb_tlv.specs.Guards.{◌<?◌, ◌≤?◌, ◌=?◌}
+use Rattle.std.specs.Prelude.{if◌then◌else◌}
 use Rattle.isdb_tlv.specs.Bytes.{be}
 use Rattle.isdb_tlv.specs.Si.{nit_actual_id, nit_other_id, amt_id}
 use Rattle.isdb_mmt.specs.Formats.TableIds.{mpt_first_id, mpt_id, plt_id, eit_first_id, eit_last_id, bit_id, sdt_actual_id, sdt_other_id, tot_id}

@@ -2,7 +2,8 @@
 -- Translated from mpu.rs of isdb-rs (Apache-2.0, see NOTICE) and changed.
 use Rattle.std.specs.Prelude.{ℕ, ◌+◌, Bool, true, false, cond, not, ◌&&◌, List, [], ◌∷◌, ◌++◌, length}
 use Rattle.std.proofs.Math.Option.{Option, none, some}
-use Rattle.isdb_tlv.specs.Guards.{if◌then◌else◌, ◌≤?◌, ◌=?◌}
+use Rattle.isdb_tlv.specs.Guards.{◌≤?◌, ◌=?◌}
+use Rattle.std.specs.Prelude.{if◌then◌else◌}
 use Rattle.isdb_mmt.specs.Formats.Mpu.{follows, lost_from, completes_of}
 use Rattle.isdb_mmt.specs.Decoder.Packet.{Bytes, PayloadUnit, MpuPacket, readable}
 use Rattle.isdb_mmt.specs.declared.decoder.counts.AssetStats.{AssetStats}

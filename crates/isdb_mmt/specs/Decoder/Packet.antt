@@ -3,7 +3,8 @@
 -- Translated from decoder.rs of isdb-rs (Apache-2.0, see NOTICE) and changed.
 use Rattle.std.specs.Prelude.{ℕ, Bool, true, false, List, [], map, length, take, drop}
 use Rattle.std.proofs.Math.Option.{Option, none, some}
-use Rattle.isdb_tlv.specs.Guards.{if◌then◌else◌, ◌<?◌, ◌=?◌}
+use Rattle.isdb_tlv.specs.Guards.{◌<?◌, ◌=?◌}
+use Rattle.std.specs.Prelude.{if◌then◌else◌}
 use Rattle.isdb_tlv.specs.Bytes.{be}
 use Rattle.isdb_tlv.specs.Tlv.{packet_type}
 use Rattle.isdb_tlv.specs.Ip.{ipv4_of, ipv6_of, compressed_of}

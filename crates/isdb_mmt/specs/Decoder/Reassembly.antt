@@ -3,7 +3,8 @@
 -- Translated from message.rs of isdb-rs (Apache-2.0, see NOTICE) and changed.
 use Rattle.std.specs.Prelude.{ℕ, ◌+◌, Bool, true, false, cond, not, ◌&&◌, List, [], ◌∷◌, ◌++◌, map, length, drop, slice_index}
 use Rattle.std.proofs.Math.Option.{Option, none, some}
-use Rattle.isdb_tlv.specs.Guards.{if◌then◌else◌, ◌<?◌, ◌≤?◌}
+use Rattle.isdb_tlv.specs.Guards.{◌<?◌, ◌≤?◌}
+use Rattle.std.specs.Prelude.{if◌then◌else◌}
 use Rattle.isdb_mmt.specs.Formats.Part.{part_of}
 use Rattle.isdb_mmt.specs.Formats.Message.{fragment_of_lem, Aggregated, aggregated_from, content_of_lem, tables_from}
 use Rattle.isdb_mmt.specs.Decoder.Packet.{Bytes, MessagePacket}

@@ -1,6 +1,7 @@
 -- AMT: ARIB STD-B60, Table 5-2.
 use Rattle.std.specs.Prelude.{ℕ, ◌+◌, ◌-◌, ◌*◌, ◌/◌, ◌%◌, Bool, not, List, [], length, drop, slice_index}
-use Rattle.isdb_tlv.specs.Guards.{if◌then◌else◌, ◌<?◌, ◌=?◌}
+use Rattle.isdb_tlv.specs.Guards.{◌<?◌, ◌=?◌}
+use Rattle.std.specs.Prelude.{if◌then◌else◌}
 use Rattle.isdb_tlv.specs.Bytes.{be}
 use Rattle.std.proofs.Math.Option.{Option, none, some}
 use Rattle.isdb_tlv.specs.Walk.{Next, stop, more, run, also}

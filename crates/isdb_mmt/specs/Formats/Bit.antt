@@ -1,6 +1,7 @@
 -- MH-BIT: ARIB STD-B60, Table 7-21.
 use Rattle.std.specs.Prelude.{ℕ, ◌+◌, ◌/◌, ◌%◌, List, map, length, take, drop, slice_index}
-use Rattle.isdb_tlv.specs.Guards.{if◌then◌else◌, ◌<?◌, ◌=?◌}
+use Rattle.isdb_tlv.specs.Guards.{◌<?◌, ◌=?◌}
+use Rattle.std.specs.Prelude.{if◌then◌else◌}
 use Rattle.isdb_mmt.specs.Formats.Part.{part_at}
 use Rattle.isdb_mmt.specs.Formats.Desc.{broken, Loop}
 use Rattle.isdb_mmt.specs.Formats.Section.{length12, long_section_of, in_section, entry_at, entry_as, entries_from}

@@ -1,6 +1,7 @@
 -- MH-EIT: ARIB STD-B60, Table 7-18.
 use Rattle.std.specs.Prelude.{ℕ, ◌+◌, ◌/◌, ◌%◌, List, map, length, slice_index}
-use Rattle.isdb_tlv.specs.Guards.{if◌then◌else◌, ◌<?◌, ◌=?◌}
+use Rattle.isdb_tlv.specs.Guards.{◌<?◌, ◌=?◌}
+use Rattle.std.specs.Prelude.{if◌then◌else◌}
 use Rattle.isdb_tlv.specs.Bytes.{be}
 use Rattle.isdb_mmt.specs.Formats.Desc.{Loop}
 use Rattle.isdb_mmt.specs.Formats.Section.{long_section_of, in_section, entry_at, entry_as, entries_from}

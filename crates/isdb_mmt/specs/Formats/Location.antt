@@ -1,6 +1,7 @@
 -- MMT_general_location_info: ARIB STD-B60, Table 7-9. A type byte, then fields by the type.
 use Rattle.std.specs.Prelude.{ℕ, ◌+◌, List, length, slice_index, slice_index_or}
-use Rattle.isdb_tlv.specs.Guards.{if◌then◌else◌, ◌<?◌, ◌=?◌}
+use Rattle.isdb_tlv.specs.Guards.{◌<?◌, ◌=?◌}
+use Rattle.std.specs.Prelude.{if◌then◌else◌}
 use Rattle.isdb_tlv.specs.Bytes.{be}
 use Rattle.isdb_mmt.specs.Formats.Part.{part_at}
 use Rattle.isdb_mmt.specs.declared.maybe.MaybeU16.{MaybeU16}

@@ -1,6 +1,7 @@
 -- MPT: ARIB STD-B60, Table 7-6.
 use Rattle.std.specs.Prelude.{ℕ, ◌+◌, ◌-◌, ◌%◌, true, false, List, [], ◌∷◌, length, take, drop, slice_index, slice_index_or}
-use Rattle.isdb_tlv.specs.Guards.{if◌then◌else◌, ◌<?◌, ◌=?◌}
+use Rattle.isdb_tlv.specs.Guards.{◌<?◌, ◌=?◌}
+use Rattle.std.specs.Prelude.{if◌then◌else◌}
 use Rattle.isdb_tlv.specs.Bytes.{be}
 use Rattle.isdb_tlv.specs.Walk.{Next, stop, more, run}
 use Rattle.isdb_mmt.specs.Formats.Tags.{stream_identifier_tag}

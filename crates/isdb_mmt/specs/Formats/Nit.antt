@@ -1,6 +1,7 @@
 -- TLV-NIT and TLV-SI descriptors: ARIB STD-B60, Tables 5-1, 5-4, 5-6, and 5.3.
 use Rattle.std.specs.Prelude.{ℕ, zero, suc, ◌+◌, ◌-◌, ◌*◌, ◌/◌, ◌%◌, List, map, length, slice_index, slice_index_or}
-use Rattle.isdb_tlv.specs.Guards.{if◌then◌else◌, ◌<?◌, ◌=?◌, ◌≠?◌}
+use Rattle.isdb_tlv.specs.Guards.{◌<?◌, ◌=?◌, ◌≠?◌}
+use Rattle.std.specs.Prelude.{if◌then◌else◌}
 use Rattle.isdb_tlv.specs.Bytes.{be}
 use Rattle.isdb_mmt.specs.Formats.Tags.{network_name_tlv_tag, service_list_tlv_tag, satellite_delivery_tlv_tag}
 use Rattle.isdb_mmt.specs.Formats.Part.{part_at, part_of}

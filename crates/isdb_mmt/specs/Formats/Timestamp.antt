@@ -1,7 +1,8 @@
 -- The MPU timestamp descriptor (ARIB STD-B60, 7.4.3.5) and the MPU extended timestamp descriptor (7.4.3.35).
 use Rattle.std.specs.Prelude.{ℕ, ◌+◌, ◌-◌, ◌*◌, ◌/◌, ◌%◌, Bool, not, List, [], length, slice_index, slice_index_or}
 use Rattle.std.proofs.Math.Option.{Option, none, some}
-use Rattle.isdb_tlv.specs.Guards.{if◌then◌else◌, ◌<?◌, ◌≤?◌, ◌=?◌}
+use Rattle.isdb_tlv.specs.Guards.{◌<?◌, ◌≤?◌, ◌=?◌}
+use Rattle.std.specs.Prelude.{if◌then◌else◌}
 use Rattle.isdb_tlv.specs.Bytes.{be}
 use Rattle.isdb_tlv.specs.Walk.{Next, stop, more, walk, also}
 use Rattle.isdb_mmt.specs.Formats.Part.{part_at}

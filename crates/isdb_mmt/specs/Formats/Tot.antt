@@ -1,6 +1,7 @@
 -- MH-TOT: ARIB STD-B60, Table 7-25.
 use Rattle.std.specs.Prelude.{ℕ, ◌+◌, List, length, take}
-use Rattle.isdb_tlv.specs.Guards.{if◌then◌else◌, ◌<?◌, ◌≠?◌}
+use Rattle.isdb_tlv.specs.Guards.{◌<?◌, ◌≠?◌}
+use Rattle.std.specs.Prelude.{if◌then◌else◌}
 use Rattle.isdb_tlv.specs.Bytes.{be}
 use Rattle.isdb_tlv.specs.Crc.{crc_of}
 use Rattle.isdb_mmt.specs.Formats.Part.{part_at, part_of}

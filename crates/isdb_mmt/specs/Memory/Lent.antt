@@ -1,7 +1,8 @@
 -- Parts of lent memory: the bytes that stand at a place, memory with other bytes there, and places of one size with a name
 -- each.
 use Rattle.std.specs.Prelude.{ℕ, zero, suc, ◌+◌, ◌*◌, ◌/◌, ◌%◌, Bool, true, false, not, List, [], ◌∷◌, ◌++◌, length, take, drop}
-use Rattle.isdb_tlv.specs.Guards.{if◌then◌else◌, ◌=?◌, ◌<?◌}
+use Rattle.isdb_tlv.specs.Guards.{◌=?◌, ◌<?◌}
+use Rattle.std.specs.Prelude.{if◌then◌else◌}
 use Rattle.isdb_tlv.specs.Bytes.{be}
 use Rattle.isdb_mmt.specs.Formats.Maybe.{flag_of}
 use Rattle.isdb_mmt.specs.declared.decoder.place.Found.{Found}

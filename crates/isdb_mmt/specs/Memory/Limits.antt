@@ -1,6 +1,7 @@
 -- The limits of a session, the lengths of memory that they ask for, and questions 1 to 4 of an opening.
 use Rattle.std.specs.Prelude.{◌≡◌, ℕ, ◌+◌, ◌*◌, Bool, true, false, not}
-use Rattle.isdb_tlv.specs.Guards.{if◌then◌else◌, ◌<?◌, ◌≤?◌}
+use Rattle.isdb_tlv.specs.Guards.{◌<?◌, ◌≤?◌}
+use Rattle.std.specs.Prelude.{if◌then◌else◌}
 use Rattle.isdb_mmt.specs.Memory.Layout.{most_media_ids, most_control_ids, most_sections, most_mfu_area, most_message_area, most_table_area, most_packets, state_size}
 use Rattle.isdb_mmt.specs.declared.decoder.limits.Limits.{Limits}
 use Rattle.isdb_mmt.specs.declared.decoder.limits.Lengths.{Lengths}

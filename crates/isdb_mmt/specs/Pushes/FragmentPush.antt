@@ -1,7 +1,8 @@
 -- A message packet at the place of its id: which place, and what is asked and left where no message is whole with it. One law says
 -- that it is what the model asks and leaves (proofs/FragmentPushes).
 use Rattle.std.specs.Prelude.{◌≡◌, ℕ, ◌+◌, ◌*◌, ◌<◌, ◌≤◌, Bool, false, List, length, ◌≢◌}
-use Rattle.isdb_tlv.specs.Guards.{if◌then◌else◌, ◌<?◌}
+use Rattle.isdb_tlv.specs.Guards.{◌<?◌}
+use Rattle.std.specs.Prelude.{if◌then◌else◌}
 use Rattle.isdb_tlv.specs.Fields.{written}
 use Rattle.isdb_mmt.specs.Decoder.Packet.{Bytes, MessagePacket}
 use Rattle.isdb_mmt.specs.Memory.Lent.{over}

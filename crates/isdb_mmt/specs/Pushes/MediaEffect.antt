@@ -2,7 +2,8 @@
 -- model does (proofs/MediaEffects).
 use Rattle.std.specs.Prelude.{ℕ, ◌+◌, ◌<◌, ◌≤◌, max, Bool, true, false, not, List, [], ◌∷◌, length}
 use Rattle.std.proofs.Math.Option.{Option, none, some}
-use Rattle.isdb_tlv.specs.Guards.{if◌then◌else◌, ◌≤?◌}
+use Rattle.isdb_tlv.specs.Guards.{◌≤?◌}
+use Rattle.std.specs.Prelude.{if◌then◌else◌}
 use Rattle.isdb_mmt.specs.Formats.Part.{part_of}
 use Rattle.isdb_mmt.specs.Decoder.Maps.{one}
 use Rattle.isdb_mmt.specs.Decoder.Objects.{most_object}

@@ -1,6 +1,6 @@
 -- What a media packet would do, from its place and its payload: nothing is written.
 use Rattle.std.specs.Prelude.{◌≡◌, ℕ, ◌≤◌, Bool, true, false, List, length}
-use Rattle.isdb_tlv.specs.Guards.{if◌then◌else◌}
+use Rattle.std.specs.Prelude.{if◌then◌else◌}
 use Rattle.isdb_mmt.specs.Formats.Mpu.{payload_header, declared_of, units_of}
 use Rattle.isdb_mmt.specs.Decoder.Objects.{most_object}
 use Rattle.isdb_mmt.specs.Pushes.MediaEffect.{units_effect}

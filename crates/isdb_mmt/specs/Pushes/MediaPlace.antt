@@ -1,6 +1,7 @@
 -- What a media packet makes of its place, from the place, the packet's number and header, and the effect of its units.
 use Rattle.std.specs.Prelude.{ℕ, ◌+◌, ◌≤◌, Bool, true, false, not, ◌&&◌}
-use Rattle.isdb_tlv.specs.Guards.{if◌then◌else◌, ◌=?◌}
+use Rattle.isdb_tlv.specs.Guards.{◌=?◌}
+use Rattle.std.specs.Prelude.{if◌then◌else◌}
 use Rattle.isdb_mmt.specs.Formats.Part.{part_at}
 use Rattle.isdb_mmt.specs.Decoder.Maps.{one}
 use Rattle.isdb_mmt.specs.Formats.Mpu.{follows, lost_from, completes_of}

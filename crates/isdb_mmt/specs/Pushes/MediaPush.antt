@@ -2,7 +2,8 @@
 -- state the packet's own place, the number of places in use where it takes one, and the count of packets; of the objects its area.
 use Rattle.std.specs.Prelude.{◌≡◌, ℕ, ◌+◌, ◌*◌, List, [], ◌∷◌, length, ◌≢◌}
 use Rattle.std.proofs.Math.Option.{Option, none, some}
-use Rattle.isdb_tlv.specs.Guards.{if◌then◌else◌, ◌<?◌}
+use Rattle.isdb_tlv.specs.Guards.{◌<?◌}
+use Rattle.std.specs.Prelude.{if◌then◌else◌}
 use Rattle.isdb_tlv.specs.Fields.{field, written}
 use Rattle.isdb_mmt.specs.Decoder.Packet.{Bytes, MpuPacket, media}
 use Rattle.isdb_mmt.specs.Decoder.Objects.{Mfu, Asset, asset_after}

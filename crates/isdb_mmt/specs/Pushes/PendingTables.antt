@@ -1,7 +1,8 @@
 -- The walk on copies: an index with a log, and what one table makes of them. Its memory is not limited here.
 use Rattle.std.specs.Prelude.{◌≡◌, ℕ, ◌+◌, ◌-◌, ◌*◌, ◌<◌, ◌≤◌, max, Bool, true, false, List, [], ◌∷◌, ◌++◌, map, length, slice_index, slice_set}
 use Rattle.std.proofs.Math.Option.{Option, none, some}
-use Rattle.isdb_tlv.specs.Guards.{if◌then◌else◌, ◌<?◌, ◌=?◌}
+use Rattle.isdb_tlv.specs.Guards.{◌<?◌, ◌=?◌}
+use Rattle.std.specs.Prelude.{if◌then◌else◌}
 use Rattle.isdb_mmt.specs.declared.decoder.counts.Counters.{Counters}
 use Rattle.isdb_mmt.specs.Memory.Layout.{most_sections, most_message_area, most_table_area, most_count, table_ids}
 use Rattle.isdb_mmt.specs.Decoder.Packet.{Bytes}

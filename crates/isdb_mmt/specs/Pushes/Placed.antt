@@ -1,6 +1,6 @@
 -- The tables of a joined message and the sections of a control packet, each with the place where its bytes start.
 use Rattle.std.specs.Prelude.{◌≡◌, ℕ, ◌+◌, ◌-◌, Bool, List, [], ◌∷◌, ◌++◌, map, length}
-use Rattle.isdb_tlv.specs.Guards.{if◌then◌else◌}
+use Rattle.std.specs.Prelude.{if◌then◌else◌}
 use Rattle.isdb_tlv.specs.Si.{sections_from}
 use Rattle.isdb_tlv.specs.declared.si.Section.{Section}
 use Rattle.isdb_mmt.specs.Formats.Part.{part_at as part_for, part_of}

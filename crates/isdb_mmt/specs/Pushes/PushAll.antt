@@ -1,7 +1,8 @@
 -- Many packets in one call: those of a stretch of input, pushed one after the other, each into what the earlier ones left of the output
 -- buffers, until the input ends, what stands there is no packet or not a whole one, a packet is turned down, or the list of lines is full.
 use Rattle.std.specs.Prelude.{◌≡◌, ℕ, ◌+◌, ◌*◌, List, [], ◌∷◌, ◌++◌, length, take, drop}
-use Rattle.isdb_tlv.specs.Guards.{if◌then◌else◌, ◌<?◌, ◌=?◌}
+use Rattle.isdb_tlv.specs.Guards.{◌<?◌, ◌=?◌}
+use Rattle.std.specs.Prelude.{if◌then◌else◌}
 use Rattle.isdb_tlv.specs.Fields.{Field, field, puts}
 use Rattle.isdb_tlv.specs.Cut.{TlvPacket, cut_at, recording_of}
 use Rattle.isdb_tlv.specs.declared.cut.Cut.{Cut}

@@ -1,6 +1,7 @@
 -- The steps of the call for many packets: what each of its functions is given and leaves.
 use Rattle.std.specs.Prelude.{◌≡◌, ℕ, ◌+◌, ◌-◌, ◌*◌, ◌<◌, ◌≤◌, Bool, true, false, not, ◌++◌, length, take, ◌≢◌}
-use Rattle.isdb_tlv.specs.Guards.{if◌then◌else◌, ◌≤?◌}
+use Rattle.isdb_tlv.specs.Guards.{◌≤?◌}
+use Rattle.std.specs.Prelude.{if◌then◌else◌}
 use Rattle.isdb_tlv.specs.Cut.{TlvPacket, recording_from}
 use Rattle.isdb_mmt.specs.Formats.Part.{count_of_usize}
 use Rattle.isdb_mmt.specs.Decoder.Packet.{Bytes}

@@ -1,7 +1,8 @@
 -- Where a packet leads, by its kind and its IP headers: the step from a packet's data to the payload of a layer.
 use Rattle.std.specs.Prelude.{ℕ, map, length, take, drop}
 use Rattle.std.proofs.Math.Option.{Option, none, some}
-use Rattle.isdb_tlv.specs.Guards.{if◌then◌else◌, ◌<?◌, ◌=?◌}
+use Rattle.isdb_tlv.specs.Guards.{◌<?◌, ◌=?◌}
+use Rattle.std.specs.Prelude.{if◌then◌else◌}
 use Rattle.isdb_tlv.specs.Bytes.{be}
 use Rattle.isdb_tlv.specs.Ip.{ipv4_of, ipv6_of, compressed_of}
 use Rattle.isdb_tlv.specs.Mmtp.{mmtp_of}

@@ -3,7 +3,8 @@ use Rattle.std.specs.Prelude.{◌≡◌, ℕ, ◌+◌, ◌*◌, ◌≤◌, Bool,
 use Rattle.isdb_tlv.specs.Fields.{written}
 use Rattle.isdb_tlv.specs.Si.{sections_of}
 use Rattle.isdb_tlv.specs.declared.si.Section.{Section}
-use Rattle.isdb_tlv.specs.Guards.{if◌then◌else◌, ◌<?◌}
+use Rattle.isdb_tlv.specs.Guards.{◌<?◌}
+use Rattle.std.specs.Prelude.{if◌then◌else◌}
 use Rattle.isdb_tlv.specs.Bytes.{be}
 use Rattle.isdb_mmt.specs.Memory.Layout.{most_sections, most_control_ids, most_table_area, most_count, table_ids, counters_place, section_places, section_size, state_size}
 use Rattle.isdb_mmt.specs.Decoder.Packet.{Bytes, Packet, control}

@@ -1,6 +1,7 @@
 -- What is decided of a table against an index of the kept sections: what it adds to the counts, and what it leaves to do.
 use Rattle.std.specs.Prelude.{◌≡◌, ℕ, ◌+◌, ◌*◌, ◌≤◌, Bool, true, false, not, ◌&&◌, List, map, length, slice_index, slice_index_or}
-use Rattle.isdb_tlv.specs.Guards.{if◌then◌else◌, ◌=?◌, ◌<?◌}
+use Rattle.isdb_tlv.specs.Guards.{◌=?◌, ◌<?◌}
+use Rattle.std.specs.Prelude.{if◌then◌else◌}
 use Rattle.isdb_tlv.specs.Si.{nit_actual_id, nit_other_id, amt_id}
 use Rattle.isdb_mmt.specs.Formats.TableIds.{bit_id, sdt_actual_id, sdt_other_id}
 use Rattle.isdb_mmt.specs.Decoder.Packet.{Bytes}

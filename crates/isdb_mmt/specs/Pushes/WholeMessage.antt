@@ -1,6 +1,7 @@
 -- A message packet with which a message is whole: the message in two pieces, the walk over its tables, what is asked and left.
 use Rattle.std.specs.Prelude.{◌≡◌, ℕ, zero, suc, ◌+◌, ◌*◌, ◌<◌, ◌≤◌, Bool, true, false, List, [], ◌++◌, length, take, drop, replicate}
-use Rattle.isdb_tlv.specs.Guards.{if◌then◌else◌, ◌<?◌, ◌=?◌}
+use Rattle.isdb_tlv.specs.Guards.{◌<?◌, ◌=?◌}
+use Rattle.std.specs.Prelude.{if◌then◌else◌}
 use Rattle.isdb_mmt.specs.Memory.Layout.{most_sections, most_control_ids, most_message_area, most_count, table_ids, section_places, section_size, state_size}
 use Rattle.isdb_mmt.specs.Decoder.Packet.{Bytes, MessagePacket}
 use Rattle.isdb_mmt.specs.Decoder.Reassembly.{PartialMessage, cut_of}

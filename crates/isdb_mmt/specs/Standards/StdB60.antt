@@ -2,7 +2,8 @@
 -- (Table 7-9) and sections (7.2.3.2); and what it means to read them right.
 use Rattle.std.specs.Prelude.{◌≡◌, ℕ, ◌+◌, ◌^◌, ◌<◌, ◌&&◌, List, [], ◌∷◌, ◌++◌, map, length, drop}
 use Rattle.std.proofs.Math.Option.{none}
-use Rattle.isdb_tlv.specs.Guards.{if◌then◌else◌, ◌=?◌, ◌≤?◌}
+use Rattle.isdb_tlv.specs.Guards.{◌=?◌, ◌≤?◌}
+use Rattle.std.specs.Prelude.{if◌then◌else◌}
 use Rattle.isdb_tlv.specs.Crc.{crc_of}
 use Rattle.isdb_tlv.specs.Fields.{bytes_of, Field, field, bits, packed, written}
 use Rattle.isdb_mmt.specs.Formats.Part.{part_at, part_of}

@@ -2,7 +2,8 @@
 -- what it means to read them right.
 use Rattle.std.specs.Prelude.{◌≡◌, ℕ, ◌^◌, ◌<◌, true, List, [], ◌∷◌, ◌++◌, map, length}
 use Rattle.std.proofs.Math.Option.{Option, none, some}
-use Rattle.isdb_tlv.specs.Guards.{if◌then◌else◌, ◌≤?◌, ◌=?◌}
+use Rattle.isdb_tlv.specs.Guards.{◌≤?◌, ◌=?◌}
+use Rattle.std.specs.Prelude.{if◌then◌else◌}
 use Rattle.isdb_tlv.specs.Fields.{Field, field, bits, packed, written, Fit}
 use Rattle.isdb_mmt.specs.Formats.Desc.{descriptor_of}
 use Rattle.isdb_mmt.specs.Standards.StdB60.{Descriptor, loop_sent, LoopConforming, SentLocation, location_sent, location_bytes, LocationConforming, location_seen, url, same_flow}

@@ -2,7 +2,8 @@
 -- means to join it right.
 use Rattle.std.specs.Prelude.{◌≡◌, ℕ, ◌+◌, ◌%◌, ◌^◌, ◌≤◌, Bool, false, List, [], ◌∷◌, ◌++◌, map, length}
 use Rattle.std.proofs.Math.Option.{Option, none, some}
-use Rattle.isdb_tlv.specs.Guards.{if◌then◌else◌, ◌=?◌}
+use Rattle.isdb_tlv.specs.Guards.{◌=?◌}
+use Rattle.std.specs.Prelude.{if◌then◌else◌}
 use Rattle.isdb_tlv.specs.Fields.{bytes_of}
 use Rattle.isdb_tlv.specs.Mmtp.{mmtp_of}
 use Rattle.isdb_tlv.specs.Iso23008.{not_protected, mpu, not_scrambled, scrambling, Extension, no_extension, multi_type, Mmtp, Conforming, scrambling_of, info_seen}

@@ -1,6 +1,7 @@
 -- A call for many packets is a list of pushes, so that what holds after every list of calls holds where such calls are among them too.
 use Rattle.std.specs.Prelude.{◌≡◌, ℕ, ◌+◌, ◌*◌, List, [], ◌∷◌, ◌++◌, length, take, drop}
-use Rattle.isdb_tlv.specs.Guards.{if◌then◌else◌, ◌<?◌, ◌=?◌}
+use Rattle.isdb_tlv.specs.Guards.{◌<?◌, ◌=?◌}
+use Rattle.std.specs.Prelude.{if◌then◌else◌}
 use Rattle.isdb_tlv.specs.Fields.{puts}
 use Rattle.isdb_tlv.specs.Cut.{TlvPacket, recording_of}
 use Rattle.isdb_mmt.specs.Decoder.Packet.{Bytes}

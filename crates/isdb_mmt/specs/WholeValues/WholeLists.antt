@@ -2,7 +2,8 @@
 -- of the lists that StdB60 speaks of.
 use Rattle.std.specs.Prelude.{◌≡◌, ℕ, ◌+◌, Bool, true, List, map, length}
 use Rattle.std.proofs.Math.Option.{Option, none, some}
-use Rattle.isdb_tlv.specs.Guards.{if◌then◌else◌, ◌=?◌}
+use Rattle.isdb_tlv.specs.Guards.{◌=?◌}
+use Rattle.std.specs.Prelude.{if◌then◌else◌}
 use Rattle.isdb_tlv.specs.Si.{nit_actual_id, nit_other_id, amt_id}
 use Rattle.isdb_mmt.specs.Formats.TableIds.{bit_id, sdt_actual_id, sdt_other_id}
 use Rattle.isdb_mmt.specs.Formats.Part.{part_of}

@@ -1,6 +1,7 @@
 // Question 5, before every call but the opening: do the lent bytes hold a session?
 ghost use Rattle.std.specs.Prelude.{◌≡◌, ◌+◌, ◌*◌, ◌<◌, ◌≤◌, true, map, length};
-ghost use Rattle.isdb_tlv.specs.Guards.{if◌then◌else◌, ◌<?◌};
+ghost use Rattle.isdb_tlv.specs.Guards.{◌<?◌};
+ghost use Rattle.std.specs.Prelude.{if◌then◌else◌};
 ghost use Rattle.isdb_mmt.specs.Memory.Layout.{table_ids, most_media_ids, most_control_ids, most_sections, most_count, media_places, media_size, control_places, control_size, section_places, section_size, state_size};
 ghost use Rattle.isdb_mmt.specs.Memory.Lent.{places_from, every};
 ghost use Rattle.isdb_mmt.specs.Memory.Session.{limits_of, used_of, media_place_of, control_place_of, section_place_of};

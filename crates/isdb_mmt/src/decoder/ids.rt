@@ -1,6 +1,7 @@
 // Packet ids and keys of a session in ascending order, and what is known of a packet id.
 ghost use Rattle.std.specs.Prelude.{◌≡◌, ◌+◌, ◌*◌, ◌<◌, ◌≤◌, length};
-ghost use Rattle.isdb_tlv.specs.Guards.{if◌then◌else◌, ◌<?◌};
+ghost use Rattle.isdb_tlv.specs.Guards.{◌<?◌};
+ghost use Rattle.std.specs.Prelude.{if◌then◌else◌};
 ghost use Rattle.isdb_mmt.specs.Memory.Lent.{names_from, found_from};
 ghost use Rattle.isdb_mmt.specs.Memory.Layout.{most_media_ids, most_mfu_area, media_places, media_size, control_places, control_size};
 ghost use Rattle.isdb_mmt.specs.Memory.Session.{used_of};

@@ -1,6 +1,6 @@
 // Readings of the kept tables: where their bytes lie in the lent tables.
 ghost use Rattle.std.specs.Prelude.{◌≡◌, ◌+◌, ◌*◌, ◌≤◌, length};
-ghost use Rattle.isdb_tlv.specs.Guards.{if◌then◌else◌};
+ghost use Rattle.std.specs.Prelude.{if◌then◌else◌};
 ghost use Rattle.isdb_mmt.specs.Decoder.Kept.{parses_as, mpt_parses, plt_parses, tot_parses};
 ghost use Rattle.isdb_mmt.specs.Formats.Mpt.{mpt_of, assets_from};
 ghost use Rattle.isdb_mmt.specs.Memory.Lent.{names_from};

@@ -1,7 +1,7 @@
 // A media packet: its place, its outcome, the number of the question that is answered no, and the commit of what it hands out,
 // holds and counts.
 ghost use Rattle.std.specs.Prelude.{◌≡◌, ◌+◌, ◌-◌, ◌*◌, ◌<◌, ◌≤◌, true, false, [], length, drop};
-ghost use Rattle.isdb_tlv.specs.Guards.{if◌then◌else◌};
+ghost use Rattle.std.specs.Prelude.{if◌then◌else◌};
 ghost use Rattle.isdb_tlv.specs.Fields.{written};
 ghost use Rattle.isdb_mmt.specs.Formats.Part.{part_of};
 ghost use Rattle.isdb_mmt.specs.Decoder.Packet.{media_of};
