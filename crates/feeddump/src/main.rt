@@ -64,7 +64,8 @@ fn make_room(rt: HostRuntime, text: &[u8; 65536], at: usize) -> usize {
 }
 
 // The lines of a packet of a call, which stands at x, and of the records up to those of the next, at y.
-fn packet_lines(rt: HostRuntime, 
+fn packet_lines(
+    rt: HostRuntime,
     text: &mut [u8; 65536],
     at: usize,
     first: u64,
@@ -88,7 +89,8 @@ fn packet_lines(rt: HostRuntime,
 }
 
 // The lines of all packets of a call that are to be written. The first has the number first.
-fn call_lines(rt: HostRuntime, 
+fn call_lines(
+    rt: HostRuntime,
     text: &mut [u8; 65536],
     at: usize,
     first: u64,
@@ -114,7 +116,8 @@ fn call_lines(rt: HostRuntime,
 }
 
 // Pushes the packets of a window, and writes the lines of each.
-fn pass(rt: HostRuntime, 
+fn pass(
+    rt: HostRuntime,
     state: &mut [u8; 13144],
     others: &mut [u64; 256],
     objects: &mut [u8; 2097152],
@@ -171,7 +174,14 @@ fn stopped(at: usize, packets: u64, text: usize, bad: bool) -> Passed
 }
 
 // The line that says how reading ended: with n bytes left from base on.
-fn end_line(rt: HostRuntime, text: &mut [u8; 65536], at: usize, n: usize, base: u64, packets: u64) -> usize {
+fn end_line(
+    rt: HostRuntime,
+    text: &mut [u8; 65536],
+    at: usize,
+    n: usize,
+    base: u64,
+    packets: u64,
+) -> usize {
     let p = make_room(rt, text, at);
     if n == 0 {
         return dump_session::end_packets(text, p, packets);
@@ -180,7 +190,8 @@ fn end_line(rt: HostRuntime, text: &mut [u8; 65536], at: usize, n: usize, base: 
 }
 
 // Reads to the end, and answers the place in the text.
-fn read_all(rt: HostRuntime, 
+fn read_all(
+    rt: HostRuntime,
     state: &mut [u8; 13144],
     others: &mut [u64; 256],
     objects: &mut [u8; 2097152],
@@ -203,8 +214,8 @@ fn read_all(rt: HostRuntime,
             return end_line(rt, text, p, n, base, packets);
         }
         let w = bytes::part(window, 0, m);
-        let x = pass(rt, 
-            state, others, objects, messages, tables, rows, data, lines, text, w, packets, p,
+        let x = pass(
+            rt, state, others, objects, messages, tables, rows, data, lines, text, w, packets, p,
         );
         packets = x.packets;
         p = x.text;
@@ -219,7 +230,8 @@ fn read_all(rt: HostRuntime,
 }
 
 // Everything that is kept.
-fn report(rt: HostRuntime, 
+fn report(
+    rt: HostRuntime,
     state: &[u8; 13144],
     others: &[u64; 256],
     objects: &[u8; 2097152],
@@ -256,7 +268,8 @@ fn main(rt: HostRuntime) {
     let mut text = [0u8; 65536];
     let mut window = [0u8; 131072];
     open_session(&mut state, &mut others, &objects, &messages, &tables);
-    let at = read_all(rt, 
+    let at = read_all(
+        rt,
         &mut state,
         &mut others,
         &mut objects,
@@ -268,5 +281,7 @@ fn main(rt: HostRuntime) {
         &mut text,
         &mut window,
     );
-    report(rt, &state, &others, &objects, &messages, &tables, &mut text, at);
+    report(
+        rt, &state, &others, &objects, &messages, &tables, &mut text, at,
+    );
 }

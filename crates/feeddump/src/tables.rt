@@ -4,13 +4,20 @@ use isdb_mmt::decoder::readings::TableReading;
 use isdb_text::kept_tables::{Step, Table};
 use isdb_text::{dump_kept, kept_tables};
 
-fn write_table(rt: HostRuntime, text: &mut [u8; 524288], table: Table, r: TableReading, tables: &[u8]) {
+fn write_table(
+    rt: HostRuntime,
+    text: &mut [u8; 524288],
+    table: Table,
+    r: TableReading,
+    tables: &[u8],
+) {
     let n = dump_kept::reading_lines(text, 0, table, r, tables);
     stdio::write_text(rt, text, n);
 }
 
 // A session here has at most 16 control ids and 128 sections, so the turns suffice.
-pub fn write_tables(rt: HostRuntime, 
+pub fn write_tables(
+    rt: HostRuntime,
     state: &[u8],
     others: &[u64; 256],
     objects: &[u8],

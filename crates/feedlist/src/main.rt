@@ -89,7 +89,8 @@ fn pass(
     }
 }
 
-fn read_all(rt: HostRuntime, 
+fn read_all(
+    rt: HostRuntime,
     state: &mut [u8; 13144],
     others: &mut [u64; 256],
     objects: &mut [u8; 16384],
@@ -135,7 +136,8 @@ fn read_all(rt: HostRuntime,
 }
 
 // Writes the list.
-fn report(rt: HostRuntime, 
+fn report(
+    rt: HostRuntime,
     state: &[u8; 13144],
     others: &[u64; 256],
     objects: &[u8; 16384],
@@ -166,7 +168,8 @@ fn main(rt: HostRuntime) {
         &messages,
         &tables,
     );
-    let stop = read_all(rt, 
+    let stop = read_all(
+        rt,
         &mut state,
         &mut others,
         &mut objects,

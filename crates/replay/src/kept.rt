@@ -3,13 +3,26 @@ use isdb_mmt::decoder::readings::TableReading;
 use isdb_text::kept_tables::{Step, Table};
 use isdb_text::{kept_tables, replay_kept};
 
-fn say_table(rt: HostRuntime, line: &mut [u8; 16384], table: Table, r: TableReading, tables: &[u8]) {
+fn say_table(
+    rt: HostRuntime,
+    line: &mut [u8; 16384],
+    table: Table,
+    r: TableReading,
+    tables: &[u8],
+) {
     let n = replay_kept::reading_line(line, 0, table, r, tables);
     stdio::write_text(rt, line, n);
 }
 
 // A session here has at most 4 control ids and 64 sections, so the turns suffice.
-pub fn say_all(rt: HostRuntime, state: &[u8], others: &[u64; 256], objects: &[u8], messages: &[u8], tables: &[u8]) {
+pub fn say_all(
+    rt: HostRuntime,
+    state: &[u8],
+    others: &[u64; 256],
+    objects: &[u8],
+    messages: &[u8],
+    tables: &[u8],
+) {
     let mut line = [0u8; 16384];
     let mut i: u8 = 0;
     let mut ahead = kept_tables::replay_order(0);

@@ -55,7 +55,8 @@ fn say_answer(rt: HostRuntime, a: Answer, rows: &[u8], data: &[u8]) {
     stdio::write_text(rt, &text, n);
 }
 
-fn open_session(rt: HostRuntime, 
+fn open_session(
+    rt: HostRuntime,
     state: &mut [u8; 13144],
     others: &mut [u64; 256],
     objects: &[u8; 131072],
@@ -70,7 +71,8 @@ fn open_session(rt: HostRuntime,
     stdio::write_text(rt, &text, n);
 }
 
-fn list(rt: HostRuntime, 
+fn list(
+    rt: HostRuntime,
     state: &[u8; 13144],
     others: &[u64; 256],
     objects: &[u8; 131072],
@@ -84,7 +86,8 @@ fn list(rt: HostRuntime,
 }
 
 // Pushes the packet that stands at a place, and answers the place behind it; where none stands, the end.
-fn take_packet(rt: HostRuntime, 
+fn take_packet(
+    rt: HostRuntime,
     state: &mut [u8; 13144],
     others: &mut [u64; 256],
     objects: &mut [u8; 131072],
@@ -120,7 +123,8 @@ fn take_packet(rt: HostRuntime,
 }
 
 // Takes the items one after the other, up to the end or to what is none.
-fn run(rt: HostRuntime, 
+fn run(
+    rt: HostRuntime,
     state: &mut [u8; 13144],
     others: &mut [u64; 256],
     objects: &mut [u8; 131072],
@@ -141,8 +145,8 @@ fn run(rt: HostRuntime,
             list(rt, state, others, objects, messages, tables);
             at += 1;
         } else {
-            at = take_packet(rt, 
-                state, others, objects, messages, tables, rows, data, input, at,
+            at = take_packet(
+                rt, state, others, objects, messages, tables, rows, data, input, at,
             );
         }
     }
@@ -156,7 +160,8 @@ fn replay(rt: HostRuntime, input: &[u8]) {
     let mut tables = [0u8; 286720];
     let mut rows = [0u8; 36864];
     let mut data = [0u8; 131072];
-    run(rt, 
+    run(
+        rt,
         &mut state,
         &mut others,
         &mut objects,
@@ -172,7 +177,10 @@ fn main(rt: HostRuntime) {
     let mut input = [0u8; 524288];
     let n = stdio::read_full(rt, &mut input);
     if n == 524288 {
-        return stdio::say(rt, b"the list is too long: it must have fewer than 524288 bytes\n");
+        return stdio::say(
+            rt,
+            b"the list is too long: it must have fewer than 524288 bytes\n",
+        );
     }
     replay(rt, &input[..n]);
 }
