@@ -12,23 +12,24 @@ mod units;
 use isdb_text::digits;
 use isdb_text::digits::Decoded;
 
-fn main() {
+fn main(rt: HostRuntime) {
     let mut buf = [0u8; 524288];
-    let n = stdio::read_full(&mut buf);
+    let n = stdio::read_full(rt, &mut buf);
     if n == 524288 {
         return print::say(
+            rt,
             b"# the input is too long: it must have fewer than 524288 bytes, and none of it is answered\n",
         );
     }
-    run(&buf[..n]);
+    run(rt, &buf[..n]);
 }
 
 // Each line up to the last line end.
-fn run(input: &[u8]) {
+fn run(rt: HostRuntime, input: &[u8]) {
     let mut at: usize = 0;
     while at < input.len() {
         let end = text::find(input, at, b'\n');
-        case(bytes_from(input, at, end));
+        case(rt, bytes_from(input, at, end));
         at = end + 1;
     }
 }
@@ -50,24 +51,24 @@ fn is_text(line: &[u8]) -> bool {
 }
 
 // One case: an empty line, and one that starts with '#', is written as it stands.
-fn case(line: &[u8]) {
-    print::say(line);
+fn case(rt: HostRuntime, line: &[u8]) {
+    print::say(rt, line);
     if is_text(line) {
-        print::say(b"\n");
+        print::say(rt, b"\n");
         return;
     }
     let space = text::find(line, 0, b' ');
     let mut data = [0u8; 65536];
     let text = isdb_tlv::bytes::rest(isdb_tlv::bytes::rest(line, space), 1);
-    print::say(b" ->");
+    print::say(rt, b" ->");
     match digits::decode(&mut data, text) {
         Decoded::Bytes(n) => {
             let word = isdb_tlv::bytes::part(line, 0, space);
-            answer::answer(word, isdb_tlv::bytes::part(&data, 0, n));
+            answer::answer(rt, word, isdb_tlv::bytes::part(&data, 0, n));
         }
-        Decoded::Foreign(at) => print::field(b"error: no hexadecimal digit, at", at as u64),
-        Decoded::Odd => print::say(b" error: an odd number of digits"),
-        Decoded::TooLong => print::say(b" error: more than 65536 bytes"),
+        Decoded::Foreign(at) => print::field(rt, b"error: no hexadecimal digit, at", at as u64),
+        Decoded::Odd => print::say(rt, b" error: an odd number of digits"),
+        Decoded::TooLong => print::say(rt, b" error: more than 65536 bytes"),
     }
-    print::say(b"\n");
+    print::say(rt, b"\n");
 }

@@ -22,133 +22,133 @@ use isdb_mmt::table::{amt, bit, eit, mpt, nit, plt, sdt, tot};
 use isdb_tlv::bytes;
 use isdb_tlv::ip::Address;
 
-pub fn answer(word: &[u8], b: &[u8]) {
-    if check::same(word, b"location") {
-        return located(b);
+pub fn answer(rt: HostRuntime, word: &[u8], b: &[u8]) {
+    if word == b"location" {
+        return located(rt, b);
     }
-    if check::same(word, b"descriptors") {
-        return descriptor_loop(b);
+    if word == b"descriptors" {
+        return descriptor_loop(rt, b);
     }
-    if check::same(word, b"mpt") {
-        return mpt_answer(b);
+    if word == b"mpt" {
+        return mpt_answer(rt, b);
     }
-    if check::same(word, b"plt") {
-        return plt_answer(b);
+    if word == b"plt" {
+        return plt_answer(rt, b);
     }
-    if check::same(word, b"eit") {
-        return eit_answer(b);
+    if word == b"eit" {
+        return eit_answer(rt, b);
     }
-    if check::same(word, b"sdt") {
-        return sdt_answer(b);
+    if word == b"sdt" {
+        return sdt_answer(rt, b);
     }
-    more(word, b)
+    more(rt, word, b)
 }
 
-fn more(word: &[u8], b: &[u8]) {
-    if check::same(word, b"tot") {
-        return tot_answer(b);
+fn more(rt: HostRuntime, word: &[u8], b: &[u8]) {
+    if word == b"tot" {
+        return tot_answer(rt, b);
     }
-    if check::same(word, b"bit") {
-        return bit_answer(b);
+    if word == b"bit" {
+        return bit_answer(rt, b);
     }
-    if check::same(word, b"nit") {
-        return nit_answer(b);
+    if word == b"nit" {
+        return nit_answer(rt, b);
     }
-    if check::same(word, b"amt") {
-        return amt_answer(b);
+    if word == b"amt" {
+        return amt_answer(rt, b);
     }
-    if check::same(word, b"ntp") {
-        return ntp_answer(bytes::get_u64(b, 0));
+    if word == b"ntp" {
+        return ntp_answer(rt, bytes::get_u64(b, 0));
     }
-    say(b" no such reading");
+    say(rt, b" no such reading");
 }
 
 // The bits of the seconds since the Unix epoch.
-fn ntp_answer(t: u64) {
+fn ntp_answer(rt: HostRuntime, t: u64) {
     let x = isdb_mmt::ntp::ntp_to_unix(t);
     if x == x {
-        return hex_field(b"unix_bits", f64::to_bits(x), 16);
+        return hex_field(rt, b"unix_bits", f64::to_bits(x), 16);
     }
-    say(b" no number");
+    say(rt, b" no number");
 }
 
-fn located(b: &[u8]) {
+fn located(rt: HostRuntime, b: &[u8]) {
     match Location::parse(b) {
-        Located::None => say(b" none"),
+        Located::None => say(rt, b" none"),
         Located::Some(l, n) => {
-            field(b"took", n as u64);
-            location(l, b);
+            field(rt, b"took", n as u64);
+            location(rt, l, b);
         }
     }
 }
 
-fn descriptor_loop(b: &[u8]) {
+fn descriptor_loop(rt: HostRuntime, b: &[u8]) {
     let c = desc::decode_all(b);
-    field(b"descriptors", c.count as u64);
-    flag_field(b"broken", c.broken);
-    each(b"  ", b);
+    field(rt, b"descriptors", c.count as u64);
+    flag_field(rt, b"broken", c.broken);
+    each(rt, b"  ", b);
 }
 
-fn failed(e: SectionError) {
+fn failed(rt: HostRuntime, e: SectionError) {
     match e {
-        SectionError::Truncated => say(b" truncated"),
-        SectionError::Crc => say(b" crc"),
-        SectionError::Malformed => say(b" malformed"),
+        SectionError::Truncated => say(rt, b" truncated"),
+        SectionError::Crc => say(rt, b" crc"),
+        SectionError::Malformed => say(rt, b" malformed"),
     }
 }
 
-fn header(h: SectionHeader) {
-    place(h.table_id, h.extension, h.section_number);
-    field(b"last_section_number", h.last_section_number as u64);
-    field(b"version", h.version as u64);
-    flag_field(b"current", h.current);
+fn header(rt: HostRuntime, h: SectionHeader) {
+    place(rt, h.table_id, h.extension, h.section_number);
+    field(rt, b"last_section_number", h.last_section_number as u64);
+    field(rt, b"version", h.version as u64);
+    flag_field(rt, b"current", h.current);
 }
 
-fn place(table_id: u8, extension: u16, section_number: u8) {
-    say_hex(b" header 0x", table_id as u64, 2);
-    say_decimal(b" ", extension as u64);
-    say_decimal(b" ", section_number as u64);
+fn place(rt: HostRuntime, table_id: u8, extension: u16, section_number: u8) {
+    say_hex(rt, b" header 0x", table_id as u64, 2);
+    say_decimal(rt, b" ", extension as u64);
+    say_decimal(rt, b" ", section_number as u64);
 }
 
-fn mpt_answer(b: &[u8]) {
+fn mpt_answer(rt: HostRuntime, b: &[u8]) {
     let p = mpt::parse(b);
-    field(b"breaks", p.breaks as u64);
+    field(rt, b"breaks", p.breaks as u64);
     let m = p.mpt;
     match m {
-        MaybeMpt::None => say(b" none"),
-        MaybeMpt::Some(t) => mpt_table(t, b),
+        MaybeMpt::None => say(rt, b" none"),
+        MaybeMpt::Some(t) => mpt_table(rt, t, b),
     }
 }
 
-fn mpt_table(t: Mpt, b: &[u8]) {
+fn mpt_table(rt: HostRuntime, t: Mpt, b: &[u8]) {
     let id = t.package_id;
     let d = t.descriptors;
-    mpt_head(t.table_id, t.version, t.mode);
-    part_field(b"package_id", b, id);
-    tag_field(b" service_id ", t.service_id(b));
-    each(b"  ", d.of(b));
-    assets(b, t.assets, t.start);
+    mpt_head(rt, t.table_id, t.version, t.mode);
+    part_field(rt, b"package_id", b, id);
+    tag_field(rt, b" service_id ", t.service_id(b));
+    each(rt, b"  ", d.of(b));
+    assets(rt, b, t.assets, t.start);
 }
 
-fn mpt_head(table_id: u8, version: u8, mode: u8) {
-    say_hex(b" table_id 0x", table_id as u64, 2);
-    field(b"version", version as u64);
-    field(b"mode", mode as u64);
+fn mpt_head(rt: HostRuntime, table_id: u8, version: u8, mode: u8) {
+    say_hex(rt, b" table_id 0x", table_id as u64, 2);
+    field(rt, b"version", version as u64);
+    field(rt, b"mode", mode as u64);
 }
 
-fn tag_field(text: &[u8], x: MaybeU16) {
-    say(text);
-    maybe_u16(x);
+fn tag_field(rt: HostRuntime, text: &[u8], x: MaybeU16) {
+    say(rt, text);
+    maybe_u16(rt, x);
 }
 
-fn assets(b: &[u8], n: u8, from: usize) {
+fn assets(rt: HostRuntime, b: &[u8], n: u8, from: usize) {
     let mut at = from;
     let mut left = n;
     while 0 < left {
         match mpt::asset_at(b, at) {
             AssetStep::Malformed => return,
             AssetStep::Asset(a, next) => {
-                asset(a, b);
+                asset(rt, a, b);
                 at = next;
             }
         }
@@ -156,34 +156,40 @@ fn assets(b: &[u8], n: u8, from: usize) {
     }
 }
 
-fn asset(a: Asset, b: &[u8]) {
+fn asset(rt: HostRuntime, a: Asset, b: &[u8]) {
     let id = a.asset_id;
     let d = a.descriptors;
-    asset_head(a.identifier_type, a.asset_id_scheme, id.of(b), a.asset_type);
-    flag_field(b"clock_relation", a.clock_relation);
-    tag_field(b" packet_id ", a.packet_id(b));
-    tag_field(b" component_tag ", mpt::component_tag(d.of(b)));
-    locations(b, a.locations, a.locations_start);
-    each(b"    ", d.of(b));
+    asset_head(
+        rt,
+        a.identifier_type,
+        a.asset_id_scheme,
+        id.of(b),
+        a.asset_type,
+    );
+    flag_field(rt, b"clock_relation", a.clock_relation);
+    tag_field(rt, b" packet_id ", a.packet_id(b));
+    tag_field(rt, b" component_tag ", mpt::component_tag(d.of(b)));
+    locations(rt, b, a.locations, a.locations_start);
+    each(rt, b"    ", d.of(b));
 }
 
-fn asset_head(identifier_type: u8, scheme: u32, id: &[u8], asset_type: u32) {
-    say(b"\n  asset");
-    field(b"identifier_type", identifier_type as u64);
-    field(b"scheme", scheme as u64);
-    bytes_field(b"id", id);
-    hex_field(b"type", asset_type as u64, 8);
+fn asset_head(rt: HostRuntime, identifier_type: u8, scheme: u32, id: &[u8], asset_type: u32) {
+    say(rt, b"\n  asset");
+    field(rt, b"identifier_type", identifier_type as u64);
+    field(rt, b"scheme", scheme as u64);
+    bytes_field(rt, b"id", id);
+    hex_field(rt, b"type", asset_type as u64, 8);
 }
 
-fn locations(b: &[u8], n: u8, from: usize) {
+fn locations(rt: HostRuntime, b: &[u8], n: u8, from: usize) {
     let mut at = from;
     let mut left = n;
     while 0 < left {
         match mpt::location_at(b, at) {
             Located::None => return,
             Located::Some(l, taken) => {
-                say(b"\n    location");
-                location(l, bytes::rest(b, at));
+                say(rt, b"\n    location");
+                location(rt, l, bytes::rest(b, at));
                 at = std::num::wrapping_add_usize(at, taken);
             }
         }
@@ -191,25 +197,25 @@ fn locations(b: &[u8], n: u8, from: usize) {
     }
 }
 
-fn plt_answer(b: &[u8]) {
+fn plt_answer(rt: HostRuntime, b: &[u8]) {
     match plt::parse(b) {
-        MaybePlt::None => say(b" none"),
+        MaybePlt::None => say(rt, b" none"),
         MaybePlt::Some(t) => {
-            field(b"version", t.version as u64);
-            packages(t, b);
-            deliveries(t, b);
+            field(rt, b"version", t.version as u64);
+            packages(rt, t, b);
+            deliveries(rt, t, b);
         }
     }
 }
 
-fn packages(t: Plt, b: &[u8]) {
+fn packages(rt: HostRuntime, t: Plt, b: &[u8]) {
     let mut at: usize = 5;
     let mut left = t.packages;
     while 0 < left {
         match plt::package_at(b, at) {
             PackageStep::Malformed => return,
             PackageStep::Package(p, next) => {
-                package(p, b);
+                package(rt, p, b);
                 at = next;
             }
         }
@@ -217,24 +223,24 @@ fn packages(t: Plt, b: &[u8]) {
     }
 }
 
-fn package(p: Package, b: &[u8]) {
+fn package(rt: HostRuntime, p: Package, b: &[u8]) {
     let id = p.package_id;
     let l = p.location;
     let start = p.location_start;
-    say(b"\n  package ");
-    bytes_of(id.of(b));
-    say(b" location");
-    location(l, bytes::rest(b, start));
+    say(rt, b"\n  package ");
+    bytes_of(rt, id.of(b));
+    say(rt, b" location");
+    location(rt, l, bytes::rest(b, start));
 }
 
-fn deliveries(t: Plt, b: &[u8]) {
+fn deliveries(rt: HostRuntime, t: Plt, b: &[u8]) {
     let mut at = t.deliveries_start;
     let mut left = t.ip_deliveries;
     while 0 < left {
         match plt::delivery_at(b, at) {
             DeliveryStep::Malformed => return,
             DeliveryStep::Delivery(d, next) => {
-                delivery(d);
+                delivery(rt, d);
                 at = next;
             }
         }
@@ -242,35 +248,35 @@ fn deliveries(t: Plt, b: &[u8]) {
     }
 }
 
-fn delivery(d: IpDelivery) {
-    say_decimal(b"\n  ip_delivery ", d.transport_file_id as u64);
-    field(b"location_type", d.location_type as u64);
+fn delivery(rt: HostRuntime, d: IpDelivery) {
+    say_decimal(rt, b"\n  ip_delivery ", d.transport_file_id as u64);
+    field(rt, b"location_type", d.location_type as u64);
 }
 
-fn eit_answer(b: &[u8]) {
+fn eit_answer(rt: HostRuntime, b: &[u8]) {
     let p = eit::parse(b);
-    field(b"breaks", p.breaks as u64);
+    field(rt, b"breaks", p.breaks as u64);
     let r = p.result;
     match r {
-        EitResult::Err(e) => failed(e),
+        EitResult::Err(e) => failed(rt, e),
         EitResult::Ok(h, t) => {
             let body = h.body;
-            header(h);
-            eit_table(t, body.of(b));
+            header(rt, h);
+            eit_table(rt, t, body.of(b));
         }
     }
 }
 
-fn eit_table(t: Eit, s: &[u8]) {
-    field(b"tlv_stream_id", t.tlv_stream_id as u64);
-    field(b"original_network_id", t.original_network_id as u64);
+fn eit_table(rt: HostRuntime, t: Eit, s: &[u8]) {
+    field(rt, b"tlv_stream_id", t.tlv_stream_id as u64);
+    field(rt, b"original_network_id", t.original_network_id as u64);
     let last = t.segment_last_section_number;
-    field(b"segment_last_section_number", last as u64);
-    field(b"last_table_id", t.last_table_id as u64);
-    events(s, t.events);
+    field(rt, b"segment_last_section_number", last as u64);
+    field(rt, b"last_table_id", t.last_table_id as u64);
+    events(rt, s, t.events);
 }
 
-fn events(s: &[u8], n: usize) {
+fn events(rt: HostRuntime, s: &[u8], n: usize) {
     let mut at: usize = 6;
     let mut left = n;
     while 0 < left {
@@ -278,7 +284,7 @@ fn events(s: &[u8], n: usize) {
             EventStep::End => return,
             EventStep::Malformed => return,
             EventStep::Event(e, next) => {
-                event(e, s);
+                event(rt, e, s);
                 at = next;
             }
         }
@@ -286,76 +292,76 @@ fn events(s: &[u8], n: usize) {
     }
 }
 
-fn event(e: Event, s: &[u8]) {
+fn event(rt: HostRuntime, e: Event, s: &[u8]) {
     let d = e.descriptors;
-    event_head(e.event_id, e.start, e.duration);
-    status(e.running_status, e.free_ca);
-    say(b" short_event");
-    short_event(d.of(s));
-    each(b"    ", d.of(s));
+    event_head(rt, e.event_id, e.start, e.duration);
+    status(rt, e.running_status, e.free_ca);
+    say(rt, b" short_event");
+    short_event(rt, d.of(s));
+    each(rt, b"    ", d.of(s));
 }
 
-fn event_head(event_id: u16, start: u64, duration: u32) {
-    say_decimal(b"\n  event ", event_id as u64);
-    hex_field(b"start", start, 10);
-    hex_field(b"duration", duration as u64, 6);
+fn event_head(rt: HostRuntime, event_id: u16, start: u64, duration: u32) {
+    say_decimal(rt, b"\n  event ", event_id as u64);
+    hex_field(rt, b"start", start, 10);
+    hex_field(rt, b"duration", duration as u64, 6);
 }
 
-fn status(running_status: u8, free_ca: bool) {
-    field(b"running_status", running_status as u64);
-    flag_field(b"free_ca", free_ca);
+fn status(rt: HostRuntime, running_status: u8, free_ca: bool) {
+    field(rt, b"running_status", running_status as u64);
+    flag_field(rt, b"free_ca", free_ca);
 }
 
-fn short_event(b: &[u8]) {
+fn short_event(rt: HostRuntime, b: &[u8]) {
     match eit::short_event(b) {
-        Found::None => say(b" none"),
-        Found::Some(d, p) => names(d, p.of(b)),
+        Found::None => say(rt, b" none"),
+        Found::Some(d, p) => names(rt, d, p.of(b)),
     }
 }
 
 // The texts of a short event or a service, the latter behind its type.
-fn names(d: Descriptor, b: &[u8]) {
+fn names(rt: HostRuntime, d: Descriptor, b: &[u8]) {
     match d {
         Descriptor::ShortEvent {
             language: _,
             name,
             text,
-        } => both(b, name, text),
+        } => both(rt, b, name, text),
         Descriptor::Service {
             service_type,
             provider,
             name,
         } => {
-            say_decimal(b" ", service_type as u64);
-            both(b, provider, name);
+            say_decimal(rt, b" ", service_type as u64);
+            both(rt, b, provider, name);
         }
         _ => {}
     }
 }
 
-fn both(b: &[u8], p: Part, q: Part) {
-    say(b" ");
-    bytes_of(p.of(b));
-    say(b" ");
-    bytes_of(q.of(b));
+fn both(rt: HostRuntime, b: &[u8], p: Part, q: Part) {
+    say(rt, b" ");
+    bytes_of(rt, p.of(b));
+    say(rt, b" ");
+    bytes_of(rt, q.of(b));
 }
 
-fn sdt_answer(b: &[u8]) {
+fn sdt_answer(rt: HostRuntime, b: &[u8]) {
     let p = sdt::parse(b);
-    field(b"breaks", p.breaks as u64);
+    field(rt, b"breaks", p.breaks as u64);
     let r = p.result;
     match r {
-        SdtResult::Err(e) => failed(e),
+        SdtResult::Err(e) => failed(rt, e),
         SdtResult::Ok(h, t) => {
             let body = h.body;
-            header(h);
-            sdt_table(t, body.of(b));
+            header(rt, h);
+            sdt_table(rt, t, body.of(b));
         }
     }
 }
 
-fn sdt_table(t: Sdt, s: &[u8]) {
-    field(b"original_network_id", t.original_network_id as u64);
+fn sdt_table(rt: HostRuntime, t: Sdt, s: &[u8]) {
+    field(rt, b"original_network_id", t.original_network_id as u64);
     let mut at: usize = 3;
     let mut left = t.services;
     while 0 < left {
@@ -363,7 +369,7 @@ fn sdt_table(t: Sdt, s: &[u8]) {
             SdtStep::End => return,
             SdtStep::Malformed => return,
             SdtStep::Service(e, next) => {
-                sdt_service(e, s);
+                sdt_service(rt, e, s);
                 at = next;
             }
         }
@@ -371,72 +377,73 @@ fn sdt_table(t: Sdt, s: &[u8]) {
     }
 }
 
-fn sdt_service(e: SdtService, s: &[u8]) {
+fn sdt_service(rt: HostRuntime, e: SdtService, s: &[u8]) {
     let d = e.descriptors;
-    say_decimal(b"\n  service ", e.service_id as u64);
+    say_decimal(rt, b"\n  service ", e.service_id as u64);
     eit_flags(
+        rt,
         e.eit_user_defined_flags,
         e.eit_schedule,
         e.eit_present_following,
     );
-    status(e.running_status, e.free_ca);
-    say(b" service");
-    service_names(d.of(s));
-    each(b"    ", d.of(s));
+    status(rt, e.running_status, e.free_ca);
+    say(rt, b" service");
+    service_names(rt, d.of(s));
+    each(rt, b"    ", d.of(s));
 }
 
-fn eit_flags(user_defined: u8, schedule: bool, present_following: bool) {
-    field(b"eit_user_defined_flags", user_defined as u64);
-    flag_field(b"eit_schedule", schedule);
-    flag_field(b"eit_present_following", present_following);
+fn eit_flags(rt: HostRuntime, user_defined: u8, schedule: bool, present_following: bool) {
+    field(rt, b"eit_user_defined_flags", user_defined as u64);
+    flag_field(rt, b"eit_schedule", schedule);
+    flag_field(rt, b"eit_present_following", present_following);
 }
 
-fn service_names(b: &[u8]) {
+fn service_names(rt: HostRuntime, b: &[u8]) {
     match sdt::service_descriptor(b) {
-        Found::None => say(b" none"),
-        Found::Some(d, p) => names(d, p.of(b)),
+        Found::None => say(rt, b" none"),
+        Found::Some(d, p) => names(rt, d, p.of(b)),
     }
 }
 
-fn tot_answer(b: &[u8]) {
+fn tot_answer(rt: HostRuntime, b: &[u8]) {
     let p = tot::parse(b);
-    field(b"breaks", p.breaks as u64);
+    field(rt, b"breaks", p.breaks as u64);
     let r = p.result;
     match r {
-        TotResult::Err(e) => failed(e),
-        TotResult::Ok(t) => tot_table(t, b),
+        TotResult::Err(e) => failed(rt, e),
+        TotResult::Ok(t) => tot_table(rt, t, b),
     }
 }
 
-fn tot_table(t: Tot, b: &[u8]) {
+fn tot_table(rt: HostRuntime, t: Tot, b: &[u8]) {
     let d = t.descriptors;
-    hex_field(b"jst", t.jst, 10);
-    each(b"  ", d.of(b));
+    hex_field(rt, b"jst", t.jst, 10);
+    each(rt, b"  ", d.of(b));
 }
 
-fn bit_answer(b: &[u8]) {
+fn bit_answer(rt: HostRuntime, b: &[u8]) {
     let p = bit::parse(b);
-    field(b"breaks", p.breaks as u64);
+    field(rt, b"breaks", p.breaks as u64);
     let r = p.result;
     match r {
-        BitResult::Err(e) => failed(e),
+        BitResult::Err(e) => failed(rt, e),
         BitResult::Ok(h, t) => {
             let body = h.body;
-            header(h);
-            bit_table(t, body.of(b));
+            header(rt, h);
+            bit_table(rt, t, body.of(b));
         }
     }
 }
 
-fn bit_table(t: Bit, s: &[u8]) {
+fn bit_table(rt: HostRuntime, t: Bit, s: &[u8]) {
     let d = t.descriptors;
-    flag_field(b"broadcast_view_propriety", t.broadcast_view_propriety);
-    each(b"  ", d.of(s));
+    flag_field(rt, b"broadcast_view_propriety", t.broadcast_view_propriety);
+    each(rt, b"  ", d.of(s));
     let from = std::num::wrapping_add_usize(d.start, d.length);
-    broadcasters(s, t.broadcasters, from);
+    broadcasters(rt, s, t.broadcasters, from);
 }
 
-fn broadcasters(s: &[u8], n: usize, from: usize) {
+fn broadcasters(rt: HostRuntime, s: &[u8], n: usize, from: usize) {
     let mut at = from;
     let mut left = n;
     while 0 < left {
@@ -444,7 +451,7 @@ fn broadcasters(s: &[u8], n: usize, from: usize) {
             BroadcasterStep::End => return,
             BroadcasterStep::Malformed => return,
             BroadcasterStep::Broadcaster(e, next) => {
-                broadcaster(e, s);
+                broadcaster(rt, e, s);
                 at = next;
             }
         }
@@ -452,31 +459,31 @@ fn broadcasters(s: &[u8], n: usize, from: usize) {
     }
 }
 
-fn broadcaster(e: Broadcaster, s: &[u8]) {
+fn broadcaster(rt: HostRuntime, e: Broadcaster, s: &[u8]) {
     let d = e.descriptors;
-    say_decimal(b"\n  broadcaster ", e.broadcaster_id as u64);
-    each(b"    ", d.of(s));
+    say_decimal(rt, b"\n  broadcaster ", e.broadcaster_id as u64);
+    each(rt, b"    ", d.of(s));
 }
 
-fn nit_answer(b: &[u8]) {
+fn nit_answer(rt: HostRuntime, b: &[u8]) {
     match nit::parse(b) {
-        NitResult::Err(e) => failed(e),
+        NitResult::Err(e) => failed(rt, e),
         NitResult::Ok(h, t) => {
             let body = h.body;
-            header(h);
-            nit_table(t, body.of(b));
+            header(rt, h);
+            nit_table(rt, t, body.of(b));
         }
     }
 }
 
-fn nit_table(t: Nit, s: &[u8]) {
+fn nit_table(rt: HostRuntime, t: Nit, s: &[u8]) {
     let d = t.descriptors;
     let l = t.loop_part;
-    tlv_each(b"  ", d.of(s));
-    streams(l.of(s), t.streams);
+    tlv_each(rt, b"  ", d.of(s));
+    streams(rt, l.of(s), t.streams);
 }
 
-fn streams(s: &[u8], n: usize) {
+fn streams(rt: HostRuntime, s: &[u8], n: usize) {
     let mut at: usize = 0;
     let mut left = n;
     while 0 < left {
@@ -484,7 +491,7 @@ fn streams(s: &[u8], n: usize) {
             StreamStep::End => return,
             StreamStep::Malformed => return,
             StreamStep::Stream(e, next) => {
-                stream(e, s);
+                stream(rt, e, s);
                 at = next;
             }
         }
@@ -492,21 +499,21 @@ fn streams(s: &[u8], n: usize) {
     }
 }
 
-fn stream(e: NitStream, s: &[u8]) {
+fn stream(rt: HostRuntime, e: NitStream, s: &[u8]) {
     let d = e.descriptors;
-    say_decimal(b"\n  stream ", e.tlv_stream_id as u64);
-    field(b"original_network_id", e.original_network_id as u64);
-    tlv_each(b"    ", d.of(s));
+    say_decimal(rt, b"\n  stream ", e.tlv_stream_id as u64);
+    field(rt, b"original_network_id", e.original_network_id as u64);
+    tlv_each(rt, b"    ", d.of(s));
 }
 
-fn tlv_each(pad: &[u8], b: &[u8]) {
+fn tlv_each(rt: HostRuntime, pad: &[u8], b: &[u8]) {
     let mut at: usize = 0;
     let mut left = b.len();
     while 0 < left {
         match nit::next_tlv(b, at) {
             TlvStep::End => return,
             TlvStep::Descriptor { tag, body, next } => {
-                tlv_descriptor(pad, tag, body.of(b));
+                tlv_descriptor(rt, pad, tag, body.of(b));
                 at = next;
             }
         }
@@ -514,64 +521,64 @@ fn tlv_each(pad: &[u8], b: &[u8]) {
     }
 }
 
-fn tlv_descriptor(pad: &[u8], tag: u8, b: &[u8]) {
-    say(b"\n");
-    say(pad);
-    say_hex(b"descriptor 0x", tag as u64, 2);
-    say(b" ");
-    bytes_of(b);
-    tlv_services(tag, b);
-    network_name(tag, b);
-    frequency(tag, b);
+fn tlv_descriptor(rt: HostRuntime, pad: &[u8], tag: u8, b: &[u8]) {
+    say(rt, b"\n");
+    say(rt, pad);
+    say_hex(rt, b"descriptor 0x", tag as u64, 2);
+    say(rt, b" ");
+    bytes_of(rt, b);
+    tlv_services(rt, tag, b);
+    network_name(rt, tag, b);
+    frequency(rt, tag, b);
 }
 
-fn tlv_services(tag: u8, b: &[u8]) {
+fn tlv_services(rt: HostRuntime, tag: u8, b: &[u8]) {
     match nit::service_list(tag, b) {
         MaybePart::None => {}
-        MaybePart::Some(p) => service_list(p.of(b)),
+        MaybePart::Some(p) => service_list(rt, p.of(b)),
     }
 }
 
-fn network_name(tag: u8, b: &[u8]) {
+fn network_name(rt: HostRuntime, tag: u8, b: &[u8]) {
     match nit::network_name(tag, b) {
         MaybePart::None => {}
-        MaybePart::Some(p) => bytes_field(b"network_name", p.of(b)),
+        MaybePart::Some(p) => bytes_field(rt, b"network_name", p.of(b)),
     }
 }
 
-fn frequency(tag: u8, b: &[u8]) {
+fn frequency(rt: HostRuntime, tag: u8, b: &[u8]) {
     if tag == 0x43 {
-        say(b" frequency_khz ");
-        maybe_u64(nit::satellite_frequency_khz(tag, b));
+        say(rt, b" frequency_khz ");
+        maybe_u64(rt, nit::satellite_frequency_khz(tag, b));
     }
 }
 
-fn maybe_u64(x: MaybeU64) {
+fn maybe_u64(rt: HostRuntime, x: MaybeU64) {
     match x {
-        MaybeU64::None => say(b"none"),
-        MaybeU64::Some(n) => decimal(n),
+        MaybeU64::None => say(rt, b"none"),
+        MaybeU64::Some(n) => decimal(rt, n),
     }
 }
 
-fn amt_answer(b: &[u8]) {
+fn amt_answer(rt: HostRuntime, b: &[u8]) {
     match amt::parse(b) {
-        AmtResult::Err(e) => failed(e),
+        AmtResult::Err(e) => failed(rt, e),
         AmtResult::Ok(h, t) => {
             let body = h.body;
-            header(h);
-            flows(body.of(b), t.services);
+            header(rt, h);
+            flows(rt, body.of(b), t.services);
         }
     }
 }
 
-fn flows(s: &[u8], n: u16) {
+fn flows(rt: HostRuntime, s: &[u8], n: u16) {
     let mut at: usize = 2;
     let mut left = n;
     while 0 < left {
         match amt::service_at(s, at) {
             AmtStep::Malformed => return,
             AmtStep::Service(e, next) => {
-                flow(e);
+                flow(rt, e);
                 at = next;
             }
         }
@@ -579,26 +586,26 @@ fn flows(s: &[u8], n: u16) {
     }
 }
 
-fn flow(e: AmtService) {
+fn flow(rt: HostRuntime, e: AmtService) {
     let src = e.src;
     let dst = e.dst;
-    say_decimal(b"\n  service ", e.service_id as u64);
-    end(b" src ", src, e.src_mask);
-    end(b" dst ", dst, e.dst_mask);
+    say_decimal(rt, b"\n  service ", e.service_id as u64);
+    end(rt, b" src ", src, e.src_mask);
+    end(rt, b" dst ", dst, e.dst_mask);
 }
 
-fn end(text: &[u8], a: Address, mask: u8) {
-    say(text);
-    address(a);
-    field(b"mask", mask as u64);
+fn end(rt: HostRuntime, text: &[u8], a: Address, mask: u8) {
+    say(rt, text);
+    address(rt, a);
+    field(rt, b"mask", mask as u64);
 }
 
-fn address(a: Address) {
+fn address(rt: HostRuntime, a: Address) {
     match a {
-        Address::V4(n) => hex_number(n as u64, 8),
+        Address::V4(n) => hex_number(rt, n as u64, 8),
         Address::V6(high, low) => {
-            hex_number(high, 16);
-            hex_number(low, 16);
+            hex_number(rt, high, 16);
+            hex_number(rt, low, 16);
         }
     }
 }

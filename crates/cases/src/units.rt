@@ -8,67 +8,67 @@ use isdb_mmt::mpu::{
 use isdb_mmt::{message, mpu};
 use isdb_tlv::bytes;
 
-pub fn answer(word: &[u8], b: &[u8]) {
-    if check::same(word, b"units") {
-        return payload(b);
+pub fn answer(rt: HostRuntime, word: &[u8], b: &[u8]) {
+    if word == b"units" {
+        return payload(rt, b);
     }
-    if check::same(word, b"control") {
-        return control(b);
+    if word == b"control" {
+        return control(rt, b);
     }
-    if check::same(word, b"lost") {
-        return lost(bytes::get_u32(b, 0), bytes::get_u32(b, 4));
+    if word == b"lost" {
+        return lost(rt, bytes::get_u32(b, 0), bytes::get_u32(b, 4));
     }
-    crate::tables::answer(word, b)
+    crate::tables::answer(rt, word, b)
 }
 
-fn lost(old: u32, new: u32) {
+fn lost(rt: HostRuntime, old: u32, new: u32) {
     if mpu::follows_on(old, new) {
-        return field(b"lost", 0);
+        return field(rt, b"lost", 0);
     }
-    field(b"lost", mpu::lost(old, new) as u64);
+    field(rt, b"lost", mpu::lost(old, new) as u64);
 }
 
-fn payload(b: &[u8]) {
+fn payload(rt: HostRuntime, b: &[u8]) {
     match mpu::parse_header(b) {
-        MaybeHeader::None => say(b" none"),
-        MaybeHeader::Some(h) => header(h, mpu::declared(b)),
+        MaybeHeader::None => say(rt, b" none"),
+        MaybeHeader::Some(h) => header(rt, h, mpu::declared(b)),
     }
 }
 
-fn header(h: PayloadHeader, q: &[u8]) {
+fn header(rt: HostRuntime, h: PayloadHeader, q: &[u8]) {
     let kind = h.fragment_type;
     let fragmentation = h.fragmentation;
-    field(b"type", kind.code() as u64);
-    flag_field(b"timed", h.timed);
-    field(b"fragmentation", fragmentation.code() as u64);
-    flag_field(b"aggregated", h.aggregated);
-    field(b"counter", h.fragment_counter as u64);
-    field(b"mpu", h.mpu_sequence_number as u64);
+    field(rt, b"type", kind.code() as u64);
+    flag_field(rt, b"timed", h.timed);
+    field(rt, b"fragmentation", fragmentation.code() as u64);
+    flag_field(rt, b"aggregated", h.aggregated);
+    field(rt, b"counter", h.fragment_counter as u64);
+    field(rt, b"mpu", h.mpu_sequence_number as u64);
     match kind {
-        FragmentType::MpuMetadata => field(b"units", 0),
-        FragmentType::MovieFragmentMetadata => field(b"units", 0),
-        FragmentType::Mfu => units(q, h.timed, h.aggregated),
-        FragmentType::Reserved(c) => field(b"units", 0),
+        FragmentType::MpuMetadata => field(rt, b"units", 0),
+        FragmentType::MovieFragmentMetadata => field(rt, b"units", 0),
+        FragmentType::Mfu => units(rt, q, h.timed, h.aggregated),
+        FragmentType::Reserved(c) => field(rt, b"units", 0),
     }
 }
 
-fn units(q: &[u8], timed: bool, aggregated: bool) {
+fn units(rt: HostRuntime, q: &[u8], timed: bool, aggregated: bool) {
     match mpu::count_units(q, timed, aggregated) {
-        UnitCount::Malformed => say(b" malformed"),
+        UnitCount::Malformed => say(rt, b" malformed"),
         UnitCount::Count(n) => {
-            field(b"units", n as u64);
-            each_unit(q, timed, aggregated, n);
+            field(rt, b"units", n as u64);
+            each_unit(rt, q, timed, aggregated, n);
         }
     }
 }
 
-fn each_unit(q: &[u8], timed: bool, aggregated: bool, n: usize) {
+fn each_unit(rt: HostRuntime, q: &[u8], timed: bool, aggregated: bool, n: usize) {
     let mut at: usize = 8;
     let mut left = n;
     while 0 < left {
         match mpu::next_unit(q, timed, aggregated, at) {
             UnitStep::Unit(u, next) => {
-                unit(u, q);
+                unit(rt, u, q);
                 at = next;
             }
             UnitStep::End => return,
@@ -78,66 +78,70 @@ fn each_unit(q: &[u8], timed: bool, aggregated: bool, n: usize) {
     }
 }
 
-fn unit(u: Unit, q: &[u8]) {
+fn unit(rt: HostRuntime, u: Unit, q: &[u8]) {
     let mfu = u.mfu;
     let item = u.item_id;
     let data = u.data;
-    say(b"\n  unit");
+    say(rt, b"\n  unit");
     match mfu {
-        MaybeMfu::None => item_id(item),
-        MaybeMfu::Some(h) => mfu_header(h),
+        MaybeMfu::None => item_id(rt, item),
+        MaybeMfu::Some(h) => mfu_header(rt, h),
     }
-    bytes_field(b"data", data.of(q));
+    bytes_field(rt, b"data", data.of(q));
 }
 
-fn item_id(i: MaybeU32) {
+fn item_id(rt: HostRuntime, i: MaybeU32) {
     match i {
-        MaybeU32::None => say(b" plain"),
-        MaybeU32::Some(n) => field(b"item", n as u64),
+        MaybeU32::None => say(rt, b" plain"),
+        MaybeU32::Some(n) => field(rt, b"item", n as u64),
     }
 }
 
-fn mfu_header(h: MfuHeader) {
-    field(b"movie_fragment", h.movie_fragment_sequence_number as u64);
-    field(b"sample", h.sample_number as u64);
-    field(b"offset", h.offset as u64);
-    field(b"priority", h.priority as u64);
-    field(b"dependency", h.dependency_counter as u64);
+fn mfu_header(rt: HostRuntime, h: MfuHeader) {
+    field(
+        rt,
+        b"movie_fragment",
+        h.movie_fragment_sequence_number as u64,
+    );
+    field(rt, b"sample", h.sample_number as u64);
+    field(rt, b"offset", h.offset as u64);
+    field(rt, b"priority", h.priority as u64);
+    field(rt, b"dependency", h.dependency_counter as u64);
 }
 
 // The tables of an undivided payload, and how many messages and tables do not fit; of a divided one which part it is.
-fn control(b: &[u8]) {
+fn control(rt: HostRuntime, b: &[u8]) {
     if b.len() < 2 {
-        return say(b" malformed 1");
+        return say(rt, b" malformed 1");
     }
     let f = message::fragment_of(bytes::get_u8(b, 0));
     let division = f.division;
     match division {
         Division::Undivided => {
-            let bad = messages(bytes::rest(b, 2), f.long_length, f.aggregated);
-            say_decimal(b"\n  malformed ", bad);
+            let bad = messages(rt, bytes::rest(b, 2), f.long_length, f.aggregated);
+            say_decimal(rt, b"\n  malformed ", bad);
         }
-        Division::First => say(b" first"),
-        Division::Middle => say(b" middle"),
-        Division::Last => say(b" last"),
+        Division::First => say(rt, b" first"),
+        Division::Middle => say(rt, b" middle"),
+        Division::Last => say(rt, b" last"),
     }
 }
 
-fn messages(b: &[u8], long: bool, aggregated: bool) -> u64 {
+fn messages(rt: HostRuntime, b: &[u8], long: bool, aggregated: bool) -> u64 {
     if aggregated {
-        return each_message(b, long);
+        return each_message(rt, b, long);
     }
-    content(b)
+    content(rt, b)
 }
 
-fn each_message(b: &[u8], long: bool) -> u64 {
+fn each_message(rt: HostRuntime, b: &[u8], long: bool) -> u64 {
     let mut bad: u64 = 0;
     let mut at: usize = 0;
     let mut left = b.len();
     while 0 < left {
         match message::next_message(b, long, at) {
             MessageStep::Message(p, next) => {
-                bad = std::num::wrapping_add_u64(bad, content(p.of(b)));
+                bad = std::num::wrapping_add_u64(bad, content(rt, p.of(b)));
                 at = next;
             }
             MessageStep::End => return bad,
@@ -148,25 +152,25 @@ fn each_message(b: &[u8], long: bool) -> u64 {
     bad
 }
 
-fn content(m: &[u8]) -> u64 {
+fn content(rt: HostRuntime, m: &[u8]) -> u64 {
     match message::content_of(m) {
         Content::Malformed => 1,
         Content::Nothing => 0,
         Content::Table(p) => {
-            table(p.of(m));
+            table(rt, p.of(m));
             0
         }
-        Content::Tables { body, at } => tables(body.of(m), at),
+        Content::Tables { body, at } => tables(rt, body.of(m), at),
     }
 }
 
-fn tables(b: &[u8], from: usize) -> u64 {
+fn tables(rt: HostRuntime, b: &[u8], from: usize) -> u64 {
     let mut at = from;
     let mut left = b.len();
     while 0 < left {
         match message::next_table(b, at) {
             TableStep::Table(p, next) => {
-                table(p.of(b));
+                table(rt, p.of(b));
                 at = next;
             }
             TableStep::End => return 0,
@@ -177,7 +181,7 @@ fn tables(b: &[u8], from: usize) -> u64 {
     0
 }
 
-fn table(b: &[u8]) {
-    say(b"\n ");
-    bytes_field(b"table", b);
+fn table(rt: HostRuntime, b: &[u8]) {
+    say(rt, b"\n ");
+    bytes_field(rt, b"table", b);
 }
