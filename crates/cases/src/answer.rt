@@ -8,35 +8,35 @@ use isdb_tlv::si::{MaybeSection, Section};
 use isdb_tlv::tlv::PacketType;
 
 pub fn answer(rt: HostRuntime, word: &[u8], b: &[u8]) {
-    if word == b"crc" {
+    if word == b"crc".as_slice() {
         return hex_field(rt, b"crc", isdb_tlv::crc::crc32(b) as u64, 8);
     }
-    if word == b"tlv" {
+    if word == b"tlv".as_slice() {
         return packet_type(rt, PacketType::from_byte(isdb_tlv::bytes::get_u8(b, 0)));
     }
-    if word == b"ipv4" {
+    if word == b"ipv4".as_slice() {
         return datagram(rt, isdb_tlv::ip::ipv4(b), b);
     }
-    if word == b"ipv6" {
+    if word == b"ipv6".as_slice() {
         return datagram(rt, isdb_tlv::ip::ipv6(b), b);
     }
-    if word == b"compressed" {
+    if word == b"compressed".as_slice() {
         return datagram(rt, isdb_tlv::ip::compressed(b), b);
     }
-    if word == b"wire" {
+    if word == b"wire".as_slice() {
         return wire(rt, isdb_tlv::ip::wire_check(b).letter());
     }
     more(rt, word, b)
 }
 
 fn more(rt: HostRuntime, word: &[u8], b: &[u8]) {
-    if word == b"mmtp" {
+    if word == b"mmtp".as_slice() {
         return mmtp(rt, isdb_tlv::mmtp::parse(b), b);
     }
-    if word == b"messages" {
+    if word == b"messages".as_slice() {
         return messages(rt, b);
     }
-    if word == b"sections" {
+    if word == b"sections".as_slice() {
         return sections(rt, b);
     }
     crate::units::answer(rt, word, b)

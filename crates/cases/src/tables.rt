@@ -23,41 +23,41 @@ use isdb_tlv::bytes;
 use isdb_tlv::ip::Address;
 
 pub fn answer(rt: HostRuntime, word: &[u8], b: &[u8]) {
-    if word == b"location" {
+    if word == b"location".as_slice() {
         return located(rt, b);
     }
-    if word == b"descriptors" {
+    if word == b"descriptors".as_slice() {
         return descriptor_loop(rt, b);
     }
-    if word == b"mpt" {
+    if word == b"mpt".as_slice() {
         return mpt_answer(rt, b);
     }
-    if word == b"plt" {
+    if word == b"plt".as_slice() {
         return plt_answer(rt, b);
     }
-    if word == b"eit" {
+    if word == b"eit".as_slice() {
         return eit_answer(rt, b);
     }
-    if word == b"sdt" {
+    if word == b"sdt".as_slice() {
         return sdt_answer(rt, b);
     }
     more(rt, word, b)
 }
 
 fn more(rt: HostRuntime, word: &[u8], b: &[u8]) {
-    if word == b"tot" {
+    if word == b"tot".as_slice() {
         return tot_answer(rt, b);
     }
-    if word == b"bit" {
+    if word == b"bit".as_slice() {
         return bit_answer(rt, b);
     }
-    if word == b"nit" {
+    if word == b"nit".as_slice() {
         return nit_answer(rt, b);
     }
-    if word == b"amt" {
+    if word == b"amt".as_slice() {
         return amt_answer(rt, b);
     }
-    if word == b"ntp" {
+    if word == b"ntp".as_slice() {
         return ntp_answer(rt, bytes::get_u64(b, 0));
     }
     say(rt, b" no such reading");

@@ -9,13 +9,13 @@ use isdb_mmt::{message, mpu};
 use isdb_tlv::bytes;
 
 pub fn answer(rt: HostRuntime, word: &[u8], b: &[u8]) {
-    if word == b"units" {
+    if word == b"units".as_slice() {
         return payload(rt, b);
     }
-    if word == b"control" {
+    if word == b"control".as_slice() {
         return control(rt, b);
     }
-    if word == b"lost" {
+    if word == b"lost".as_slice() {
         return lost(rt, bytes::get_u32(b, 0), bytes::get_u32(b, 4));
     }
     crate::tables::answer(rt, word, b)
