@@ -12,16 +12,21 @@ mod units;
 use isdb_text::digits;
 use isdb_text::digits::Decoded;
 
-fn main(rt: HostRuntime) {
-    let mut buf = [0u8; 524288];
-    let n = stdio::read_full(rt, &mut buf);
+// Answers the cases that standard input holds; input that fills the window may go on behind it.
+fn answer_input(rt: HostRuntime, window: &mut [u8; 524288]) {
+    let n = stdio::read_full(rt, window);
     if n == 524288 {
         return print::say(
             rt,
             b"# the input is too long: it must have fewer than 524288 bytes, and none of it is answered\n",
         );
     }
-    run(rt, &buf[..n]);
+    run(rt, &window[..n]);
+}
+
+fn main(rt: HostRuntime) {
+    let mut buf = [0u8; 524288];
+    answer_input(rt, &mut buf);
 }
 
 // Each line up to the last line end.

@@ -173,14 +173,19 @@ fn replay(rt: HostRuntime, input: &[u8]) {
     );
 }
 
-fn main(rt: HostRuntime) {
-    let mut input = [0u8; 524288];
-    let n = stdio::read_full(rt, &mut input);
+// Replays the list that standard input holds; one that fills the window may go on behind it.
+fn replay_input(rt: HostRuntime, window: &mut [u8; 524288]) {
+    let n = stdio::read_full(rt, window);
     if n == 524288 {
         return stdio::say(
             rt,
             b"the list is too long: it must have fewer than 524288 bytes\n",
         );
     }
-    replay(rt, &input[..n]);
+    replay(rt, &window[..n]);
+}
+
+fn main(rt: HostRuntime) {
+    let mut input = [0u8; 524288];
+    replay_input(rt, &mut input);
 }
