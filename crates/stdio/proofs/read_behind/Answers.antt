@@ -1,4 +1,4 @@
-use Rattle.std.proofs.Common.{◌≤◌, refl, length, rules}
+use Rattle.std.proofs.Common.{◌≤◌, length, rules}
 use borrow.Rule.Slice.PartMut.{take_put}
 use Rattle.stdio.proofs.read_behind.Goals as goal
 
