@@ -177,7 +177,8 @@ fn scramble_of(s: &[u8]) -> Scramble
         if s.len() - q < 4 {
             return Scramble::Absent;
         }
-        if bytes::get_u16(s, q) % 32768 == 1 {
+        let scrambles = bytes::get_u16(s, q) % 32768 == 1;
+        if scrambles {
             let p = q + 4;
             if p < s.len() {
                 return Scramble::Bits(s[p] / 8 % 4);

@@ -74,7 +74,8 @@ fn is_unit(p: &[u8], flags: u8) -> bool
         return false;
     }
     let n = bytes::get_u16(p, 0) as usize;
-    if n < 20 {
+    let headless = n < 20;
+    if headless {
         return false;
     }
     if p.len() < n + 2 {

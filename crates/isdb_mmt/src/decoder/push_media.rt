@@ -441,7 +441,8 @@ pub(crate) fn push_media(
         rows.len() as u64,
         out.len() as u64,
     );
-    if a.number == 0 {
+    let taken = a.number == 0;
+    if taken {
         commit_all(state, objects, l, place_for, p, r, h, b, rows, out);
     }
     a

@@ -18,19 +18,19 @@ returns-then-p-s c = let l = c.loop-q in
       entry_at c.args.s.now l.q,
       le-ltb _ _ c.if-s-q-lt4.false,
       ← c.get_u16.ensures,
-      eq-eqb _ _ c.if-get_u16-eq1.true,
+      eq-eqb _ _ c.if-scrambles.true,
       lt-ltb (l.q + 4) (length c.args.s.now) (omega arith),
     )
 
-pub returns-then-get_u16-eq1 : goal.returns-then-get_u16-eq1
+pub returns-then-scrambles : goal.returns-then-scrambles
 unfolding entry bits_of
-returns-then-get_u16-eq1 c = let l = c.loop-q in
+returns-then-scrambles c = let l = c.loop-q in
     rw (
       ← l.invariant,
       entry_at c.args.s.now l.q,
       le-ltb _ _ c.if-s-q-lt4.false,
       ← c.get_u16.ensures,
-      eq-eqb _ _ c.if-get_u16-eq1.true,
+      eq-eqb _ _ c.if-scrambles.true,
       le-ltb (l.q + 4) (length c.args.s.now) (omega arith),
     )
 
@@ -42,7 +42,7 @@ returns-then-s-q-ge128 c = let l = c.loop-q in
       entry_at c.args.s.now l.q,
       le-ltb _ _ c.if-s-q-lt4.false,
       ← c.get_u16.ensures,
-      ne_eqb _ _ c.if-get_u16-eq1.false,
+      ne_eqb _ _ c.if-scrambles.false,
       le-leb _ _ c.if-s-q-ge128.true,
     )
 
@@ -53,7 +53,7 @@ loop-q-preserved c = let l = c.loop-q in
       entry_at c.args.s.now l.q,
       le-ltb _ _ c.if-s-q-lt4.false,
       ← c.get_u16.ensures,
-      ne_eqb _ _ c.if-get_u16-eq1.false,
+      ne_eqb _ _ c.if-scrambles.false,
       lt-leb _ _ c.if-s-q-ge128.false,
       ← c.get_u16-in-loop-q.ensures,
     ) at l.invariant

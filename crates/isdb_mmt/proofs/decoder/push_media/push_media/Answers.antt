@@ -14,10 +14,10 @@ pub answer_of-a-requires : goal.answer_of-a-requires
 answer_of-a-requires c = let x = c.args in push_small _ _ _ _ _ x.h _ x.rows.now x.out.now c.requires _ c.media_limits-l.ensures _ c.media_place_for-place_for.ensures _ c.place_in-p.ensures _ c.media_outcome-r.ensures
 
 pub commit_all-requires : goal.commit_all-requires
-commit_all-requires c = let x = c.args in can_all _ _ _ _ _ x.h _ x.rows.now x.out.now c.requires _ c.media_limits-l.ensures _ c.media_place_for-place_for.ensures _ c.place_in-p.ensures _ c.media_outcome-r.ensures _ c.answer_of-a.ensures c.if-a-eq0.true
+commit_all-requires c = let x = c.args in can_all _ _ _ _ _ x.h _ x.rows.now x.out.now c.requires _ c.media_limits-l.ensures _ c.media_place_for-place_for.ensures _ c.place_in-p.ensures _ c.media_outcome-r.ensures _ c.answer_of-a.ensures c.if-taken.true
 
-pub returns-then-a-eq0 : goal.returns-then-a-eq0
-returns-then-a-eq0 c = let x = c.args in pushed_yes _ _ _ _ _ x.h _ x.rows.now x.out.now c.requires _ c.media_limits-l.ensures _ c.media_place_for-place_for.ensures _ c.place_in-p.ensures _ c.media_outcome-r.ensures _ c.answer_of-a.ensures c.if-a-eq0.true _ _ _ _ c.commit_all.ensures
+pub returns-then-taken : goal.returns-then-taken
+returns-then-taken c = let x = c.args in pushed_yes _ _ _ _ _ x.h _ x.rows.now x.out.now c.requires _ c.media_limits-l.ensures _ c.media_place_for-place_for.ensures _ c.place_in-p.ensures _ c.media_outcome-r.ensures _ c.answer_of-a.ensures c.if-taken.true _ _ _ _ c.commit_all.ensures
 
-pub returns-else-a-eq0 : goal.returns-else-a-eq0
-returns-else-a-eq0 c = let x = c.args in pushed_no _ _ _ _ _ x.h _ x.rows.now x.out.now c.requires _ c.media_limits-l.ensures _ c.media_place_for-place_for.ensures _ c.place_in-p.ensures _ c.media_outcome-r.ensures _ c.answer_of-a.ensures c.if-a-eq0.false
+pub returns-else-taken : goal.returns-else-taken
+returns-else-taken c = let x = c.args in pushed_no _ _ _ _ _ x.h _ x.rows.now x.out.now c.requires _ c.media_limits-l.ensures _ c.media_place_for-place_for.ensures _ c.place_in-p.ensures _ c.media_outcome-r.ensures _ c.answer_of-a.ensures c.if-taken.false
