@@ -177,7 +177,8 @@ fn scramble_of(s: &[u8]) -> Scramble
         if s.len() - q < 4 {
             return Scramble::Absent;
         }
-        let scrambles = bytes::get_u16(s, q) % 32768 == 1;
+        let entry_type = bytes::get_u16(s, q);
+        let scrambles = entry_type % 32768 == 1;
         if scrambles {
             let p = q + 4;
             if p < s.len() {

@@ -17,7 +17,7 @@ returns-then-p-s c = let l = c.loop-q in
       ← l.invariant,
       entry_at c.args.s.now l.q,
       le-ltb _ _ c.if-s-q-lt4.false,
-      ← c.get_u16.ensures,
+      ← c.get_u16-entry_type.ensures,
       eq-eqb _ _ c.if-scrambles.true,
       lt-ltb (l.q + 4) (length c.args.s.now) (omega arith),
     )
@@ -29,7 +29,7 @@ returns-then-scrambles c = let l = c.loop-q in
       ← l.invariant,
       entry_at c.args.s.now l.q,
       le-ltb _ _ c.if-s-q-lt4.false,
-      ← c.get_u16.ensures,
+      ← c.get_u16-entry_type.ensures,
       eq-eqb _ _ c.if-scrambles.true,
       le-ltb (l.q + 4) (length c.args.s.now) (omega arith),
     )
@@ -41,7 +41,7 @@ returns-then-s-q-ge128 c = let l = c.loop-q in
       ← l.invariant,
       entry_at c.args.s.now l.q,
       le-ltb _ _ c.if-s-q-lt4.false,
-      ← c.get_u16.ensures,
+      ← c.get_u16-entry_type.ensures,
       ne_eqb _ _ c.if-scrambles.false,
       le-leb _ _ c.if-s-q-ge128.true,
     )
@@ -52,10 +52,10 @@ loop-q-preserved c = let l = c.loop-q in
     rw (
       entry_at c.args.s.now l.q,
       le-ltb _ _ c.if-s-q-lt4.false,
-      ← c.get_u16.ensures,
+      ← c.get_u16-entry_type.ensures,
       ne_eqb _ _ c.if-scrambles.false,
       lt-leb _ _ c.if-s-q-ge128.false,
-      ← c.get_u16-in-loop-q.ensures,
+      ← c.get_u16.ensures,
     ) at l.invariant
 
 pub returns : goal.returns
