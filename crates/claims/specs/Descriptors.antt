@@ -112,8 +112,8 @@ unfolding bytes_of be mpu_at
 next_mpu = refl
 
 -- timestamp::parse_extended: a default PTS offset, and an MPU that is not there in full
--- wrong: not_extended => extended (record { timescale = no_u32; «default_pts_offset» = some_u16 16; «own_pts_offset» = false; start = 3 }) (its head alone)
--- wrong: not_extended => extended (record { timescale = some_u32 0; «default_pts_offset» = no_u16; «own_pts_offset» = false; start = 1 }) (the flags misread)
+-- wrong: not_extended => extended (record { timescale = no_u32; default_pts_offset = some_u16 16; own_pts_offset = false; start = 3 }) (its head alone)
+-- wrong: not_extended => extended (record { timescale = some_u32 0; default_pts_offset = no_u16; own_pts_offset = false; start = 1 }) (the flags misread)
 pub parse_extended : extended_of (bytes_of 12 0x020010000000074000640100) ≡ not_extended
 unfolding bytes_of be mpu_at mpus_from mpus_whole extended_of is_some
 parse_extended = refl

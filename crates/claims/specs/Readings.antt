@@ -99,7 +99,7 @@ held_object = refl
 
 -- decoder::ids::held, of an id that was never seen
 -- wrong: NoId => no_object (an id that holds nothing)
--- wrong: NoId => the_object (record { «mpu_sequence_number» = 0; rap = false; mfu = no_mfu; «item_id» = no_u32; bytes = part_at 0 0 }) (an empty object)
+-- wrong: NoId => the_object (record { mpu_sequence_number = 0; rap = false; mfu = no_mfu; item_id = no_u32; bytes = part_at 0 0 }) (an empty object)
 pub held_unknown : told (held_in units 0xF102) ≡ object NoId
 unfolding told
 held_unknown = refl
@@ -154,8 +154,8 @@ unfolding told
 latest_tot = refl
 
 -- decoder::kept::asset_of: an MPT without the packet id is passed over
--- wrong: «control_id» = 0x8001 => «control_id» = 0x8000 (the MPT of the least control id)
--- wrong: «service_id» = some_u16 0x0065 => «service_id» = no_u16 (no service)
+-- wrong: control_id = 0x8001 => control_id = 0x8000 (the MPT of the least control id)
+-- wrong: service_id = some_u16 0x0065 => service_id = no_u16 (no service)
 pub asset_of : told (asset_in mpts 0xF100)
     ≡ asset (the_asset (record {
       control_id = 0x8001;

@@ -89,7 +89,7 @@ read_entries = refl
 
 -- eit::read: five bytes
 -- wrong: no_eit Malformed => no_eit Truncated (the section too short)
--- wrong: no_eit Malformed => eit_ok (header 0x8B 101 7 5) (record { «tlv_stream_id» = 11; «original_network_id» = 4; «segment_last_section_number» = 0; «last_table_id» = 0; events = 0 }) (the missing byte read as 0)
+-- wrong: no_eit Malformed => eit_ok (header 0x8B 101 7 5) (record { tlv_stream_id = 11; original_network_id = 4; segment_last_section_number = 0; last_table_id = 0; events = 0 }) (the missing byte read as 0)
 pub eit_read : eit_body (header 0x8B 101 7 5) (bytes_of 5 0x000B000400) ≡ record { result = no_eit Malformed; breaks = 0 }
 unfolding bytes_of be eit_body
 eit_read = refl
@@ -127,13 +127,13 @@ short_event = refl
 
 -- sdt::read: one byte
 -- wrong: no_sdt Malformed => no_sdt Crc (a bad section)
--- wrong: no_sdt Malformed => sdt_ok (header 0x9F 11 2 1) (record { «original_network_id» = 0; services = 0 }) (the missing byte read as 0)
+-- wrong: no_sdt Malformed => sdt_ok (header 0x9F 11 2 1) (record { original_network_id = 0; services = 0 }) (the missing byte read as 0)
 pub sdt_read : sdt_body (header 0x9F 11 2 1) (0x00 ∷ []) ≡ record { result = no_sdt Malformed; breaks = 0 }
 unfolding sdt_body
 sdt_read = refl
 
 -- sdt::parse: the reserved byte may be missing where no service follows
--- wrong: sdt_ok (header 0x9F 11 2 2) (record { «original_network_id» = 4; services = 0 }) => no_sdt Malformed (it must be there)
+-- wrong: sdt_ok (header 0x9F 11 2 2) (record { original_network_id = 4; services = 0 }) => no_sdt Malformed (it must be there)
 -- wrong: services = 0 => services = 1 (the missing byte taken for a service)
 pub sdt_parse : sdt_of (bytes_of 14 0x9FF00B000BC5000000046D0AFAEC)
     ≡ record { result = sdt_ok (header 0x9F 11 2 2) (record { original_network_id = 4; services = 0 }); breaks = 0 }
@@ -141,8 +141,8 @@ unfolding bytes_of be feed feed_byte crc_of long_section_of entry_at entries_fro
 sdt_parse = refl
 
 -- sdt::next_service
--- wrong: «eit_schedule» = true; «eit_present_following» = false => «eit_schedule» = false; «eit_present_following» = true (the flags exchanged)
--- wrong: «running_status» = 1 => «running_status» = 2 (with the bit behind it)
+-- wrong: eit_schedule = true; eit_present_following = false => eit_schedule = false; eit_present_following = true (the flags exchanged)
+-- wrong: running_status = 1 => running_status = 2 (with the bit behind it)
 pub sdt_service : service_step (bytes_of 8 0x0004FF0065FE2000) 3
     ≡ service (record { service_id = 101; eit_user_defined_flags = 7; eit_schedule = true; eit_present_following = false; running_status = 1; free_ca = false; descriptors = part_at 8 0 }) 8
 unfolding bytes_of be entry_at service_step
@@ -164,7 +164,7 @@ bit_read = refl
 
 -- bit::parse: the first loop and a broadcaster's are broken
 -- wrong: breaks = 2 => breaks = 1 (the first loop not counted)
--- wrong: «broadcast_view_propriety» = true => «broadcast_view_propriety» = false (the bit before it)
+-- wrong: broadcast_view_propriety = true => broadcast_view_propriety = false (the bit before it)
 pub bit_parse : bit_of (bytes_of 23 0x9DF0140004C30000F00380110901F00380110988268BE4)
     ≡ record {
       result = bit_ok (header 0x9D 4 1 11) (record { broadcast_view_propriety = true; descriptors = part_at 2 3; broadcasters = 1 });
@@ -174,29 +174,29 @@ unfolding bytes_of be feed feed_byte crc_of length_width_of step_at split_from s
 bit_parse = refl
 
 -- bit::next_broadcaster
--- wrong: broadcaster (record { «broadcaster_id» = 2; descriptors = part_at 3 0 }) 3 => no_broadcaster (an empty loop is none)
--- wrong: «broadcaster_id» = 2 => «broadcaster_id» = 0xF0 (one byte further)
+-- wrong: broadcaster (record { broadcaster_id = 2; descriptors = part_at 3 0 }) 3 => no_broadcaster (an empty loop is none)
+-- wrong: broadcaster_id = 2 => broadcaster_id = 0xF0 (one byte further)
 pub next_broadcaster : broadcaster_step (bytes_of 3 0x02F000) 0 ≡ broadcaster (record { broadcaster_id = 2; descriptors = part_at 3 0 }) 3
 unfolding bytes_of be entry_at broadcaster_step
 next_broadcaster = refl
 
 -- nit::read: a loop of streams that does not end with a stream
--- wrong: no_nit Malformed => nit_ok (header 0x40 4 3 5) (record { descriptors = part_at 2 0; «loop_part» = part_at 4 1; streams = 0 }) (the rest passed over)
+-- wrong: no_nit Malformed => nit_ok (header 0x40 4 3 5) (record { descriptors = part_at 2 0; loop_part = part_at 4 1; streams = 0 }) (the rest passed over)
 -- wrong: no_nit Malformed => no_nit Truncated (the section too short)
 pub nit_read : nit_body (header 0x40 4 3 5) (bytes_of 5 0xF000F00100) ≡ no_nit Malformed
 unfolding bytes_of be entry_at entries_from nit_body
 nit_read = refl
 
 -- nit::parse: bytes behind the loop of streams
--- wrong: nit_ok (header 0x41 4 3 6) (record { descriptors = part_at 2 0; «loop_part» = part_at 4 0; streams = 0 }) => no_nit Malformed (the loop must end with the body)
--- wrong: «loop_part» = part_at 4 0 => «loop_part» = part_at 4 2 (to the body's end)
+-- wrong: nit_ok (header 0x41 4 3 6) (record { descriptors = part_at 2 0; loop_part = part_at 4 0; streams = 0 }) => no_nit Malformed (the loop must end with the body)
+-- wrong: loop_part = part_at 4 0 => loop_part = part_at 4 2 (to the body's end)
 pub nit_parse : nit_of (bytes_of 18 0x41F00F0004C70000F000F0007A7A40613946)
     ≡ nit_ok (header 0x41 4 3 6) (record { descriptors = part_at 2 0; loop_part = part_at 4 0; streams = 0 })
 unfolding bytes_of be feed feed_byte crc_of long_section_of entry_at entries_from nit_body nit_of
 nit_parse = refl
 
 -- nit::next_stream
--- wrong: «tlv_stream_id» = 11; «original_network_id» = 4 => «tlv_stream_id» = 4; «original_network_id» = 11 (exchanged)
+-- wrong: tlv_stream_id = 11; original_network_id = 4 => tlv_stream_id = 4; original_network_id = 11 (exchanged)
 -- wrong: part_at 6 0 => part_at 4 0 (without the length)
 pub next_stream : stream_step (bytes_of 6 0x000B0004F000) 0
     ≡ stream (record { tlv_stream_id = 11; original_network_id = 4; descriptors = part_at 6 0 }) 6
@@ -233,7 +233,7 @@ service_list = refl
 
 -- amt::service_at: IPv4, with a byte behind the masks
 -- wrong: 15 => 14 (the masks' end)
--- wrong: «src_mask» = 32 => «src_mask» = 0xEF (one byte further)
+-- wrong: src_mask = 32 => src_mask = 0xEF (one byte further)
 pub amt_service : service_at (bytes_of 15 0x00657C0BC0A8000120EFFF0102187A) 0
     ≡ flow (record { service_id = 101; src = V4 0xC0A80001; src_mask = 32; dst = V4 0xEFFF0102; dst_mask = 24 }) 15
 unfolding bytes_of be service_at
@@ -275,8 +275,8 @@ unfolding bytes_of be sized location_of
 location_at = refl
 
 -- mpt::asset_at
--- wrong: «asset_id» = part_at 15 1 => «asset_id» = part_at 14 1 (with its length)
--- wrong: «locations_start» = 22 => «locations_start» = 21 (with their number)
+-- wrong: asset_id = part_at 15 1 => asset_id = part_at 14 1 (with its length)
+-- wrong: locations_start = 22 => locations_start = 21 (with their number)
 pub asset_at : asset_at_of (bytes_of 24 0x20030014FE000000010000000000017873747070FE000000) 9
     ≡ asset (record { identifier_type = 0; asset_id_scheme = 0; asset_id = part_at 15 1; asset_type = 0x73747070; clock_relation = false; locations = 0; locations_start = 22; descriptors = part_at 24 0 }) 24
 unfolding bytes_of be asset_fields asset_at_of
@@ -284,7 +284,7 @@ asset_at = refl
 
 -- mpt::parse: a broken loop counts also where the table then fails
 -- wrong: breaks = 1 => breaks = 0 (it does not)
--- wrong: mpt = no_mpt; breaks = 1 => mpt = some_mpt (record { «table_id» = 0x20; version = 3; mode = 1; «package_id» = part_at 6 2; descriptors = part_at 10 1; assets = 0; start = 12 }); breaks = 1 (the missing number of assets read as 0)
+-- wrong: mpt = no_mpt; breaks = 1 => mpt = some_mpt (record { table_id = 0x20; version = 3; mode = 1; package_id = part_at 6 2; descriptors = part_at 10 1; assets = 0; start = 12 }); breaks = 1 (the missing number of assets read as 0)
 pub mpt_parse : mpt_of (bytes_of 11 0x20030007FD020065000100) ≡ record { mpt = no_mpt; breaks = 1 }
 unfolding bytes_of be length_width_of step_at split_from split_of declared_length_of mpt_assets mpt_table mpt_of is_some
 mpt_parse = refl
@@ -311,7 +311,7 @@ unfolding bytes_of be length_width_of step_at split_from stream_identifier descr
 component_tag_of = refl
 
 -- plt::package_at
--- wrong: «location_start» = 8 => «location_start» = 5 (with the id)
+-- wrong: location_start = 8 => location_start = 5 (with the id)
 -- wrong: 11 => 8 (the location's start)
 pub package_at : package_at_of (bytes_of 11 0x7A7A7A7A7A02006500F101) 5
     ≡ package' (record { package_id = part_at 6 2; location = SameFlow 0xF101; location_start = 8 }) 11
@@ -319,15 +319,15 @@ unfolding bytes_of be sized location_of package_at_of
 package_at = refl
 
 -- plt::delivery_at: a location type that is none
--- wrong: broken_delivery => delivery (record { «transport_file_id» = 1; «location_type» = 3 }) 7 (no location)
--- wrong: broken_delivery => delivery (record { «transport_file_id» = 1; «location_type» = 3 }) 17 (as IPv4)
+-- wrong: broken_delivery => delivery (record { transport_file_id = 1; location_type = 3 }) 7 (no location)
+-- wrong: broken_delivery => delivery (record { transport_file_id = 1; location_type = 3 }) 17 (as IPv4)
 pub delivery_at : delivery_at_of (bytes_of 17 0x0000000103000000000000000000000000) 0 ≡ broken_delivery
 unfolding bytes_of be delivery_size delivery_at_of
 delivery_at = refl
 
 -- plt::parse: the last delivery's descriptors may overrun the table
--- wrong: some_plt (record { version = 4; packages = 0; «ip_deliveries» = 1; «deliveries_start» = 6 }) => no_plt (they may not)
--- wrong: «ip_deliveries» = 1 => «ip_deliveries» = 0 (the last one left out)
+-- wrong: some_plt (record { version = 4; packages = 0; ip_deliveries = 1; deliveries_start = 6 }) => no_plt (they may not)
+-- wrong: ip_deliveries = 1 => ip_deliveries = 0 (the last one left out)
 pub plt_parse : plt_of (bytes_of 23 0x80040013000100000009010000000000000000000001F4)
     ≡ some_plt (record { version = 4; packages = 0; ip_deliveries = 1; deliveries_start = 6 })
 unfolding bytes_of be declared_length_of delivery_size delivery_at_of deliveries_whole plt_deliveries plt_table plt_of is_some

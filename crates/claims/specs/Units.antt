@@ -178,7 +178,7 @@ lost = refl
 
 -- message::fragment_of
 -- wrong: last => middle (one before)
--- wrong: «long_length» = true => «long_length» = false (bit 2)
+-- wrong: long_length = true => long_length = false (bit 2)
 pub fragment_of : fragment_of_lem 0xC2 ≡ record { division = last; long_length = true; aggregated = false }
 unfolding division_of
 fragment_of = refl

@@ -95,7 +95,7 @@ fn section_bytes(b: &[u8]) -> &[u8]
 
 // decoder::open, with no media id: turned down, and what was lent stays
 // wrong: Refused 1 => Refused 2 (the areas first)
-// wrong: (now (others .entry)) (now (others .exit)) => (now (others .exit)) (replicate 256 0) (the counts cleared first)
+// wrong: others.old others.new => others.new (replicate 256 0) (the counts cleared first)
 fn no_media_id(
     state: &mut [u8],
     others: &mut [u64; 256],
