@@ -3,7 +3,7 @@ use Rattle.std.specs.Prelude.{◌≡◌, refl, true, false}
 use Rattle.isdb_tlv.specs.Fields.{bytes_of}
 use Rattle.isdb_tlv.specs.Bytes.{be, with_bit_of}
 use Rattle.isdb_tlv.specs.Crc.{feed, feed_byte, crc_of}
-use Rattle.isdb_tlv.specs.Mmtp.{fec_code_of, fec_type_of, payload_code_of, payload_type_of, bits_of, entry, entries, scramble_info_of_lem, scramble_control_of_lem, extension_at, after_fixed, mmtp_of}
+use Rattle.isdb_tlv.specs.Mmtp.{fec_code_of, fec_type_of, payload_code_of, payload_type_of, bits_of, entry, entries, scramble_info_of, scramble_control_of, extension_at, after_fixed, mmtp_of}
 use Rattle.isdb_tlv.specs.Messages.{word_of, has, insert, set_of, section_message, message_of, message_in, prefixed_at, message_at, message_step, messages_from, messages_of, counted}
 use Rattle.isdb_tlv.specs.Si.{is_tlv_si, section_at, sections_from, next_section_of}
 use Rattle.isdb_tlv.specs.declared.mmtp.FecType.TheVariants.{NotProtected, Repair, Reserved as reserved_fec}
@@ -43,19 +43,19 @@ payload_code = refl
 
 -- Scramble::info: an entry without its byte
 -- wrong: true => false (as without an entry)
-pub scramble_info_of : scramble_info_of_lem NoByte ≡ true
-scramble_info_of = refl
+pub scramble_info_of_lem : scramble_info_of NoByte ≡ true
+scramble_info_of_lem = refl
 
 -- Scramble::info: bits of 1 do not mean scrambled
 -- wrong: false => true (any bit)
-pub scramble_bits : scramble_info_of_lem (Bits 1) ≡ false
+pub scramble_bits : scramble_info_of (Bits 1) ≡ false
 scramble_bits = refl
 
 -- Scramble::control
 -- wrong: no_control => some_control 0 (the byte that is not there read as 0)
 -- wrong: no_control => some_control 3 (scrambled, so bits of 3)
-pub scramble_control_of : scramble_control_of_lem NoByte ≡ no_control
-scramble_control_of = refl
+pub scramble_control_of_lem : scramble_control_of NoByte ≡ no_control
+scramble_control_of_lem = refl
 
 -- mmtp::parse: a packet counter, and an extension with two entries of type 1, bits 2 and 0: the first decides
 -- wrong: some_control 2 => some_control 0 (the second)

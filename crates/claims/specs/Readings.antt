@@ -156,7 +156,7 @@ latest_tot = refl
 -- decoder::kept::asset_of: an MPT without the packet id is passed over
 -- wrong: control_id = 0x8001 => control_id = 0x8000 (the MPT of the least control id)
 -- wrong: service_id = some_u16 0x0065 => service_id = no_u16 (no service)
-pub asset_of : told (asset_in mpts 0xF100)
+pub asset_of_lem : told (asset_in mpts 0xF100)
     ≡ asset (the_asset (record {
       control_id = 0x8001;
       mpt = part_at 64 29;
@@ -174,4 +174,4 @@ pub asset_of : told (asset_in mpts 0xF100)
           };
     }))
 unfolding told
-asset_of = refl
+asset_of_lem = refl

@@ -15,7 +15,7 @@ use Rattle.isdb_mmt.specs.Formats.Bit.{bit_body, bit_of, broadcaster_step}
 use Rattle.isdb_mmt.specs.Formats.Nit.{nit_body, nit_of, stream_step, tlv_step_at, frequency_of, whole_body, network_name_of, service_list_of}
 use Rattle.isdb_mmt.specs.Formats.Amt.{service_at, services_whole, amt_body, amt_of}
 use Rattle.isdb_mmt.specs.Formats.Tot.{tot_fields, tot_of}
-use Rattle.isdb_mmt.specs.Formats.Mpt.{declared_length_of, asset_fields, asset_at_of, mpt_assets, mpt_table, mpt_of, service_id_of_lem, first_packet_id, locations_of, component_tag_of_lem}
+use Rattle.isdb_mmt.specs.Formats.Mpt.{declared_length_of, asset_fields, asset_at_of, mpt_assets, mpt_table, mpt_of, service_id_of, first_packet_id, locations_of, component_tag_of}
 use Rattle.isdb_mmt.specs.Formats.Plt.{package_at_of, delivery_size, delivery_at_of, deliveries_whole, plt_deliveries, plt_table, plt_of}
 use Rattle.isdb_mmt.specs.declared.maybe.MaybeU16.TheVariants.{Some as some_u16}
 use Rattle.isdb_mmt.specs.declared.maybe.MaybeU64.TheVariants.{Some as some_u64}
@@ -292,9 +292,9 @@ mpt_parse = refl
 -- Mpt::service_id: the last two bytes of the package id
 -- wrong: some_u16 0x0065 => some_u16 0x7A00 (the first two)
 -- wrong: some_u16 0x0065 => some_u16 0x6500 (backwards)
-pub service_id_of : service_id_of_lem (bytes_of 4 0x7A7A0065) (part_at 1 3) ≡ some_u16 0x0065
-unfolding bytes_of be service_id_of_lem
-service_id_of = refl
+pub service_id_of_lem : service_id_of (bytes_of 4 0x7A7A0065) (part_at 1 3) ≡ some_u16 0x0065
+unfolding bytes_of be service_id_of
+service_id_of_lem = refl
 
 -- Asset::packet_id: of the first location that has one
 -- wrong: some_u16 0xF101 => no_u16 (of the first location)
@@ -306,9 +306,9 @@ asset_packet_id = refl
 -- mpt::component_tag: of the first descriptor that could be decoded
 -- wrong: some_u16 16 => no_u16 (the first of the tag could not)
 -- wrong: some_u16 16 => some_u16 0 (the missing byte read as 0)
-pub component_tag_of : component_tag_of_lem (bytes_of 9 0x801101008011020010) ≡ some_u16 16
-unfolding bytes_of be length_width_of step_at split_from stream_identifier descriptor_of first_of component_tag_of_lem
-component_tag_of = refl
+pub component_tag_of_lem : component_tag_of (bytes_of 9 0x801101008011020010) ≡ some_u16 16
+unfolding bytes_of be length_width_of step_at split_from stream_identifier descriptor_of first_of component_tag_of
+component_tag_of_lem = refl
 
 -- plt::package_at
 -- wrong: location_start = 8 => location_start = 5 (with the id)

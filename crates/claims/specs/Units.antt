@@ -5,7 +5,7 @@ use Rattle.isdb_tlv.specs.Bytes.{be}
 use Rattle.isdb_mmt.specs.Formats.Part.{part_at}
 use Rattle.isdb_mmt.specs.Formats.Maybe.{flag_of, given_u16, number_u16, has_u32, given_u32, number_u32}
 use Rattle.isdb_mmt.specs.Formats.Mpu.{fragment_code_of, fragment_type_of, indicator_code_of, indicator, completes_of, payload_header, declared_of, has_header, header_or, unit_in, unit_at, unit_step, units_from, units_of, counted, follows, lost_from}
-use Rattle.isdb_mmt.specs.Formats.Message.{division_of, fragment_of_lem, aggregated_at, pa_tables, content_of_lem, table_at}
+use Rattle.isdb_mmt.specs.Formats.Message.{division_of, fragment_of, aggregated_at, pa_tables, content_of, table_at}
 use Rattle.isdb_mmt.specs.Pushes.Records.{held_fields}
 use Rattle.isdb_mmt.specs.declared.maybe.MaybeU16.TheVariants.{Some as some_u16}
 use Rattle.isdb_mmt.specs.declared.maybe.MaybeU32.TheVariants.{Some as some_u32}
@@ -179,9 +179,9 @@ lost = refl
 -- message::fragment_of
 -- wrong: last => middle (one before)
 -- wrong: long_length = true => long_length = false (bit 2)
-pub fragment_of : fragment_of_lem 0xC2 ≡ record { division = last; long_length = true; aggregated = false }
+pub fragment_of_lem : fragment_of 0xC2 ≡ record { division = last; long_length = true; aggregated = false }
 unfolding division_of
-fragment_of = refl
+fragment_of_lem = refl
 
 -- message::next_message: a message of one byte behind a length of two
 -- wrong: part_at 2 1 => part_at 0 3 (with its length)
@@ -199,9 +199,9 @@ next_message_tail = refl
 -- message::content_of: the tables of a PA message stand behind 1 + 4n bytes
 -- wrong: 5 => 4 (without n itself)
 -- wrong: part_at 7 9 => part_at 7 255 (as its length says)
-pub content_of : content_of_lem (bytes_of 16 0x000000000000FF012000000020000000) ≡ Tables (part_at 7 9) 5
-unfolding bytes_of be pa_tables content_of_lem
-content_of = refl
+pub content_of_lem : content_of (bytes_of 16 0x000000000000FF012000000020000000) ≡ Tables (part_at 7 9) 5
+unfolding bytes_of be pa_tables content_of
+content_of_lem = refl
 
 -- message::next_table: one that runs past the body's end
 -- wrong: bad_table => no_table_of (the end)

@@ -1,6 +1,6 @@
 -- Tables as a host sees them: the numbers of each answer, in their order.
 use Rattle.std.specs.Prelude.{ℕ, List, [], ◌∷◌}
-use Rattle.isdb_mmt.specs.Formats.Mpt.{service_id_of_lem, first_packet_id, locations_of}
+use Rattle.isdb_mmt.specs.Formats.Mpt.{service_id_of, first_packet_id, locations_of}
 use Rattle.isdb_mmt.specs.declared.part.Part.{Part}
 use Rattle.isdb_mmt.specs.declared.table.mpt.Mpt.{Mpt}
 use Rattle.isdb_mmt.specs.declared.table.mpt.MaybeMpt.{MaybeMpt}
@@ -55,7 +55,7 @@ placed p xs = p.start ∷ p.length ∷ xs
 abbrev pub mpt_numbers : List ℕ → Mpt → ℕ → List ℕ
 mpt_numbers s m breaks =
     m.table_id ∷ m.version ∷ m.mode ∷ placed m.package_id (placed m.descriptors
-    (m.assets ∷ m.start ∷ given_u16 (service_id_of_lem s m.package_id) ∷ number_u16 (service_id_of_lem s m.package_id) ∷ breaks ∷ []))
+    (m.assets ∷ m.start ∷ given_u16 (service_id_of s m.package_id) ∷ number_u16 (service_id_of s m.package_id) ∷ breaks ∷ []))
 
 abbrev pub mpt_in : List ℕ → MaybeMpt → ℕ → Reply
 mpt_in s no_mpt breaks = malformed

@@ -7,7 +7,7 @@ use Rattle.isdb_mmt.specs.Decoder.Packet.{Bytes, Packet, classify, ip_error, ntp
 use Rattle.isdb_mmt.specs.Decoder.Reassembly.{PartialMessage}
 use Rattle.isdb_mmt.specs.Decoder.Objects.{Mfu, Asset, Rec, asset_after}
 use Rattle.isdb_mmt.specs.Decoder.Kept.{Kept}
-use Rattle.isdb_mmt.specs.Decoder.Model.{State, asset_of_lem, control_of, pushed, gives}
+use Rattle.isdb_mmt.specs.Decoder.Model.{State, asset_of, control_of, pushed, gives}
 use Rattle.isdb_mmt.specs.Decoder.Needs.{partial_length, needs}
 use Rattle.isdb_mmt.specs.Books.Demand.{push_all, give_all}
 use Rattle.isdb_mmt.specs.Memory.Layout.{most_count}
@@ -17,7 +17,7 @@ use Rattle.isdb_mmt.specs.Memory.Check.{media_in, controls_in, sections_in, leng
 use Rattle.isdb_mmt.specs.Memory.View.{asset_entry, control_entry, section_entry, view_by, view}
 use Rattle.isdb_mmt.specs.Memory.Opening.{opened_session}
 use Rattle.isdb_mmt.specs.Memory.Octets.{Octets, Lent}
-use Rattle.isdb_mmt.specs.Memory.PlacesOf.{place_for_of_lem, table_length, control_for, latest_for}
+use Rattle.isdb_mmt.specs.Memory.PlacesOf.{place_for_asset, table_length, control_for, latest_for}
 use Rattle.isdb_mmt.specs.Pushes.MediaPush.{held_over, one_more_of, media_place_for, leaves_at, asset_next, media_leaves}
 use Rattle.isdb_mmt.specs.Pushes.Leaves.{joined_in, kept_place, used_for, with_control, section_rows, with_time, with_counters, state_of_tables, bytes_over, kept_over, control_leaves, message_in, control_place_for, message_at, message_leaves, packet_leaves}
 use Rattle.isdb_mmt.specs.Pushes.Push.{Input, packet_of, asks, Fits, Taken, leaves_all, handed, handed_all, AllTaken, AllBytes, packets_of, Demand2}
@@ -162,7 +162,7 @@ module _ (s : Session) (q : Sound s.state s.others (lengths_of s)) (h : Lent s) 
   place_for_lent : (id : ℕ) (a : Asset) → HeldOk a.held → (x : PlaceFor) → Lent (leaves_at s id a x)
   place_for_lent id a k (Own i) =
       record {
-        state = octets_over _ _ _ (octets_written packets) (octets_over _ _ _ (octets_written (media_fields (place_for_of_lem id a))) h.state);
+        state = octets_over _ _ _ (octets_written packets) (octets_over _ _ _ (octets_written (media_fields (place_for_asset id a))) h.state);
         objects = held_lent (i * l.mfu_area) a.held k s.objects h.objects;
         messages = h.messages;
         tables = h.tables;
@@ -171,7 +171,7 @@ module _ (s : Session) (q : Sound s.state s.others (lengths_of s)) (h : Lent s) 
       record {
         state =
             octets_over _ _ _ (octets_written packets)
-            (octets_over _ _ _ (octets_written (used_fields (one_more_of (used_of s.state)))) (octets_over _ _ _ (octets_written (media_fields (place_for_of_lem id a))) h.state));
+            (octets_over _ _ _ (octets_written (used_fields (one_more_of (used_of s.state)))) (octets_over _ _ _ (octets_written (media_fields (place_for_asset id a))) h.state));
         objects = held_lent (i * l.mfu_area) a.held k s.objects h.objects;
         messages = h.messages;
         tables = h.tables;
@@ -216,7 +216,7 @@ module _ (s : Session) (q : Sound s.state s.others (lengths_of s)) (h : Lent s) 
       let y : PacketOk (media m) = rw e at (packet_ok kind b (omega (arith, short)) o) in
       let z : Plain (media m) = rw e at (plain_of kind b (omega (arith, short)) o) in
       let a = asset_next_lem l most_count (view s) (storable_view s q h) m y z (rw e at f.object) in
-      place_for_lent m.id (asset_after (asset_of_lem m.id (view s)) m) a.1.held (media_place_for s.state m.id)
+      place_for_lent m.id (asset_after (asset_of m.id (view s)) m) a.1.held (media_place_for s.state m.id)
   by_packet (message c) e k =
       let y : PacketOk (message c) = rw e at (packet_ok kind b (omega (arith, short)) o) in
       message_lent (pushed (view s) (message c)) k c.id y.0 (control_place_for s.state c.id)

@@ -9,7 +9,7 @@ use Rattle.isdb_tlv.proofs.Guards.{cond_elim}
 use Rattle.isdb_mmt.specs.Formats.Part.{part_at, part_of}
 use Rattle.isdb_mmt.specs.Decoder.Packet.{Bytes}
 use Rattle.isdb_mmt.specs.Formats.Mpu.{unit_step, item, units_from, units_of}
-use Rattle.isdb_mmt.specs.Formats.Message.{prefix_width, aggregated_at, body_part, pa_tables, section_table, content_of_lem, table_at, Aggregated, aggregated_item, aggregated_from, table_item, tables_from, also_message}
+use Rattle.isdb_mmt.specs.Formats.Message.{prefix_width, aggregated_at, body_part, pa_tables, section_table, content_of, table_at, Aggregated, aggregated_item, aggregated_from, table_item, tables_from, also_message}
 use Rattle.isdb_mmt.specs.Formats.Section.{length12, long_section_of, in_section, entries_from, entries_told}
 use Rattle.isdb_mmt.specs.Formats.Eit.{eit_of, eit_body}
 use Rattle.isdb_mmt.specs.Formats.Sdt.{sdt_of, sdt_body}
@@ -184,8 +184,8 @@ Lies m Nothing = Unit {0}
 Lies m (one_table_of p) = 1 ≤ length m
 Lies m (Tables p at) = Unit {0}
 
-content_lies : (m : Bytes) → Lies m (content_of_lem m)
-unfolding content_of_lem pa_tables section_table
+content_lies : (m : Bytes) → Lies m (content_of m)
+unfolding content_of pa_tables section_table
 content_lies m =
     cond_elim (Lies m) (ltb (length m) 2) (λ e. tt) (λ e.
     let a = ltb-false (length m) 2 e in
@@ -213,7 +213,7 @@ fills_in m (Tables p at) l =
 
 fills_one : (m : Bytes) → Fills (length m) (suc (length m)) (tables_of m)
 unfolding tables_of
-fills_one m = fills_in m (content_of_lem m) (content_lies m)
+fills_one m = fills_in m (content_of m) (content_lies m)
 
 fills_all : (ms : List Bytes) → Fills (total ms) (total ms + length ms) (tables_of_all ms)
 unfolding tables_of_all

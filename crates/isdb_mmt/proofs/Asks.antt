@@ -3,7 +3,7 @@ use Rattle.std.proofs.Common.{◌≡◌, ℕ, ◌+◌, ◌-◌, ◌*◌, ◌<◌
 use Rattle.isdb_mmt.specs.Decoder.Packet.{MpuPacket, media, readable}
 use Rattle.isdb_mmt.specs.Decoder.Maps.{put}
 use Rattle.isdb_mmt.specs.Decoder.Objects.{Asset, Rec, passes, tagged, after_headers, delivered_by, media_gives, asset_after}
-use Rattle.isdb_mmt.specs.Decoder.Model.{asset_of_lem, pushed, gives}
+use Rattle.isdb_mmt.specs.Decoder.Model.{asset_of, pushed, gives}
 use Rattle.isdb_mmt.specs.Decoder.Needs.{data_of, needs}
 use Rattle.isdb_mmt.specs.Memory.Lent.{found_from, names_from}
 use Rattle.isdb_mmt.specs.Memory.Layout.{media_places, media_size}
@@ -26,7 +26,7 @@ data_append (x ∷ xs) ys = rw (data_append xs ys) (omega arith)
 -- ---- records, data and the longest object
 
 module _ (s : Session) (m : MpuPacket) (start t : MediaEffect) (z1 : start.records ≡ 0) (z2 : start.bytes ≡ 0) (z3 : start.longest ≡ 0)
-    (w : Told m start (after_headers (asset_of_lem m.id (view s)) m) t (readable m)) where
+    (w : Told m start (after_headers (asset_of m.id (view s)) m) t (readable m)) where
   abbrev passed_on : List Rec
   passed_on = passes (view s).passing m
 
@@ -37,26 +37,26 @@ module _ (s : Session) (m : MpuPacket) (start t : MediaEffect) (z1 : start.recor
   pub records_is : (needs (view s) (media m)).records ≡ length passed_on + t.records
   unfolding needs gives media_gives
   records_is =
-      let ds = delivered_by m (after_headers (asset_of_lem m.id (view s)) m) (readable m) in
+      let ds = delivered_by m (after_headers (asset_of m.id (view s)) m) (readable m) in
       omega (arith, length-append passed_on (tagged m.id ds), length_tagged m.id ds, w.records, z1)
 
   pub bytes_is : (needs (view s) (media m)).data_bytes ≡ data_of passed_on + t.bytes
   unfolding needs gives media_gives
   bytes_is =
-      let ds = delivered_by m (after_headers (asset_of_lem m.id (view s)) m) (readable m) in
+      let ds = delivered_by m (after_headers (asset_of m.id (view s)) m) (readable m) in
       omega (arith, data_append passed_on (tagged m.id ds), bytes_tagged m.id ds, w.bytes, z2)
 
 -- ---- places
 
 module _ (s : Session) (ok : Sound s.state s.others (lengths_of s)) (m : MpuPacket) where
   abbrev next : Asset
-  next = asset_after (asset_of_lem m.id (view s)) m
+  next = asset_after (asset_of m.id (view s)) m
 
   abbrev names : List ℕ
   names = names_from (used_of s.state).media_ids media_size media_places s.state
 
   -- full exactly where the question is answered no
-  pub full_is : media_place_for s.state m.id ≡ NoneFree → (limits_of s.state).media_ids < (used_of s.state).media_ids + (needs (view s) (media m)).media_ids_of
+  pub full_is : media_place_for s.state m.id ≡ NoneFree → (limits_of s.state).media_ids < (used_of s.state).media_ids + (needs (view s) (media m)).media_ids
   unfolding media_place_for needs pushed view view_by
   full_is e =
       let w = place_for_was_full names (limits_of s.state).media_ids m.id e in
@@ -65,7 +65,7 @@ module _ (s : Session) (ok : Sound s.state s.others (lengths_of s)) (m : MpuPack
       omega (arith, k, w.1, length_names media_size (used_of s.state).media_ids media_places s.state)
 
   pub old_is : (i : ℕ) → media_place_for s.state m.id ≡ Own i
-      → (used_of s.state).media_ids + (needs (view s) (media m)).media_ids_of ≤ (limits_of s.state).media_ids
+      → (used_of s.state).media_ids + (needs (view s) (media m)).media_ids ≤ (limits_of s.state).media_ids
   unfolding media_place_for needs pushed view view_by
   old_is i e =
       let d = place_for_was_old names (limits_of s.state).media_ids m.id i e in
@@ -74,7 +74,7 @@ module _ (s : Session) (ok : Sound s.state s.others (lengths_of s)) (m : MpuPack
       omega (arith, k, ok.media)
 
   pub new_is : (i : ℕ) → media_place_for s.state m.id ≡ Free i
-      → (used_of s.state).media_ids + (needs (view s) (media m)).media_ids_of ≤ (limits_of s.state).media_ids
+      → (used_of s.state).media_ids + (needs (view s) (media m)).media_ids ≤ (limits_of s.state).media_ids
   unfolding media_place_for needs pushed view view_by
   new_is i e =
       let w = place_for_was_new names (limits_of s.state).media_ids m.id i e in
@@ -89,11 +89,11 @@ module _ (s : Session) (ok : Sound s.state s.others (lengths_of s)) (m : MpuPack
   number_full rows bytes e =
       ap (λ b. cond b 8 (cond (ltb (limits_of s.state).mfu_area (needs (view s) (media m)).object) 9
       (cond (ltb rows (row_size * (needs (view s) (media m)).records)) 10 (cond (ltb bytes (needs (view s) (media m)).data_bytes) 10 0))))
-      (lt-ltb (limits_of s.state).media_ids ((used_of s.state).media_ids + (needs (view s) (media m)).media_ids_of) (full_is e))
+      (lt-ltb (limits_of s.state).media_ids ((used_of s.state).media_ids + (needs (view s) (media m)).media_ids) (full_is e))
 
   pub number_is : (rows bytes : ℕ) (start t : MediaEffect) → start.records ≡ 0 → start.bytes ≡ 0 → start.longest ≡ 0
-      → Told m start (after_headers (asset_of_lem m.id (view s)) m) t (readable m)
-      → (used_of s.state).media_ids + (needs (view s) (media m)).media_ids_of ≤ (limits_of s.state).media_ids
+      → Told m start (after_headers (asset_of m.id (view s)) m) t (readable m)
+      → (used_of s.state).media_ids + (needs (view s) (media m)).media_ids ≤ (limits_of s.state).media_ids
       → media_asks s rows bytes m
       ≡ cond (ltb (limits_of s.state).mfu_area t.longest) 9
       (cond (ltb rows (row_size * (length (passes (view s).passing m) + t.records))) 10
@@ -102,7 +102,7 @@ module _ (s : Session) (ok : Sound s.state s.others (lengths_of s)) (m : MpuPack
   number_is rows bytes start t z1 z2 z3 w free =
       ap (λ b. cond b 8 (cond (ltb (limits_of s.state).mfu_area (needs (view s) (media m)).object) 9
       (cond (ltb rows (row_size * (needs (view s) (media m)).records)) 10 (cond (ltb bytes (needs (view s) (media m)).data_bytes) 10 0))))
-      (le-ltb (limits_of s.state).media_ids ((used_of s.state).media_ids + (needs (view s) (media m)).media_ids_of) free)
+      (le-ltb (limits_of s.state).media_ids ((used_of s.state).media_ids + (needs (view s) (media m)).media_ids) free)
       ∙ ap (λ n. cond (ltb (limits_of s.state).mfu_area n) 9
       (cond (ltb rows (row_size * (needs (view s) (media m)).records)) 10 (cond (ltb bytes (needs (view s) (media m)).data_bytes) 10 0)))
       (object_is s m start t z1 z2 z3 w)

@@ -11,7 +11,7 @@ use Rattle.isdb_mmt.specs.Memory.Lent.{names_from}
 use Rattle.isdb_mmt.specs.Memory.Session.{Session, used_of}
 use Rattle.isdb_mmt.specs.Memory.Check.{sound}
 use Rattle.isdb_mmt.specs.Memory.Opening.{lent}
-use Rattle.isdb_mmt.specs.Formats.Mpt.{mpt_of, service_id_of_lem, locations_of, first_packet_id, asset_at_of, assets_from}
+use Rattle.isdb_mmt.specs.Formats.Mpt.{mpt_of, service_id_of, locations_of, first_packet_id, asset_at_of, assets_from}
 use Rattle.isdb_mmt.specs.Answers.Readings.{carried, least_from, most_name, ascending_from, ascending, control_names, control_found, mpt_part, is_this, first_carried, asset_in, asset_if, asset_among, asset_read}
 use Rattle.isdb_mmt.specs.Answers.KeptParts.{part_given, asset_given, state_only, state_and_tables, AllInUse}
 use Rattle.isdb_mmt.specs.declared.part.Part.{Part}
@@ -89,7 +89,7 @@ module _ (b : Bytes) (id : ℕ) (m : Part) (p : ℕ) (x : MptParsed) (ex : x ≡
     pub in_none : f ≡ not_one → no_asset ≡ asset_in p id m b (mpt_of b).mpt no_asset
     in_none d = rw (← ex, e, ← ef, d) refl
 
-    pub in_one : (a : Asset) → f ≡ one_asset a → (v : MaybeU16) → v ≡ service_id_of_lem b t.package_id
+    pub in_one : (a : Asset) → f ≡ one_asset a → (v : MaybeU16) → v ≡ service_id_of b t.package_id
         → the_asset (record { control_id = id; mpt = m; service_id = v; asset = a }) ≡ asset_in p id m b (mpt_of b).mpt no_asset
     in_one a d v ev = rw (← ex, e, ← ef, d, ev) refl
 
@@ -127,7 +127,7 @@ module _ (p id : ℕ) (m : Part) (b : Bytes) (rest : AssetReading) where
 
   of_mpt : (t : MaybeMpt) → asset_in p id m b t rest ≡ or_next (asset_in p id m b t no_asset) rest
   of_mpt no_mpt = refl
-  of_mpt (some_mpt t) = of_asset (service_id_of_lem b t.package_id) (first_carried p b (assets_from t.assets b t.start).found)
+  of_mpt (some_mpt t) = of_asset (service_id_of b t.package_id) (first_carried p b (assets_from t.assets b t.start).found)
 
 in_sequence_lem : (p id : ℕ) (tables : Bytes) (o : Option Part) (rest : AssetReading) → asset_if p tables id o rest ≡ or_next (asset_if p tables id o no_asset) rest
 in_sequence_lem p id tables none rest = refl

@@ -6,7 +6,7 @@ use Rattle.isdb_mmt.proofs.Run.{at, run_written}
 use Rattle.isdb_mmt.specs.Decoder.Packet.{Bytes, PayloadUnit, Packet, ip_error, ntp, non_mmtp_of, media, message, control, other, readable}
 use Rattle.isdb_mmt.specs.Decoder.Maps.{find, or_else}
 use Rattle.isdb_mmt.specs.Decoder.Objects.{fresh}
-use Rattle.isdb_mmt.specs.Decoder.Model.{opened, asset_of_lem}
+use Rattle.isdb_mmt.specs.Decoder.Model.{opened, asset_of}
 use Rattle.isdb_mmt.specs.Books.Book.{LogEntry, packet_number, unit_received, units_received, log_entries, reception_log, Book, nothing, drop_counted, in_order_of, missing, continued_by, entered, entered_all, book, follower, limit, is_held, begins, begun_in, begun_by, begun, delivered_of, Unbroken, joined, whole, divided, MadeOf, done, skip, object}
 use Rattle.isdb_mmt.specs.Books.Demand.{push_all, give_all, held_bytes, held_of, dropped_of, lost_of, AllSmall, EverySmall, Bounded, OfId}
 use Rattle.isdb_mmt.specs.declared.mpu.FragmentationIndicator.TheVariants.{Complete, Head, Middle, Last}
@@ -273,9 +273,9 @@ small_log i (other ∷ ps) h = small_log i ps h.1
 
 pub ids : (pass : Bool) (ps : List Packet) → EverySmall ps → (i : ℕ)
     → OfId (dropped_of i (push_all (opened pass) ps)) (lost_of i (push_all (opened pass) ps)) (held_of i (push_all (opened pass) ps)) (delivered_of i (give_all (opened pass) ps)) ps i
-unfolding book nothing opened asset_of_lem find or_else fresh total is_held held_bytes
+unfolding book nothing opened asset_of find or_else fresh total is_held held_bytes
 ids pass ps small i =
-    let e : book i ps ≡ at (lost_of i (push_all (opened pass) ps)) (asset_of_lem i (push_all (opened pass) ps)).number (held_of i (push_all (opened pass) ps)) (dropped_of i (push_all (opened pass) ps))
+    let e : book i ps ≡ at (lost_of i (push_all (opened pass) ps)) (asset_of i (push_all (opened pass) ps)).number (held_of i (push_all (opened pass) ps)) (dropped_of i (push_all (opened pass) ps))
     (delivered_of i (give_all (opened pass) ps))
     = run_written i (opened pass) [] ps in
     record {

@@ -262,7 +262,7 @@ module _ (s r : List ℕ) where
   whole_asset_lem a w c i =
       record {
         asset = a;
-        asset_id_of = part_same s r a.asset_id w.0 i;
+        asset_id = part_same s r a.asset_id w.0 i;
         locations =
             found_is (location_seen all) (counts_same (location_seen s) (location_seen all) seen_same c) i;
         descriptors = loop_in (part_same s r a.descriptors w.1 i);
@@ -287,7 +287,7 @@ module _ (s r : List ℕ) where
       ∙ (λ i.
       element
       (record {
-        package_id_of = part_same s r (part_at (at + 1) n) h i;
+        package_id = part_same s r (part_at (at + 1) n) h i;
         location = (ap (λ (b : List ℕ). whole_location b l) (drop-append-le q s r h) ∙ whole_same (drop q s) r l w) i;
       })
       (q + k))
@@ -344,7 +344,7 @@ module _ (s r : List ℕ) where
   whole_mpt_lem t c w i =
       record {
         mpt = t;
-        package_id_of = part_same s r t.package_id w.0 i;
+        package_id = part_same s r t.package_id w.0 i;
         descriptors = loop_in (part_same s r t.descriptors w.1 i);
         assets = found_is (asset_seen all) (mpt_counts t c) i;
       }

@@ -26,7 +26,7 @@ use Rattle.isdb_mmt.specs.Decoder.Needs.{needs}
 use Rattle.isdb_mmt.specs.Pushes.Push.{Input, packet_of, most_bytes, has_places, has_areas, has_outputs, asks_of, asks_later, asks, leaves_of, reply_of, handed as handed_by}
 use Rattle.isdb_mmt.specs.Answers.Readings.{media_found, control_found, counters_read, time_read, time_at, count_read, media_names, control_names, keys_in, least_from, most_name, name_told, next_media_read, next_control_read, next_key_read, media_if, media_read, held_at, held_if, held_read, control_if, control_read, section_read, mpt_read, plt_read, tot_read, asset_read, time_number, name_number, media_number, held_number, control_number, table_number, asset_number, TableTold, refused, nothing, these, told_by}
 use Rattle.isdb_mmt.specs.Answers.TableReadingLaws.{section_bytes, mpt_bytes, hands_out, AsKept}
-use Rattle.isdb_mmt.specs.Theorems.Calls.{kept_in, dropped_in, lost_in, held_in, Reading, counters, time, count, next_media_of, next_control_of, next_key_of, media_of, held, control_of, mpt, plt, tot, section, asset_of_lem, reading_number, Call, push, read, after, pushes, accepted, handed, AllBytes, decoder, PushDetermined, Tells, none_kept, kept, After, Demand3, AllAsModel, AnswersAsModel}
+use Rattle.isdb_mmt.specs.Theorems.Calls.{kept_in, dropped_in, lost_in, held_in, Reading, counters, time, count, next_media_of, next_control_of, next_key_of, media_of, held, control_of, mpt, plt, tot, section, asset_of, reading_number, Call, push, read, after, pushes, accepted, handed, AllBytes, decoder, PushDetermined, Tells, none_kept, kept, After, Demand3, AllAsModel, AnswersAsModel}
 use Rattle.isdb_mmt.specs.declared.maybe.MaybeU32.{MaybeU32}
 use Rattle.isdb_mmt.specs.declared.maybe.MaybeU32.TheVariants.{None as no_u32, Some as some_u32}
 use Rattle.isdb_mmt.specs.declared.decoder.place.Found.{Found}
@@ -260,7 +260,7 @@ module _ (s : Session) (e : sound s ≡ true) (h : Lent s) (n : ℕ) (z : Ready 
   reading_zero plt = hands_zero s.tables (plt_read s) (view s).store.plt as_view.plt
   reading_zero tot = hands_zero s.tables (tot_read s) (view s).store.tot as_view.tot
   reading_zero (section k) = hands_zero s.tables (section_read s k) (section_bytes (find k (view s).store.kept)) (as_view.section k)
-  reading_zero (asset_of_lem p) = asset_zero (asset_read s p) (as_view.asset p)
+  reading_zero (asset_of p) = asset_zero (asset_read s p) (as_view.asset p)
 
 -- ---- demand 3
 
@@ -332,7 +332,7 @@ push_determined s x r records n s' rows out p =
     let z : r ≡ 0 = p.number ∙ eqb-true (asks s x) 0 t in
     record {
       leaves = rw t (p.session z);
-      replies = rw t (λ i. record { number = z i; records = (p.counts z).0 i; bytes = (p.counts z).1 i; rows = p.rows_are_of z i; out = p.data_are z i });
+      replies = rw t (λ i. record { number = z i; records = (p.counts z).0 i; bytes = (p.counts z).1 i; rows = p.rows_are z i; out = p.data_are z i });
     })
     (λ f.
     let z : r ≡ 0 → ⊥ = λ q. eqb-false (asks s x) 0 f (sym p.number ∙ q) in

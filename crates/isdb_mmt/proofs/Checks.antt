@@ -4,7 +4,7 @@ use Rattle.std.proofs.Common.{◌≡◌, ℕ, zero, suc, ◌+◌, ◌-◌, ◌*�
 use native.Mathlib.Nat.{sub-zero}
 use lib.Bits.{bit_or, or_add_and, and_le_l, and_le_r}
 use Rattle.isdb_mmt.specs.Memory.Lent.{part, flag, places_from, names_from, distinct, every}
-use Rattle.isdb_mmt.specs.Memory.Session.{Session, limits_of, used_of, latest_of, counters_of, media_place_of, held_object_of_lem, stats_of, control_place_of, section_place_of}
+use Rattle.isdb_mmt.specs.Memory.Session.{Session, limits_of, used_of, latest_of, counters_of, media_place_of, held_object_at, stats_of, control_place_of, section_place_of}
 use Rattle.isdb_mmt.specs.Memory.Layout.{most_media_ids, most_control_ids, most_sections, most_count, used_place, latest_place, counters_place, held_place, object_place, stats_place, media_size, media_places, control_size, control_places, section_size, section_places, state_size}
 use Rattle.isdb_mmt.specs.Memory.Check.{count_fits_of, counts_from, length_fits, stats_counts, packet_counts, table_counts, lengths_of, sound, sound_in, Sound, media_sound, control_sound, section_sound, used_sound, latest_sound, counters_sound, media_in, controls_in, sections_in, head_sound, places_sound, names_sound, PlacesThere}
 use Rattle.isdb_mmt.specs.Memory.Limits.{asked}
@@ -84,11 +84,11 @@ high_end p n i at sum y inv h e = sym (stored_end count_fits_of n i at p y (inv 
 module _ (l : Limits) (p : List ℕ) (h r : Bool) (n : ℕ) (eh : h ≡ flag p held_place) (en : n ≡ be 4 p (object_place + 25))
     (er : r ≡ length_fits h n l.mfu_area) where
   pub media_fits : r ≡ true → (q : Bool) → q ≡ every count_fits_of (counts_from 9 stats_place p) → q ≡ media_sound l (media_place_of p)
-  unfolding media_sound media_place_of held_object_of_lem stats_of counts_from
+  unfolding media_sound media_place_of held_object_at stats_of counts_from
   media_fits t q eq = rw (← eh, ← en) (both er t eq)
 
   pub media_fails : r ≡ false → false ≡ media_sound l (media_place_of p)
-  unfolding media_sound media_place_of held_object_of_lem
+  unfolding media_sound media_place_of held_object_at
   media_fails t = rw (← eh, ← en) (not_both _ er t)
 
 -- one turn of a walk over places, each lent with its bounds

@@ -14,7 +14,7 @@ use Rattle.isdb_mmt.specs.Pushes.Start.{malformed_more}
 use Rattle.isdb_mmt.specs.Decoder.Maps.{put, or_else, is_some, one}
 use Rattle.isdb_mmt.specs.Decoder.Reassembly.{idle, reassembly_after, message_completed, cut_of_all}
 use Rattle.isdb_mmt.specs.Decoder.Model.{State, Control as ControlState, control_of, idle_control, reassembly_of, packet_counted, message_counted, reassembly_counted, pushed, gives}
-use Rattle.isdb_mmt.specs.Memory.View.{given, control_state_of_lem, control_entry, kept_table_at, view_by, view, asset_entry, section_entry}
+use Rattle.isdb_mmt.specs.Memory.View.{given, control_state_in, control_entry, kept_table_at, view_by, view, asset_entry, section_entry}
 use Rattle.isdb_mmt.specs.Decoder.Kept.{with_packet_counts, mpt_after_all}
 use Rattle.isdb_mmt.specs.Decoder.GivenTables.{tables_given}
 use Rattle.isdb_mmt.specs.Memory.PlacesOf.{table_length, control_for, latest_for}
@@ -45,7 +45,7 @@ use Rattle.isdb_mmt.proofs.Quiet.{asks_none, asks_kept}
 -- the place `i` is the id's; `k` is 1 where it is a new one
 pub record Sits (s : Session) (id i k : ℕ) (c : Control) : Type 0 where
   pub is : control_of id (view s)
-      ≡ control_state_of_lem c (part (i * (limits_of s.state).message_area) c.length s.messages)
+      ≡ control_state_in c (part (i * (limits_of s.state).message_area) c.length s.messages)
       (kept_table_at (limits_of s.state) s ((limits_of s.state).sections + i) c.mpt_length)
   pub joins : c.joining ≡ true → i * (limits_of s.state).message_area + c.length ≤ length s.messages
   pub mpt : c.mpt ≡ true → ((limits_of s.state).sections + i) * (limits_of s.state).table_area + c.mpt_length ≤ length s.tables
@@ -54,8 +54,8 @@ pub record Sits (s : Session) (id i k : ℕ) (c : Control) : Type 0 where
   pub more : (a : ControlState) → length (put id a (view s).controls) ≡ length (view s).controls + k
   pub room : (used_of s.state).control_ids + k ≤ (limits_of s.state).control_ids
 
-blank_idle : (m t : Bytes) → control_state_of_lem blank_place m t ≡ idle_control
-unfolding control_state_of_lem idle_control idle
+blank_idle : (m t : Bytes) → control_state_in blank_place m t ≡ idle_control
+unfolding control_state_in idle_control idle
 blank_idle m t = refl
 
 module _ (s : Session) (ok : Sound s.state s.others (lengths_of s)) (id : ℕ) where
@@ -144,7 +144,7 @@ module _ (s : Session) (ok : Sound s.state s.others (lengths_of s)) (x : Message
   pub does : Does (reassembly_of x.id v) x c m f
   does =
       let e = outcome_does c m t (λ j. length_part (i * lim.message_area) c.length s.messages (at.joins j)) x in
-      subst (λ (y : ControlState). Does y.reassembly x c m f) (sym at.is) (subst (Does (control_state_of_lem c m t).reassembly x c m) (sym ef) e)
+      subst (λ (y : ControlState). Does y.reassembly x c m f) (sym at.is) (subst (Does (control_state_in c m t).reassembly x c m) (sym ef) e)
 
   pub own : control_of x.id n
       ≡ record { reassembly = reassembly_after (reassembly_of x.id v) x; mpt = mpt_after_all (control_of x.id v).mpt (tables_given (reassembly_of x.id v) x) }
@@ -164,7 +164,7 @@ module _ (s : Session) (ok : Sound s.state s.others (lengths_of s)) (x : Message
       ∙ ap (λ (y : ControlState). control_with x.id x.number (joined_by f c b) (is_some y.mpt) (table_length y.mpt)) (sym own)
 
   pub mpt_before : (control_of x.id v).mpt ≡ given c.mpt t
-  unfolding control_state_of_lem
+  unfolding control_state_in
   mpt_before = ap (λ (y : ControlState). y.mpt) at.is
 
   -- what is counted of it, where `k` messages or tables that it makes whole are cut short

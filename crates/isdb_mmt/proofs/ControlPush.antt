@@ -196,11 +196,11 @@ module _ (state others objects messages tables : List ℕ) (b : Bytes) (can : Ca
     abbrev asked : Needs
     asked = needs (view s) p
 
-    no_media_lem : u.media_ids + asked.media_ids_of ≤ l.media_ids
+    no_media_lem : u.media_ids + asked.media_ids ≤ l.media_ids
     unfolding needs pushed
     no_media_lem = omega (arith, ok.media)
 
-    no_controls : u.control_ids + asked.control_ids_of ≤ l.control_ids
+    no_controls : u.control_ids + asked.control_ids ≤ l.control_ids
     unfolding needs pushed
     no_controls = omega (arith, ok.controls)
 

@@ -5,7 +5,7 @@ use Rattle.isdb_tlv.specs.Crc.{crc_of}
 use Rattle.isdb_tlv.proofs.Guards.{cond_elim, either}
 use Rattle.isdb_tlv.proofs.Numbers.{be_take}
 use Rattle.isdb_mmt.specs.Decoder.Packet.{Bytes}
-use Rattle.isdb_mmt.specs.Formats.Section.{length12, header_of_lem, long_section_of, in_section}
+use Rattle.isdb_mmt.specs.Formats.Section.{length12, header_of, long_section_of, in_section}
 use Rattle.isdb_mmt.specs.Formats.Eit.{eit_of, eit_body}
 use Rattle.isdb_mmt.specs.Formats.Sdt.{sdt_of, sdt_body}
 use Rattle.isdb_mmt.specs.Formats.Bit.{bit_of, bit_body}
@@ -39,7 +39,7 @@ module _ (b : Bytes) where
   same12 : length12 (take n b) 1 ≡ length12 b 1
   same12 = ap (λ x. x % 4096) (be_take 2 n b 1 (omega arith))
 
-  same_header : 9 ≤ length12 b 1 → header_of_lem (take n b) (length12 b 1 - 9) ≡ header_of_lem b (length12 b 1 - 9)
+  same_header : 9 ≤ length12 b 1 → header_of (take n b) (length12 b 1 - 9) ≡ header_of b (length12 b 1 - 9)
   same_header h =
       rw (
         be_take 2 n b 3 (omega arith),
@@ -81,7 +81,7 @@ module _ (b : Bytes) where
         cond_elim Alike (ltb (length12 b 1) 9) (λ e. refl) (λ t.
         cond_elim Alike (ltb (length b) n) (λ e. refl) (λ e.
         cond_elim Alike (not (eqb (crc_of (take n b)) 0)) (λ e. refl) (λ e.
-        let h = header_of_lem b (length12 b 1 - 9) in
+        let h = header_of b (length12 b 1 - 9) in
         let q = ltb-false (length12 b 1) 9 t in
         ap (read h) (part_take 8 (length12 b 1 - 9) n b (omega arith))))))
 

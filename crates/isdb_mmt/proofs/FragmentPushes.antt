@@ -310,7 +310,7 @@ received_is l id n b t c f et ec ef =
 
 -- what was received of a fragment: the place, what stands there and what becomes of it are those of the packet
 pub record Met (s : Session) (x : MessagePacket) (y : ReceivedFragment) : Type 0 where
-  pub place_for_of_lem : y.place_for ≡ control_place_for s.state x.id
+  pub place_for : y.place_for ≡ control_place_for s.state x.id
   pub place : y.place ≡ place_in s.state y.place_for
   pub outcome : y.outcome ≡ fragment_outcome y.place x.number x.payload
 
@@ -320,7 +320,7 @@ received_met s x y e =
     let a : y.place_for ≡ control_place_for s.state x.id = ap (λ (z : ReceivedFragment). z.place_for) e in
     let p : y.place ≡ place_in s.state (control_place_for s.state x.id) = ap (λ (z : ReceivedFragment). z.place) e in
     record {
-      place_for_of_lem = a;
+      place_for = a;
       place = p ∙ ap (place_in s.state) (sym a);
       outcome =
           ap (λ (z : ReceivedFragment). z.outcome) e ∙ ap (λ (z : Control). fragment_outcome z x.number x.payload) (sym p);
@@ -351,11 +351,11 @@ module _ (s : Session) (x : MessagePacket) (y : ReceivedFragment) (h : CanJoin s
   module _ (i : ℕ) where
     is_old : y.place_for ≡ Own i → Sits s x.id i 0 y.place
     unfolding place_in
-    is_old e = subst (Sits s x.id i 0) (sym (fragment.place ∙ ap (place_in s.state) e)) (sits_old s h.session x.id i (sym fragment.place_for_of_lem ∙ e))
+    is_old e = subst (Sits s x.id i 0) (sym (fragment.place ∙ ap (place_in s.state) e)) (sits_old s h.session x.id i (sym fragment.place_for ∙ e))
 
     is_new : y.place_for ≡ Free i → Sits s x.id i 1 y.place
     unfolding place_in
-    is_new e = subst (Sits s x.id i 1) (sym (fragment.place ∙ ap (place_in s.state) e)) (sits_new s h.session x.id i (sym fragment.place_for_of_lem ∙ e))
+    is_new e = subst (Sits s x.id i 1) (sym (fragment.place ∙ ap (place_in s.state) e)) (sits_new s h.session x.id i (sym fragment.place_for ∙ e))
 
     pub joins_old : y.place_for ≡ Own i → CanJoinAt s.state s.messages i 0 x.payload
     joins_old e = can_join_at i 0 (is_old e)
@@ -366,11 +366,11 @@ module _ (s : Session) (x : MessagePacket) (y : ReceivedFragment) (h : CanJoin s
     module _ (o : Octets s.state) (r : ℕ) (l' m' : List ℕ) where
       pub pushed_old : y.place_for ≡ Own i → JoinedAt s.state s.messages i 0 x.id x.number x.payload y.place y.outcome r l' m'
           → QuietPushed s (message x) r (lent l' s.others s.objects m' s.tables)
-      pushed_old e j = quiet s h.session x i 0 y.place (is_old e) y.outcome fragment.outcome h.divided o r l' m' j (Own i) (sym fragment.place_for_of_lem ∙ e) refl
+      pushed_old e j = quiet s h.session x i 0 y.place (is_old e) y.outcome fragment.outcome h.divided o r l' m' j (Own i) (sym fragment.place_for ∙ e) refl
 
       pub pushed_new : y.place_for ≡ Free i → JoinedAt s.state s.messages i 1 x.id x.number x.payload y.place y.outcome r l' m'
           → QuietPushed s (message x) r (lent l' s.others s.objects m' s.tables)
-      pushed_new e j = quiet s h.session x i 1 y.place (is_new e) y.outcome fragment.outcome h.divided o r l' m' j (Free i) (sym fragment.place_for_of_lem ∙ e) refl
+      pushed_new e j = quiet s h.session x i 1 y.place (is_new e) y.outcome fragment.outcome h.divided o r l' m' j (Free i) (sym fragment.place_for ∙ e) refl
 
   pub pushed_full : y.place_for ≡ NoneFree → QuietPushed s (message x) 8 s
-  pushed_full e = no_place s h.session x (sym fragment.place_for_of_lem ∙ e)
+  pushed_full e = no_place s h.session x (sym fragment.place_for ∙ e)

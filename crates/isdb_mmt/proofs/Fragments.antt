@@ -9,7 +9,7 @@ use Rattle.isdb_mmt.specs.Decoder.Objects.{gap}
 use Rattle.isdb_mmt.specs.Decoder.Reassembly.{PartialMessage, Reassembly, short, flags_of, part_before, joined_on, part_after, whole_of, reassembly_after, message_completed, continues, orphan, oversize, most_message}
 use Rattle.isdb_mmt.specs.Decoder.Needs.{partial_length, fragment_area, reassembly_needs}
 use Rattle.isdb_mmt.specs.Memory.Lent.{part, over}
-use Rattle.isdb_mmt.specs.Memory.View.{given, control_state_of_lem}
+use Rattle.isdb_mmt.specs.Memory.View.{given, control_state_in}
 use Rattle.isdb_mmt.specs.Pushes.MediaPlace.{gap_after}
 use Rattle.isdb_mmt.specs.Pushes.Leaves.{joined_in, bytes_over}
 use Rattle.isdb_mmt.specs.Pushes.Fragments.{in_sequence, grown_length, continued, by_division, flags_in, fragment_outcome, joined_with, none_joined, joined_by, joined_as, laid_by, area_by, whole_by_of, completes, faults_of}
@@ -60,7 +60,7 @@ pub record Does (l : Reassembly) (x : MessagePacket) (c : Control) (m : Bytes) (
 
 module _ (c : Control) (m mpt : Bytes) (long : c.joining ≡ true → length m ≡ c.length) (x : MessagePacket) where
   abbrev l : Reassembly
-  l = (control_state_of_lem c m mpt).reassembly
+  l = (control_state_in c m mpt).reassembly
 
   abbrev b : Bytes
   b = x.payload
@@ -72,7 +72,7 @@ module _ (c : Control) (m mpt : Bytes) (long : c.joining ≡ true → length m �
   now_joined = record { long = c.long_length; aggregated = c.aggregated; bytes = m }
 
   part_before_lem : part_before l x ≡ given g now_joined
-  unfolding part_before control_state_of_lem in_sequence
+  unfolding part_before control_state_in in_sequence
   part_before_lem =
       ap (λ (y : Bool). cond y none (given c.joining now_joined)) (given_gap c.seen c.sequence x.number)
       ∙ taken_away c.joining (gap_after c.seen c.sequence x.number) now_joined
@@ -87,7 +87,7 @@ module _ (c : Control) (m mpt : Bytes) (long : c.joining ≡ true → length m �
 
   -- a payload below 2 bytes
   short_does : short x ≡ true → Does l x c m Short
-  unfolding reassembly_after message_completed orphan oversize reassembly_needs whole_by_of joined_by area_by laid_by control_state_of_lem is_some
+  unfolding reassembly_after message_completed orphan oversize reassembly_needs whole_by_of joined_by area_by laid_by control_state_in is_some
   short_does e =
       record {
         joined = rw e (go c.joining long);

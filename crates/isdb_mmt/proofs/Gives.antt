@@ -69,7 +69,7 @@ one_put id scrambled o a b rows given rows' given₁ given' h er e1 e2 =
     let z1 : 0 * 0 + length a ≡ 0 + length a = omega arith in
     record {
       row_is = er;
-      data_is_of = e2 ∙ rw (z1, e1, z0) (over_next 0 a b given (omega (arith, h.bytes)));
+      data_is = e2 ∙ rw (z1, e1, z0) (over_next 0 a b given (omega (arith, h.bytes)));
     }
 
 -- ---- the walk
@@ -84,9 +84,9 @@ module _ (q : Bytes) (timed aggregated : Bool) (id mpu : ℕ) (rap : Bool) (rows
     pub within : at ≤ 65537
     pub whole : is_some (units_from q timed aggregated at) ≡ true
     pub small : k ≤ 36 * at
-    pub rows_long_of : length rows ≡ length rows₀
-    pub data_long_lem : length given ≡ length given₀
-    pub rows_fit_of : k + 36 * length (recs_at at) ≤ length rows
+    pub rows_long : length rows ≡ length rows₀
+    pub data_long : length given ≡ length given₀
+    pub rows_fit : k + 36 * length (recs_at at) ≤ length rows
     pub data_fit : d + data_of (recs_at at) ≤ length given
     pub rows_rest : over k (rows_from d (recs_at at)) rows ≡ over 0 (rows_from 0 (recs_at 8)) rows₀
     pub data_rest : over d (data_from (recs_at at)) given ≡ over 0 (data_from (recs_at 8)) given₀
@@ -100,9 +100,9 @@ module _ (q : Bytes) (timed aggregated : Bool) (id mpu : ℕ) (rap : Bool) (rows
         within = omega arith;
         whole = o.whole;
         small = omega arith;
-        rows_long_of = refl;
-        data_long_lem = refl;
-        rows_fit_of = omega (arith, o.rows_fit_of);
+        rows_long = refl;
+        data_long = refl;
+        rows_fit = omega (arith, o.rows_fit);
         data_fit = omega (arith, o.data_fit);
         rows_rest = refl;
         data_rest = refl;
@@ -117,7 +117,7 @@ module _ (q : Bytes) (timed aggregated : Bool) (id mpu : ℕ) (rap : Bool) (rows
         ap (λ (o : Option (List DataUnit)). over k (rows_from d (unit_recs id mpu rap q o)) rows) (sym u) ∙ g.rows_rest in
         let s : over d [] given ≡ over 0 (data_from (recs_at 8)) given₀ =
         ap (λ (o : Option (List DataUnit)). over d (data_from (unit_recs id mpu rap q o)) given) (sym u) ∙ g.data_rest in
-        record { rows_are_of = sym (over_none k rows) ∙ r; data_are = sym (over_none d given) ∙ s }
+        record { rows_are = sym (over_none k rows) ∙ r; data_are = sym (over_none d given) ∙ s }
 
     pub giving_bad : x ≡ not_whole → Gave q timed aggregated id mpu rap rows₀ given₀ rows given
     unfolding is_some
@@ -156,7 +156,7 @@ module _ (q : Bytes) (timed aggregated : Bool) (id mpu : ℕ) (rap : Bool) (rows
           let s : data_of (recs_at at) ≡ length unit_bytes + data_of (recs_at next) = rw recs_next in
           let l = g.long in
           record {
-            row = omega (arith, g.rows_fit_of, r);
+            row = omega (arith, g.rows_fit, r);
             bytes = omega (arith, g.data_fit, s, n);
             small = omega (arith, a.0, a.1.1, n);
             start = omega (arith, g.behind, g.within);
@@ -208,7 +208,7 @@ module _ (q : Bytes) (timed aggregated : Bool) (id mpu : ℕ) (rap : Bool) (rows
           let wr : over (k + 36) rest rows' ≡ over 0 (rows_from 0 (recs_at 8)) rows₀ =
           ap (λ (y : Bytes). over (k + 36) rest y) er'
           ∙ ap (λ j. over (k + j) rest (over k row rows)) (sym lr)
-          ∙ over_next k row rest rows (omega (arith, g.rows_fit_of))
+          ∙ over_next k row rest rows (omega (arith, g.rows_fit))
           ∙ ap (λ (rs : List Rec). over k (rows_from d rs) rows) (sym recs_next)
           ∙ g.rows_rest in
           let wg : over (d + length unit_bytes) (data_from (recs_at next)) given' ≡ over 0 (data_from (recs_at 8)) given₀ =
@@ -222,9 +222,9 @@ module _ (q : Bytes) (timed aggregated : Bool) (id mpu : ℕ) (rap : Bool) (rows
             within = omega (arith, a.1.1, g.long);
             whole = whole_behind u (units_from q timed aggregated next) (rw also_is at g.whole);
             small = omega (arith, g.small, a.1.0);
-            rows_long_of = lo ∙ g.rows_long_of;
-            data_long_lem = lg ∙ g.data_long_lem;
-            rows_fit_of = omega (arith, g.rows_fit_of, r, lo);
+            rows_long = lo ∙ g.rows_long;
+            data_long = lg ∙ g.data_long;
+            rows_fit = omega (arith, g.rows_fit, r, lo);
             data_fit = omega (arith, g.data_fit, s, lg, n);
             rows_rest = rw n wr;
             data_rest = rw n wg;

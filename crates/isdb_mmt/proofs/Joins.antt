@@ -6,7 +6,7 @@ use Rattle.isdb_tlv.proofs.Guards.{cond_elim}
 use Rattle.isdb_mmt.specs.declared.decoder.counts.Counters.{Counters}
 use Rattle.isdb_mmt.specs.Formats.Part.{part_of}
 use Rattle.isdb_mmt.specs.Decoder.Packet.{Bytes, MessagePacket}
-use Rattle.isdb_mmt.specs.Formats.Message.{tables_from, aggregated_from, content_of_lem}
+use Rattle.isdb_mmt.specs.Formats.Message.{tables_from, aggregated_from, content_of}
 use Rattle.isdb_mmt.specs.Decoder.Objects.{gap}
 use Rattle.isdb_mmt.specs.Decoder.Reassembly.{PartialMessage, Reassembly, most_message, short, flags_of, part_before, joined_on, part_after, whole_of, reassembly_after, message_completed, orphan, oversize, TablesFound, parts_of, tables_in, tables_of, tables_of_all, messages_of, cut_of, cut_of_all}
 use Rattle.isdb_mmt.specs.Decoder.Model.{packet_counted, message_counted, reassembly_counted}
@@ -44,14 +44,14 @@ octets_in m o (Tables p at) = octets_parts (part_of m p) (octets_part m o p) (ta
 octets_all : (ms : List Bytes) → AllOctets ms → AllOctets (tables_of_all ms).tables
 unfolding tables_of_all tables_of
 octets_all [] a = tt
-octets_all (m ∷ ms) a = all_append (tables_of m).tables (tables_of_all ms).tables (octets_in m a.0 (content_of_lem m)) (octets_all ms a.1)
+octets_all (m ∷ ms) a = all_append (tables_of m).tables (tables_of_all ms).tables (octets_in m a.0 (content_of m)) (octets_all ms a.1)
 
 octets_cut : (j : PartialMessage) → Octets j.bytes → AllOctets (cut_of j).tables
 unfolding cut_of messages_of tables_of
 octets_cut j o =
     cond_elim (λ (c : TablesFound). AllOctets c.tables) j.aggregated
     (λ e. octets_all (parts_of j.bytes (aggregated_from j.bytes j.long 0).found) (octets_parts j.bytes o (aggregated_from j.bytes j.long 0).found))
-    (λ e. octets_in j.bytes o (content_of_lem j.bytes))
+    (λ e. octets_in j.bytes o (content_of j.bytes))
 
 -- ---- a message that is being joined
 

@@ -15,7 +15,7 @@ use Rattle.isdb_mmt.specs.Formats.Mpt.{mpt_of}
 use Rattle.isdb_mmt.specs.Formats.Plt.{plt_of}
 use Rattle.isdb_mmt.specs.Formats.Tot.{tot_of}
 use Rattle.isdb_mmt.specs.Pushes.TableOutcome.{body_from}
-use Rattle.isdb_mmt.specs.Answers.Readings.{area_part, section_found, section_part, control_found, mpt_at, mpt_part, plt_part, tot_part, table_read, table_id_of_lem, section_read, mpt_read, plt_read, tot_read}
+use Rattle.isdb_mmt.specs.Answers.Readings.{area_part, section_found, section_part, control_found, mpt_at, mpt_part, plt_part, tot_part, table_read, table_id_of_key, section_read, mpt_read, plt_read, tot_read}
 use Rattle.isdb_mmt.specs.Memory.Opening.{lent}
 use Rattle.isdb_mmt.specs.Answers.KeptParts.{part_given, state_only, Reachable, AnArea, MptReachable}
 use Rattle.isdb_mmt.specs.declared.part.Part.{Part}
@@ -241,20 +241,20 @@ module _ (state others objects messages tables : Bytes) (q : Bool) (eq : q ≡ s
     part_of_lem Nothing = refl
     part_of_lem (At i) = refl
 
-    same_section : section_read here key ≡ table_read here (parses_as (table_id_of_lem key)) section_here_lem
+    same_section : section_read here key ≡ table_read here (parses_as (table_id_of_key key)) section_here_lem
     unfolding section_read section_found
-    same_section = ap (table_read here (parses_as (table_id_of_lem key))) (part_of_lem (section_found (state_only state) key))
+    same_section = ap (table_read here (parses_as (table_id_of_key key))) (part_of_lem (section_found (state_only state) key))
 
     pub section_five : not q ≡ true → table_refused 5 ≡ section_read here key
-    section_five h = five (parses_as (table_id_of_lem key)) section_here_lem h ∙ sym same_section
+    section_five h = five (parses_as (table_id_of_key key)) section_here_lem h ∙ sym same_section
 
     pub section_nothing : not q ≡ false → (m : MaybePart) → part_given m ≡ section_here_lem → m ≡ no_part → no_table_of ≡ section_read here key
-    section_nothing h m em e = none_there (parses_as (table_id_of_lem key)) section_here_lem h m em e ∙ sym same_section
+    section_nothing h m em e = none_there (parses_as (table_id_of_key key)) section_here_lem h m em e ∙ sym same_section
 
     pub section_bytes_lem : not q ≡ false → (m : MaybePart) → part_given m ≡ section_here_lem → (p : Part) → m ≡ some_part p → (b : Bytes) → b ≡ part_of tables p
         → (z : Bool) → z ≡ parses_as (key / 16777216) b → (r : TableReading) → r ≡ (if z then the_bytes p else table_refused 5) → r ≡ section_read here key
     section_bytes_lem h m em p e b eb z ez r er =
-        one_there (parses_as (table_id_of_lem key)) section_here_lem h m em p e b eb z ez r er ∙ sym same_section
+        one_there (parses_as (table_id_of_key key)) section_here_lem h m em p e b eb z ez r er ∙ sym same_section
 
   -- an MPT
   module _ (id : ℕ) where

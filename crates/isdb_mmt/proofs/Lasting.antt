@@ -17,7 +17,7 @@ use Rattle.isdb_mmt.specs.Memory.Session.{Session, limits_of, used_of, latest_of
 use Rattle.isdb_mmt.specs.Memory.Check.{media_in, controls_in, sections_in, lengths_of, Sound}
 use Rattle.isdb_mmt.specs.Memory.View.{view}
 use Rattle.isdb_mmt.specs.Memory.Opening.{lent}
-use Rattle.isdb_mmt.specs.Memory.PlacesOf.{table_length, place_for_of_lem, held_for, control_for, latest_for}
+use Rattle.isdb_mmt.specs.Memory.PlacesOf.{table_length, place_for_asset, held_for, control_for, latest_for}
 use Rattle.isdb_mmt.specs.Pushes.MediaPush.{held_over, media_place_for, leaves_at, asset_next, media_leaves}
 use Rattle.isdb_mmt.specs.Pushes.Leaves.{kept_place, with_time, with_counters, control_leaves, message_in, control_place_for, message_at, message_leaves, packet_leaves, joined_in}
 use Rattle.isdb_mmt.specs.Pushes.Push.{Fits}
@@ -141,9 +141,9 @@ module _ (s : Session) (ok : Sound s.state s.others (lengths_of s)) where
   length_held none at area t h w = refl
   length_held (some u) at area t h w = length_over at u.bytes t (omega arith)
 
-  module _ (id : ℕ) (a : Asset) (tied : Tied a) (fits : Fit (media_fields (place_for_of_lem id a))) (room : held_length a.held ≤ l.mfu_area) where
-    media_own : (i : ℕ) → i < l.media_ids → media_there_lem l s (0 + i) (place_for_of_lem id a)
-    unfolding place_for_of_lem
+  module _ (id : ℕ) (a : Asset) (tied : Tied a) (fits : Fit (media_fields (place_for_asset id a))) (room : held_length a.held ≤ l.mfu_area) where
+    media_own : (i : ℕ) → i < l.media_ids → media_there_lem l s (0 + i) (place_for_asset id a)
+    unfolding place_for_asset
     media_own i free t = omega (arith, in_objects s ok id a tied fits room i free, held_short a.held l.mfu_area room)
 
     objects_long : (i : ℕ) → i < l.media_ids → length (held_over (i * l.mfu_area) a.held s.objects) ≡ length s.objects
@@ -160,7 +160,7 @@ module _ (s : Session) (ok : Sound s.state s.others (lengths_of s)) where
           objects = objects_long i free;
           messages = refl;
           tables = refl;
-          media = rw (media_old s ok id a tied fits room i e) (placed_set (media_there_lem l s) (media_in s.state) 0 i (place_for_of_lem id a) (media_own i free) was.media);
+          media = rw (media_old s ok id a tied fits room i e) (placed_set (media_there_lem l s) (media_in s.state) 0 i (place_for_asset id a) (media_own i free) was.media);
           controls = rw k.controls was.controls;
           sections = rw k.sections was.sections;
           plt = rw k.latest ok.plt;
@@ -178,7 +178,7 @@ module _ (s : Session) (ok : Sound s.state s.others (lengths_of s)) where
           tables = refl;
           media =
               rw (media_new s ok id a tied fits room i e)
-              (placed_snoc (media_there_lem l s) (media_in s.state) 0 (place_for_of_lem id a) (rw z (media_own i f.free)) was.media);
+              (placed_snoc (media_there_lem l s) (media_in s.state) 0 (place_for_asset id a) (rw z (media_own i f.free)) was.media);
           controls = rw k.controls was.controls;
           sections = rw k.sections was.sections;
           plt = rw k.latest ok.plt;

@@ -95,10 +95,10 @@ module _ (t : MediaEffect) (y rap : Bool) (b : Bytes) where
   header_either true x = refl
   header_either false x = header_kind x x.fragment_type
 
-  header_of : (k : MaybeHeader) → (outcome_by t y rap b k).header ≡ k
+  header_of_lem : (k : MaybeHeader) → (outcome_by t y rap b k).header ≡ k
   unfolding outcome_by
-  header_of no_payload = refl
-  header_of (payload x) = header_either y x
+  header_of_lem no_payload = refl
+  header_of_lem (payload x) = header_either y x
 
   -- the units of a payload with the header `x`, where they are taken
   pub record TakenUnits (x : PayloadHeader) (s : MediaEffect) : Type 0 where
@@ -133,7 +133,7 @@ module _ (t : MediaEffect) (y rap : Bool) (b : Bytes) where
 
 pub outcome_header : (p : Media) (n : ℕ) (y rap : Bool) (b : Bytes) (r : MediaOutcome) → r ≡ media_outcome p n y rap b → r.header ≡ payload_header b
 unfolding media_outcome
-outcome_header p n y rap b r e = ap (λ (x : MediaOutcome). x.header) e ∙ header_of (start_of p n) y rap b (payload_header b)
+outcome_header p n y rap b r e = ap (λ (x : MediaOutcome). x.header) e ∙ header_of_lem (start_of p n) y rap b (payload_header b)
 
 -- ---- units that are not taken
 
@@ -274,7 +274,7 @@ module _ (x : PayloadHeader) (at : ℕ) (p : Media) (r : MediaOutcome) (h : Head
 
   header_is : payload_header b ≡ payload x
   header_is =
-      sym (header_of t0 h.scramble_info h.rap b (payload_header b)) ∙ ap (λ (y : MediaOutcome). y.header) (sym outcome_by_lem) ∙ can.header
+      sym (header_of_lem t0 h.scramble_info h.rap b (payload_header b)) ∙ ap (λ (y : MediaOutcome). y.header) (sym outcome_by_lem) ∙ can.header
 
   outcome_x : r ≡ outcome_by t0 h.scramble_info h.rap b (payload x)
   outcome_x = outcome_by_lem ∙ ap (outcome_by t0 h.scramble_info h.rap b) header_is
@@ -366,7 +366,7 @@ module _ (x : PayloadHeader) (at : ℕ) (p : Media) (r : MediaOutcome) (h : Head
         record {
           long = rw eq (omega (arith, length-take (be 2 b 0 + 2) b, can.can.can.long));
           whole = rw eq (ap is_some taken_x.1.units);
-          rows_fit_of = rw recs_are at can.can.rows_fit_of;
+          rows_fit = rw recs_are at can.can.rows_fit;
           data_fit = rw recs_are at can.can.data_fit;
         }
 
@@ -378,7 +378,7 @@ module _ (x : PayloadHeader) (at : ℕ) (p : Media) (r : MediaOutcome) (h : Head
           area =
               sym (area_is ∙ ap (λ (k : FragmentationIndicator). held_over at (held_by_lem k) objects) e
               ∙ complete_held pk q at objects us a1 still);
-          rows_out = w.rows_are_of ∙ ap (λ (rs : List Rec). over 0 (rows_from 0 rs) rows) (sym recs_are);
+          rows_out = w.rows_are ∙ ap (λ (rs : List Rec). over 0 (rows_from 0 rs) rows) (sym recs_are);
           data_out = w.data_are ∙ ap (λ (rs : List Rec). over 0 (data_from rs) bytes) (sym recs_are);
         }
 
@@ -541,7 +541,7 @@ module _ (x : PayloadHeader) (at : ℕ) (p : Media) (r : MediaOutcome) (h : Head
 
       pub last_can : CanEnd at p r.units q' objects rows bytes
       last_can =
-          let n : row_size * 1 ≤ length rows = rw recs_last at can.can.rows_fit_of in
+          let n : row_size * 1 ≤ length rows = rw recs_last at can.can.rows_fit in
           let k : length (grown g d).bytes + 0 ≤ length bytes = rw recs_last at can.can.data_fit in
           record {
             small = omega (arith, end.bytes, end.most, zeros.1.0);
@@ -565,7 +565,7 @@ module _ (x : PayloadHeader) (at : ℕ) (p : Media) (r : MediaOutcome) (h : Head
                 ∙ ap (λ (y : Bytes). over 0 y rows) (sym (one_row given_rec))
                 ∙ ap (λ (rs : List Rec). over 0 (rows_from 0 rs) rows) (sym recs_last);
             data_out =
-                w.data_is_of
+                w.data_is
                 ∙ ap (λ (y : Bytes). over 0 (y ++ part_of q' r.units.last) bytes) (sym there_last)
                 ∙ ap (λ (y : Bytes). over 0 (g.bytes ++ y) bytes) d_is
                 ∙ ap (λ (y : Bytes). over 0 y bytes) (sym (one_data given_rec))
@@ -622,7 +622,7 @@ module _ (pass : Bool) (h : Header) (b : Bytes) where
               mpu = mpu_number (header_in (payload_header b));
               rap = h.rap;
               mfu = no_mfu;
-              item_id_of = no_u32;
+              item_id = no_u32;
               bytes = drop 8 b;
             };
       }
@@ -653,7 +653,7 @@ module _ (at : ℕ) (pass : Bool) (p : Media) (r : MediaOutcome) (h : Header) (b
   outcome_with_by = can.look
 
   header_here : r.header ≡ payload_header b
-  header_here = ap (λ (y : MediaOutcome). y.header) outcome_with_by ∙ header_of t0' scrambled h.rap b (payload_header b)
+  header_here = ap (λ (y : MediaOutcome). y.header) outcome_with_by ∙ header_of_lem t0' scrambled h.rap b (payload_header b)
 
   -- units that are taken are clear
   module _ (x : PayloadHeader) (eh : r.header ≡ payload x) (et : r.taken ≡ true) where
@@ -678,7 +678,7 @@ module _ (at : ℕ) (pass : Bool) (p : Media) (r : MediaOutcome) (h : Header) (b
                 low = can.low;
                 held = can.held;
                 room = can.room;
-                rows_fit_of = rw same_gives at can.rows_fit_of;
+                rows_fit = rw same_gives at can.rows_fit;
                 data_fit = rw same_gives at can.data_fit;
               };
           header = eh;
@@ -732,7 +732,7 @@ module _ (at : ℕ) (pass : Bool) (p : Media) (r : MediaOutcome) (h : Header) (b
 
         pub can_pass_on : CanPass b rows bytes
         can_pass_on =
-            let n : row_size * 1 ≤ length rows = rw recs_passed at can.rows_fit_of in
+            let n : row_size * 1 ≤ length rows = rw recs_passed at can.rows_fit in
             let k : length (drop 8 b) + 0 ≤ length bytes = rw recs_passed at can.data_fit in
             record {
               long = can.can.long;
@@ -769,7 +769,7 @@ module _ (at : ℕ) (pass : Bool) (p : Media) (r : MediaOutcome) (h : Header) (b
                   ∙ ap (λ (z : Bytes). over 0 z rows) (sym (one_row (passed_rec pass h b)))
                   ∙ ap (λ (rs : List Rec). over 0 (rows_from 0 rs) rows) (sym recs_passed);
               data_out =
-                  w.data_is_of
+                  w.data_is
                   ∙ ap (λ (z : Bytes). over 0 z bytes) (append-nil (drop 8 b))
                   ∙ ap (λ (z : Bytes). over 0 z bytes) (sym (one_data (passed_rec pass h b)))
                   ∙ ap (λ (rs : List Rec). over 0 (data_from rs) bytes) (sym recs_passed);

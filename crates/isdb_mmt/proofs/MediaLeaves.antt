@@ -8,14 +8,14 @@ use Rattle.isdb_tlv.proofs.Guards.{either}
 use Rattle.isdb_mmt.specs.Decoder.Packet.{MpuPacket, media as media_packet, Bytes, PayloadUnit, readable}
 use Rattle.isdb_mmt.specs.Decoder.Maps.{find, put, or_else, is_some}
 use Rattle.isdb_mmt.specs.Decoder.Objects.{new_mpu, mpu_after, range_after, mpu_in, Mfu, Asset, fresh, asset_after, unit_effect, after_unit, after_units, gap, after_headers}
-use Rattle.isdb_mmt.specs.Decoder.Model.{asset_of_lem, pushed, packet_counted}
+use Rattle.isdb_mmt.specs.Decoder.Model.{asset_of, pushed, packet_counted}
 use Rattle.isdb_mmt.specs.Decoder.Needs.{held_length, needs}
 use Rattle.isdb_mmt.specs.Memory.Lent.{part, over, names_from, found_from, indexed}
 use Rattle.isdb_mmt.specs.Memory.Session.{Session, limits_of, used_of, used_fields, latest_of, time_of, counters_of, media_fields}
 use Rattle.isdb_mmt.specs.Memory.Check.{media_in, controls_in, sections_in, media_sound, packet_counts, lengths_of, Sound}
 use Rattle.isdb_mmt.specs.Memory.View.{given, mfu_of, asset_of_place, asset_entry, control_entry, section_entry, kept_table_at, view_by, view}
 use Rattle.isdb_mmt.specs.Memory.Opening.{lent}
-use Rattle.isdb_mmt.specs.Pushes.MediaPush.{place_for_of_lem, held_for, first_in, held_over, with_place, one_more_of, with_used, with_packets, media_place_for, leaves_at, asset_next, media_leaves}
+use Rattle.isdb_mmt.specs.Pushes.MediaPush.{place_for_asset, held_for, first_in, held_over, with_place, one_more_of, with_used, with_packets, media_place_for, leaves_at, asset_next, media_leaves}
 use Rattle.isdb_mmt.specs.declared.decoder.place.Found.TheVariants.{At, Nothing}
 use Rattle.isdb_mmt.specs.declared.decoder.place.PlaceFor.{PlaceFor}
 use Rattle.isdb_mmt.specs.declared.decoder.place.PlaceFor.TheVariants.{Own, Free, NoneFree}
@@ -139,15 +139,15 @@ held_back : (o : Option Mfu) (b : List ℕ) → ((h : Mfu) → o ≡ some h → 
 unfolding is_some mfu_of
 held_back none b e = refl
 held_back (some h) b e =
-    λ i. some (record { mpu = h.mpu; rap = h.rap; mfu = header_back h.mfu i; item_id_of = item_back h.item_id_of i; bytes = e h refl i })
+    λ i. some (record { mpu = h.mpu; rap = h.rap; mfu = header_back h.mfu i; item_id = item_back h.item_id i; bytes = e h refl i })
 
 range_back : (o : Option ℕ) (f : ℕ) → given (is_some o) (f, or_else 0 o) ≡ range_for o f
 unfolding is_some or_else
 range_back none f = refl
 range_back (some n) f = refl
 
-pub place_back : (id : ℕ) (a : Asset) (b : List ℕ) → Tied a → ((h : Mfu) → a.held ≡ some h → b ≡ h.bytes) → asset_of_place (place_for_of_lem id a) b ≡ a
-unfolding asset_of_place place_for_of_lem
+pub place_back : (id : ℕ) (a : Asset) (b : List ℕ) → Tied a → ((h : Mfu) → a.held ≡ some h → b ≡ h.bytes) → asset_of_place (place_for_asset id a) b ≡ a
+unfolding asset_of_place place_for_asset
 place_back id a b t e =
     let er : given (is_some a.mpu) (first_in a.range, or_else 0 a.mpu) ≡ a.range =
     range_back a.mpu (first_in a.range) ∙ sym t in
@@ -182,7 +182,7 @@ held_apart (some g) area l i j n h w ne b =
     rw (add-zero (i * area)) at (area_apart area l g.bytes i 0 (omega arith) w j n ne b)
 
 module _ (s : Session) (ok : Sound s.state s.others (lengths_of s)) (id : ℕ) (a : Asset) (tied : Tied a)
-    (fits : Fit (media_fields (place_for_of_lem id a))) (room : held_length a.held ≤ (limits_of s.state).mfu_area) where
+    (fits : Fit (media_fields (place_for_asset id a))) (room : held_length a.held ≤ (limits_of s.state).mfu_area) where
   abbrev st : List ℕ
   st = s.state
 
@@ -190,7 +190,7 @@ module _ (s : Session) (ok : Sound s.state s.others (lengths_of s)) (id : ℕ) (
   area = (limits_of st).mfu_area
 
   abbrev place : Media
-  place = place_for_of_lem id a
+  place = place_for_asset id a
 
   abbrev packets_now : ℕ
   packets_now = (counters_of st).tlv_packets + 1
@@ -206,7 +206,7 @@ module _ (s : Session) (ok : Sound s.state s.others (lengths_of s)) (id : ℕ) (
   -- this id's entry
   own_entry : (st' : List ℕ) (i : ℕ) → i < (limits_of st).media_ids
       → asset_entry (limits_of st) (lent st' s.others (objects_after i) s.messages s.tables) (0 + i) place ≡ (id, a)
-  unfolding place_for_of_lem
+  unfolding place_for_asset
   own_entry st' i h =
       let w = in_objects i h in
       let z : 0 + i ≡ i = omega arith in
@@ -447,7 +447,7 @@ module _ (s : Session) (st' ob' : List ℕ) (es : List (ℕ × Asset)) where
 
 -- what a media packet leaves is what the model's state is after it, where the asset fits its place and its object its area
 module _ (s : Session) (m : MpuPacket) (ok : Sound s.state s.others (lengths_of s)) (tied : Tied (asset_next s m))
-    (fits : Fit (media_fields (place_for_of_lem m.id (asset_next s m)))) (room : held_length (asset_next s m).held ≤ (limits_of s.state).mfu_area) where
+    (fits : Fit (media_fields (place_for_asset m.id (asset_next s m)))) (room : held_length (asset_next s m).held ≤ (limits_of s.state).mfu_area) where
   pub leaves_view : (media_place_for s.state m.id ≡ NoneFree → ⊥) → view (media_leaves s m) ≡ pushed (view s) (media_packet m)
   unfolding media_leaves pushed asset_next view view_by
   leaves_view free = go (media_place_for s.state m.id) refl
@@ -496,13 +496,13 @@ fresh_held : fresh.held ≡ none
 unfolding fresh
 fresh_held = refl
 
-blank_not_held : {A : Type 0} → (place_for_of_lem 0 fresh).held ≡ true → A
-unfolding place_for_of_lem fresh is_some
+blank_not_held : {A : Type 0} → (place_for_asset 0 fresh).held ≡ true → A
+unfolding place_for_asset fresh is_some
 blank_not_held t = let z : ◌≡◌ {A = ℕ} 0 1 = cc in absurd (omega arith)
 
 module _ (s : Session) (ok : Sound s.state s.others (lengths_of s)) (id : ℕ) where
-  before_old : (i : ℕ) → media_place_for s.state id ≡ Own i → Before s (asset_of_lem id (view s))
-  unfolding media_place_for asset_of_lem or_else view view_by
+  before_old : (i : ℕ) → media_place_for s.state id ≡ Own i → Before s (asset_of id (view s))
+  unfolding media_place_for asset_of or_else view view_by
   before_old i place_for_of =
       let st = s.state in
       let l = limits_of st in
@@ -512,7 +512,7 @@ module _ (s : Session) (ok : Sound s.state s.others (lengths_of s)) (id : ℕ) w
       let z : i - 0 ≡ i = omega arith in
       let w : FoundAt (entries s) id i = rw z at (found_at (entries s) id 0 i e).1 in
       let b : i < length (media_in st) = omega (arith, w.within, length_indexed (asset_entry l s) 0 (media_in st)) in
-      let blank : Media = place_for_of_lem 0 fresh in
+      let blank : Media = place_for_asset 0 fresh in
       let p : Media = get_or (media_in st) i blank in
       let q = media_was l p (every_at (media_sound l) blank (media_in st) i ok.objects b) in
       let ps = passed l (lengths_of s) ok.limits in
@@ -534,14 +534,14 @@ module _ (s : Session) (ok : Sound s.state s.others (lengths_of s)) (id : ℕ) w
         room = subst (λ (x : Asset). held_length x.held ≤ l.mfu_area) (sym f) (place_room p bs l.mfu_area (λ t. omega (arith, lb t, q.0 t)));
       }
 
-  before_new : (i : ℕ) → media_place_for s.state id ≡ Free i → Before s (asset_of_lem id (view s))
-  unfolding media_place_for asset_of_lem or_else view view_by
+  before_new : (i : ℕ) → media_place_for s.state id ≡ Free i → Before s (asset_of id (view s))
+  unfolding media_place_for asset_of or_else view view_by
   before_new i place_for_of =
       let st = s.state in
       let w = place_for_was_new (names_from (used_of st).media_ids 120 184 st) (limits_of st).media_ids id i place_for_of in
       let e : found_from 0 (keys (entries s)) id ≡ Nothing = ap (λ (ns : List ℕ). found_from 0 ns id) (entry_names s) ∙ w.0 in
       let f : or_else fresh (find id (entries s)) ≡ fresh = ap (or_else fresh) (absent (entries s) id 0 e).0 in
-      let p : Media = place_for_of_lem 0 fresh in
+      let p : Media = place_for_asset 0 fresh in
       let g : asset_of_place p [] ≡ fresh = place_back 0 fresh [] tied_fresh (λ h x. absurd (none_some h (sym fresh_held ∙ x))) in
       record {
         place = p;
@@ -588,7 +588,7 @@ unfolding asset_after
 tied_after a m t = tied_units m (readable m) (after_headers a m) (tied_applied a m t)
 
 module _ (s : Session) (ok : Sound s.state s.others (lengths_of s)) (m : MpuPacket)
-    (places : (used_of s.state).media_ids + (needs (view s) (media_packet m)).media_ids_of ≤ (limits_of s.state).media_ids)
+    (places : (used_of s.state).media_ids + (needs (view s) (media_packet m)).media_ids ≤ (limits_of s.state).media_ids)
     (object : (needs (view s) (media_packet m)).object ≤ (limits_of s.state).mfu_area) where
   pub place_for_free : media_place_for s.state m.id ≡ NoneFree → ⊥
   unfolding media_place_for needs pushed view view_by
@@ -596,16 +596,16 @@ module _ (s : Session) (ok : Sound s.state s.others (lengths_of s)) (m : MpuPack
       let st = s.state in
       let w = place_for_was_full (names_from (used_of st).media_ids 120 184 st) (limits_of st).media_ids m.id e in
       let f : found_from 0 (keys (entries s)) m.id ≡ Nothing = ap (λ (ns : List ℕ). found_from 0 ns m.id) (entry_names s) ∙ w.0 in
-      let r = (absent (entries s) m.id 0 f).1 (asset_after (asset_of_lem m.id (view s)) m) in
+      let r = (absent (entries s) m.id 0 f).1 (asset_after (asset_of m.id (view s)) m) in
       let n : length (names_from (used_of st).media_ids 120 184 st) ≡ (used_of st).media_ids = length_names 120 (used_of st).media_ids 184 st in
-      let k : length (put m.id (asset_after (asset_of_lem m.id (view s)) m) (entries s)) ≡ length (entries s) + 1 =
-      ap length r ∙ length-append (entries s) ((m.id, asset_after (asset_of_lem m.id (view s)) m) ∷ []) in
+      let k : length (put m.id (asset_after (asset_of m.id (view s)) m) (entries s)) ≡ length (entries s) + 1 =
+      ap length r ∙ length-append (entries s) ((m.id, asset_after (asset_of m.id (view s)) m) ∷ []) in
       omega (arith, places, k, w.1, n)
 
-  before_any : Before s (asset_of_lem m.id (view s))
+  before_any : Before s (asset_of m.id (view s))
   before_any = go (media_place_for s.state m.id) refl
     where
-      go : (x : PlaceFor) → media_place_for s.state m.id ≡ x → Before s (asset_of_lem m.id (view s))
+      go : (x : PlaceFor) → media_place_for s.state m.id ≡ x → Before s (asset_of m.id (view s))
       go (Own i) e = before_old s ok m.id i e
       go (Free i) e = before_new s ok m.id i e
       go NoneFree e = absurd (place_for_free e)
@@ -613,7 +613,7 @@ module _ (s : Session) (ok : Sound s.state s.others (lengths_of s)) (m : MpuPack
   pub held_room : held_length (asset_next s m).held ≤ (limits_of s.state).mfu_area
   unfolding asset_next asset_after needs
   held_room =
-      let a = asset_of_lem m.id (view s) in
+      let a = asset_of m.id (view s) in
       omega (arith, units_held m (readable m) (after_headers a m), applied_held a m, before_any.room, object)
 
   pub tied_next : Tied (asset_next s m)
@@ -623,5 +623,5 @@ module _ (s : Session) (ok : Sound s.state s.others (lengths_of s)) (m : MpuPack
       subst (λ (a : Asset). Tied (asset_after a m)) (sym b.is) (tied_after (asset_of_place b.place b.bytes) m (tied_place b.place b.bytes))
 
   -- every number of the place fits its field
-  pub media_leaves_lem : Fit (media_fields (place_for_of_lem m.id (asset_next s m))) → view (media_leaves s m) ≡ pushed (view s) (media_packet m)
+  pub media_leaves_lem : Fit (media_fields (place_for_asset m.id (asset_next s m))) → view (media_leaves s m) ≡ pushed (view s) (media_packet m)
   media_leaves_lem fits = leaves_view s m ok tied_next fits held_room place_for_free

@@ -9,7 +9,7 @@ use Rattle.isdb_mmt.specs.Formats.Mpu.{payload_header, declared_of, units_of, lo
 use Rattle.isdb_mmt.specs.Decoder.Objects.{Asset, most_object, malformed_payload, after_headers, asset_after}
 use Rattle.isdb_mmt.specs.Memory.Layout.{most_count}
 use Rattle.isdb_mmt.specs.Memory.View.{asset_of_place}
-use Rattle.isdb_mmt.specs.Pushes.MediaPush.{no_object, held_for, place_for_of_lem}
+use Rattle.isdb_mmt.specs.Pushes.MediaPush.{no_object, held_for, place_for_asset}
 use Rattle.isdb_mmt.specs.Pushes.MediaEffect.{with_each_unit, units_effect, Roomy, Ready}
 use Rattle.isdb_mmt.specs.Pushes.MediaPlace.{gap_in, lost_in, normal_object, begun, start_of, new_in, jump_in, completes_in, adds_of, place_after_of, StatsWithin}
 use Rattle.isdb_mmt.specs.Pushes.MediaOutcome.{outcome_with, outcome_of_units, units_outcome, outcome_by, media_outcome, CanReadUnits}
@@ -171,7 +171,7 @@ adds_small p n scrambled bad h t d e r o =
       lost = omega arith;
       scrambled = omega (arith, one_le scrambled);
       mfus = omega (arith, r);
-      scrambled_mfus_of = omega (arith, one_le (scrambled && completes_in h));
+      scrambled_mfus = omega (arith, one_le (scrambled && completes_in h));
       dropped = omega (arith, o);
       mpus = omega (arith, one_le (new_in p h));
       jumps = omega (arith, one_le (jump_in p h));
@@ -265,7 +265,7 @@ module _ (id : ℕ) (p : Media) (b : Bytes) (x : Header) (bytes : Bytes) (long :
       (start_held p b arrived long) (start_object p b arrived long) (payload_header bytes)
 
   pub place_is : (r : MediaOutcome) → r ≡ media_outcome p x.sequence x.scramble_info x.rap bytes
-      → place_after_of id p x.sequence x.scramble_info r.header r.bad r.units ≡ place_for_of_lem id (asset_after (asset_of_place p b) arrived)
+      → place_after_of id p x.sequence x.scramble_info r.header r.bad r.units ≡ place_for_asset id (asset_after (asset_of_place p b) arrived)
   unfolding media_of
   place_is r e =
       let w : OutcomeIs arrived (start_of p x.sequence) (after_headers (asset_of_place p b) arrived) r = rw e outcome_is in

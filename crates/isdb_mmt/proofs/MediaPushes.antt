@@ -7,7 +7,7 @@ use Rattle.isdb_mmt.specs.Decoder.Packet.{Bytes, MpuPacket, media, media_of, rea
 use Rattle.isdb_mmt.specs.Decoder.Maps.{or_else, one}
 use Rattle.isdb_mmt.specs.Formats.Mpu.{payload_header}
 use Rattle.isdb_mmt.specs.Decoder.Objects.{Asset, Rec, fresh, after_headers, asset_after, passes, media_gives}
-use Rattle.isdb_mmt.specs.Decoder.Model.{asset_of_lem, gives}
+use Rattle.isdb_mmt.specs.Decoder.Model.{asset_of, gives}
 use Rattle.isdb_mmt.specs.Decoder.Needs.{data_of, needs}
 use Rattle.isdb_mmt.specs.Memory.Layout.{most_count, most_media_ids, most_mfu_area, media_places, media_size}
 use Rattle.isdb_mmt.specs.Memory.Lent.{part, over, names_from, found_from, every}
@@ -16,7 +16,7 @@ use Rattle.isdb_mmt.specs.Memory.Check.{media_in, media_sound, count_fits_of, st
 use Rattle.isdb_mmt.specs.Memory.View.{asset_of_place, asset_entry, view_by, view}
 use Rattle.isdb_mmt.specs.Memory.Opening.{lent}
 use Rattle.isdb_mmt.specs.Pushes.Records.{row_size, rows_from, data_from}
-use Rattle.isdb_mmt.specs.Pushes.MediaPush.{place_for_of_lem, held_over, media_place_for, asset_next, leaves_at, media_leaves, media_asks, MediaPushed}
+use Rattle.isdb_mmt.specs.Pushes.MediaPush.{place_for_asset, held_over, media_place_for, asset_next, leaves_at, media_leaves, media_asks, MediaPushed}
 use Rattle.isdb_mmt.specs.Pushes.MediaPlace.{start_of, place_after_of, StatsWithin}
 use Rattle.isdb_mmt.specs.Pushes.MediaOutcome.{media_outcome, CanReadUnits}
 use Rattle.isdb_mmt.specs.Pushes.MediaCommit.{CanTakePlace, blank, place_in, index_of, passes_on, records_handed, bytes_handed, fits_number, number_of, refused, accepted, answer_by, answer_of, Small, starts_from, gives_from, CanCommit, Committed, state_after, CanCommitAll, CommittedAll, CanPushMedia}
@@ -76,7 +76,7 @@ blank_fresh b = refl
 
 -- the place is that of the model's asset
 pub record Begins (s : Session) (id : ℕ) (place_for_of : PlaceFor) (p : Media) : Type 0 where
-  pub is : asset_of_lem id (view s) ≡ starts_from (index_of place_for_of * (limits_of s.state).mfu_area) p s.objects
+  pub is : asset_of id (view s) ≡ starts_from (index_of place_for_of * (limits_of s.state).mfu_area) p s.objects
   pub held : p.held ≡ true → p.object.length ≤ (limits_of s.state).mfu_area
   pub modest : StatsWithin most_count p.stats
 
@@ -115,7 +115,7 @@ module _ (s : Session) (ok : Sound s.state s.others (lengths_of s)) (id : ℕ) w
       go NoneFree d = omega arith
 
   begins_old : (i : ℕ) → media_place_for s.state id ≡ Own i → Begins s id (Own i) (media_at s.state i)
-  unfolding media_in asset_of_lem or_else view view_by
+  unfolding media_in asset_of or_else view view_by
   begins_old i e =
       let st = s.state in
       let l = limits_of st in
@@ -134,12 +134,12 @@ module _ (s : Session) (ok : Sound s.state s.others (lengths_of s)) (id : ℕ) w
       }
 
   -- an id that has no place
-  unknown : found_from 0 names id ≡ Nothing → asset_of_lem id (view s) ≡ fresh
-  unfolding asset_of_lem or_else view view_by
+  unknown : found_from 0 names id ≡ Nothing → asset_of id (view s) ≡ fresh
+  unfolding asset_of or_else view view_by
   unknown e =
       ap (or_else fresh) (absent (entries s) id 0 (ap (λ (ns : List ℕ). found_from 0 ns id) (entry_names s) ∙ e)).0
 
-  begins_blank : (place_for_of : PlaceFor) → asset_of_lem id (view s) ≡ fresh → Begins s id place_for_of blank
+  begins_blank : (place_for_of : PlaceFor) → asset_of id (view s) ≡ fresh → Begins s id place_for_of blank
   unfolding every
   begins_blank place_for_of e =
       record {
@@ -187,7 +187,7 @@ unfolding media_asks
 fitting s rows bytes m e =
     let l = limits_of s.state in
     let n = needs (view s) (media m) in
-    let a8 = asked_no (l.media_ids <? (used_of s.state).media_ids + n.media_ids_of) 7 _ e in
+    let a8 = asked_no (l.media_ids <? (used_of s.state).media_ids + n.media_ids) 7 _ e in
     let a9 = asked_no (l.mfu_area <? n.object) 8 _ a8.1 in
     let r = asked_no (rows <? row_size * n.records) 9 _ a9.1 in
     let d = asked_no (bytes <? n.data_bytes) 9 _ r.1 in
@@ -278,7 +278,7 @@ module _ (st ot ob me ta : List ℕ) (h : Header) (b rows bytes : Bytes) (can : 
         long : p.held ≡ true → length there ≡ p.object.length
         long t = length_part at p.object.length ob (held_there own_place t)
 
-        told : Told m t0 (after_headers (asset_of_lem id (view s)) m) r.units (readable m)
+        told : Told m t0 (after_headers (asset_of id (view s)) m) r.units (readable m)
         told =
             subst (λ (a : Asset). Told m t0 (after_headers a m) r.units (readable m)) (sym start.is)
             (subst (λ (y : MediaOutcome). Told m t0 (after_headers (asset_of_place p there) m) y.units (readable m)) (sym er) (outcome_is id p there h b long).units)
@@ -287,11 +287,11 @@ module _ (st ot ob me ta : List ℕ) (h : Header) (b rows bytes : Bytes) (can : 
         unfolding media_of
         zeros = start_zero p there m long
 
-        free : (used_of st).media_ids + (needs (view s) (media m)).media_ids_of ≤ (limits_of st).media_ids
+        free : (used_of st).media_ids + (needs (view s) (media m)).media_ids ≤ (limits_of st).media_ids
         unfolding media_of
         free = go place_for_of (sym es) own_place
           where
-            go : (x : PlaceFor) → media_place_for st id ≡ x → (x ≡ NoneFree → ⊥) → (used_of st).media_ids + (needs (view s) (media m)).media_ids_of ≤ (limits_of st).media_ids
+            go : (x : PlaceFor) → media_place_for st id ≡ x → (x ≡ NoneFree → ⊥) → (used_of st).media_ids + (needs (view s) (media m)).media_ids ≤ (limits_of st).media_ids
             go (Own i) e n = old_is s can.sound m i e
             go (Free i) e n = new_is s can.sound m i e
             go NoneFree e n = absurd (n refl)
@@ -417,7 +417,7 @@ module _ (st ot ob me ta : List ℕ) (h : Header) (b rows bytes : Bytes) (can : 
                 low = low_place (index_of place_for_of) (limits_of st).mfu_area push_index ps.ranges.object.1;
                 held = held_there own_place;
                 room = omega (arith, need_object own_place, fit.object, area_there own_place);
-                rows_fit_of = rw (need_rows, gives_are) at fit.records;
+                rows_fit = rw (need_rows, gives_are) at fit.records;
                 data_fit = rw (need_data, gives_are) at fit.data_bytes;
               }
 
@@ -445,10 +445,10 @@ module _ (st ot ob me ta : List ℕ) (h : Header) (b rows bytes : Bytes) (can : 
             unfolding asset_next media_of
             next_is = ap (λ (x : Asset). asset_after x m) (sym start.is)
 
-            place_next_lem : place_after_of id p h.sequence h.scramble_info r.header r.bad r.units ≡ place_for_of_lem id (asset_next s m)
-            place_next_lem = place_is id p there h b (long own_place) r er ∙ ap (place_for_of_lem id) next_is
+            place_next_lem : place_after_of id p h.sequence h.scramble_info r.header r.bad r.units ≡ place_for_asset id (asset_next s m)
+            place_next_lem = place_is id p there h b (long own_place) r er ∙ ap (place_for_asset id) next_is
 
-            state_next_lem : st' ≡ state_after st (place_for_of_lem id (asset_next s m)) place_for_of
+            state_next_lem : st' ≡ state_after st (place_for_asset id (asset_next s m)) place_for_of
             state_next_lem = w.store ∙ ap (λ (x : Media). state_after st x place_for_of) place_next_lem
 
             objects_next : ob' ≡ held_over at (asset_next s m).held ob
@@ -458,7 +458,7 @@ module _ (st ot ob me ta : List ℕ) (h : Header) (b rows bytes : Bytes) (can : 
             unfolding media_leaves media_of state_after
             leaves = go place_for_of (sym es) own_place state_next_lem objects_next
               where
-                go : (x : PlaceFor) → media_place_for st id ≡ x → (x ≡ NoneFree → ⊥) → st' ≡ state_after st (place_for_of_lem id (asset_next s m)) x
+                go : (x : PlaceFor) → media_place_for st id ≡ x → (x ≡ NoneFree → ⊥) → st' ≡ state_after st (place_for_asset id (asset_next s m)) x
                     → ob' ≡ held_over (index_of x * (limits_of st).mfu_area) (asset_next s m).held ob
                     → lent st' ot ob' me ta ≡ leaves_at s id (asset_next s m) (media_place_for st id)
                 go (Own i) e n d o = (λ j. lent (d j) ot (o j) me ta) ∙ ap (leaves_at s id (asset_next s m)) (sym e)

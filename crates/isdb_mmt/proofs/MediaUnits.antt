@@ -20,7 +20,7 @@ use Rattle.isdb_mmt.proofs.EffectsModelled.{grown_none, grown_some}
 use Rattle.isdb_mmt.proofs.Fits.{mild}
 
 abbrev pub unit_as : FragmentationIndicator → Bytes → DataUnit → PayloadUnit
-unit_as f q u = record { fragment = f; mfu = u.mfu; item_id_of = u.item_id; bytes = part_of q u.«data» }
+unit_as f q u = record { fragment = f; mfu = u.mfu; item_id = u.item_id; bytes = part_of q u.«data» }
 
 -- ---- what is held is no longer than the needs
 
@@ -93,7 +93,7 @@ module _ (m : MpuPacket) (q : Bytes) (at : ℕ) (l : Bytes) where
       → (after_units m a (map (unit_as Middle q) us)).held ≡ some (grown g (data_in q us))
   unfolding after_units unit_effect after_unit effect_of object_of continued grown is_some data_in
   middle_held [] a g e h =
-      e ∙ (λ i. some (record { mpu = g.mpu; rap = g.rap; mfu = g.mfu; item_id_of = g.item_id_of; bytes = sym (append-nil g.bytes) i }))
+      e ∙ (λ i. some (record { mpu = g.mpu; rap = g.rap; mfu = g.mfu; item_id = g.item_id; bytes = sym (append-nil g.bytes) i }))
   middle_held (u ∷ us) a g e h =
       go (leb (length g.bytes + length (part_of q u.«data»)) most_object)
       (ap (λ (o : Option Mfu). (effect_of Middle o (object_of m (unit_as Middle q u))).held) e)
@@ -110,7 +110,7 @@ module _ (m : MpuPacket) (q : Bytes) (at : ℕ) (l : Bytes) where
             mpu = g.mpu;
             rap = g.rap;
             mfu = g.mfu;
-            item_id_of = g.item_id_of;
+            item_id = g.item_id;
             bytes = append_assoc g.bytes (part_of q u.«data») (data_in q us) i;
           }))
       go false k again = true_not_false true refl (sym h ∙ ap is_some (middle_none us (after_unit a (unit_effect m a (unit_as Middle q u))) k))

@@ -14,7 +14,7 @@ use Rattle.isdb_mmt.specs.Memory.Layout.{control_places, control_size, media_pla
 use Rattle.isdb_mmt.specs.Memory.Lent.{part, names_from, found_from, indexed}
 use Rattle.isdb_mmt.specs.Memory.Session.{Session, limits_of, used_of, latest_of, time_of, counters_of, control_fields}
 use Rattle.isdb_mmt.specs.Memory.Check.{media_in, controls_in, sections_in, control_sound, lengths_of, Sound}
-use Rattle.isdb_mmt.specs.Memory.View.{given, control_state_of_lem, asset_entry, control_entry, section_entry, kept_table_at, view_by, view}
+use Rattle.isdb_mmt.specs.Memory.View.{given, control_state_in, asset_entry, control_entry, section_entry, kept_table_at, view_by, view}
 use Rattle.isdb_mmt.specs.Memory.Opening.{lent}
 use Rattle.isdb_mmt.specs.Pushes.MediaPush.{with_used}
 use Rattle.isdb_mmt.specs.Memory.PlacesOf.{table_length, long_in, aggregated_in, control_for, latest_for}
@@ -77,8 +77,8 @@ says s s' n h =
 
 -- bytes that its flags do not speak of do not matter
 control_bytes : (c : Control) (a b m t : Bytes) → (c.joining ≡ true → a ≡ b) → (c.mpt ≡ true → m ≡ t)
-    → control_state_of_lem c a m ≡ control_state_of_lem c b t
-unfolding control_state_of_lem
+    → control_state_in c a m ≡ control_state_in c b t
+unfolding control_state_in
 control_bytes c a b m t e f =
     let p : given c.joining (join_of c.long_length c.aggregated a) ≡ given c.joining (join_of c.long_length c.aggregated b) =
     either c.joining (λ y. rw (e y)) (λ y. rw y) in
@@ -358,7 +358,7 @@ module _ (s : Session) (ok : Sound s.state s.others (lengths_of s)) where
     in_messages = whole_area i l.control_ids l.message_area (length s.messages) free ranges.messages
 
     own_entry : control_entry l s2 (0 + i) (control_for id c) ≡ (id, c)
-    unfolding control_for control_state_of_lem
+    unfolding control_for control_state_in
     own_entry =
         let z : 0 + i ≡ i = omega arith in
         let pj = join_laid c.reassembly.partial l.message_area i s.messages joins in_messages in

@@ -9,7 +9,7 @@ use Rattle.isdb_tlv.proofs.Numbers.{be_lt}
 use Rattle.isdb_mmt.specs.Memory.Layout.{most_message_area, most_table_area, most_count}
 use Rattle.isdb_mmt.specs.Decoder.Packet.{Bytes}
 use Rattle.isdb_mmt.specs.Formats.Part.{part_of}
-use Rattle.isdb_mmt.specs.Formats.Message.{Aggregated, prefix_width, aggregated_at, aggregated_item, aggregated_from, content_of_lem, pa_tables, section_table, body_part, table_at, table_item, tables_from}
+use Rattle.isdb_mmt.specs.Formats.Message.{Aggregated, prefix_width, aggregated_at, aggregated_item, aggregated_from, content_of, pa_tables, section_table, body_part, table_at, table_item, tables_from}
 use Rattle.isdb_mmt.specs.Decoder.Reassembly.{messages_of, parts_of, tables_in, tables_of, tables_of_all, cut_of}
 use Rattle.isdb_mmt.specs.Decoder.Kept.{table_read}
 use Rattle.isdb_mmt.specs.declared.part.Part.{Part}
@@ -169,8 +169,8 @@ ContentIn m nothing = Unit {0}
 ContentIn m (one_table_of p) = (p.start + p.length ≤ length m) × (p.length ≤ most_table_area)
 ContentIn m (Tables body k) = body.start + body.length ≤ length m
 
-content_in : (m : Bytes) → ((i : ℕ) → Fits w8 (get_or m i 0)) → ContentIn m (content_of_lem m)
-unfolding content_of_lem pa_tables section_table
+content_in : (m : Bytes) → ((i : ℕ) → Fits w8 (get_or m i 0)) → ContentIn m (content_of m)
+unfolding content_of pa_tables section_table
 content_in m h =
     cond_elim (ContentIn m) (length m <? 2) (λ e. tt) (λ e0.
     cond_elim (ContentIn m) (be 2 m 0 =? 0x0000)
@@ -193,7 +193,7 @@ content_in m h =
     (λ e3. tt))))
 
 module _ (ix log others : List ℕ) (g : WalkState) (a b : Bytes) (from : ℕ) (can : CanWalk ix log others g (a ++ b) from (2 * most_count))
-    (c : Content) (ec : c ≡ content_of_lem (a ++ b)) where
+    (c : Content) (ec : c ≡ content_of (a ++ b)) where
   abbrev m : Bytes
   m = a ++ b
 

@@ -15,7 +15,7 @@ use Rattle.isdb_mmt.proofs.Every.{distinct_put}
 pub record Named (l : Limits) (s : State) : Type 0 where
   pub media_names : distinct (keys s.assets) ≡ true
   pub control_names : distinct (keys s.controls) ≡ true
-  pub kept_names_lem : distinct (keys s.store.kept) ≡ true
+  pub kept_names : distinct (keys s.store.kept) ≡ true
   pub media : length s.assets ≤ l.media_ids
   pub lines : length s.controls ≤ l.control_ids
   pub sections : length s.store.kept ≤ l.sections
@@ -23,8 +23,8 @@ pub record Named (l : Limits) (s : State) : Type 0 where
 -- what the questions say of a state and a packet
 pub record Takes (l : Limits) (s : State) (p : Packet) : Type 0 where
   pub packets : s.counters.tlv_packets < l.packets
-  pub media : length s.assets + (needs s p).media_ids_of ≤ l.media_ids
-  pub lines : length s.controls + (needs s p).control_ids_of ≤ l.control_ids
+  pub media : length s.assets + (needs s p).media_ids ≤ l.media_ids
+  pub lines : length s.controls + (needs s p).control_ids ≤ l.control_ids
   pub sections : length s.store.kept + (needs s p).sections ≤ l.sections
   pub object : (needs s p).object ≤ l.mfu_area
   pub message : (needs s p).message ≤ l.message_area
@@ -95,7 +95,7 @@ named_push l s p h t =
     record {
       media_names = media_names_lem s p h.media_names;
       control_names = control_names_lem s p h.control_names;
-      kept_names_lem = kept_names s p h.kept_names_lem;
+      kept_names = kept_names s p h.kept_names;
       media = omega (arith, t.media);
       lines = omega (arith, t.lines);
       sections = omega (arith, t.sections);

@@ -10,7 +10,7 @@ use Rattle.isdb_mmt.specs.Memory.Session.{Session}
 use Rattle.isdb_mmt.specs.Memory.Check.{sound}
 use Rattle.isdb_mmt.specs.Memory.View.{view}
 use Rattle.isdb_mmt.specs.Memory.Octets.{Lent}
-use Rattle.isdb_mmt.specs.Answers.Readings.{table_id_of_lem, asset_read}
+use Rattle.isdb_mmt.specs.Answers.Readings.{table_id_of_key, asset_read}
 use Rattle.isdb_mmt.specs.Answers.TableReadingLaws.{says_of, hands_out, section_bytes, mpt_bytes, says_asset, AnswerIs, Damaged, AsKept}
 use Rattle.isdb_mmt.specs.declared.decoder.readings.AssetReading.{AssetReading}
 use Rattle.isdb_mmt.specs.declared.decoder.readings.AssetReading.TheVariants.{Refused as asset_refused}
@@ -46,14 +46,14 @@ parsed_good parses (some x) h b e = let q : x ≡ b = cc in subst (λ (y : Bytes
 
 -- a state of the model whose tables parse, as packets leave it
 module _ (v : State) (n : ℕ) (r : Ready n v) where
-  section_good : (k : ℕ) → Good (parses_as (table_id_of_lem k)) (section_bytes (find k v.store.kept))
+  section_good : (k : ℕ) → Good (parses_as (table_id_of_key k)) (section_bytes (find k v.store.kept))
   section_good k = go (find k v.store.kept) refl
     where
-      go : (o : Option Kept) → find k v.store.kept ≡ o → Good (parses_as (table_id_of_lem k)) (section_bytes o)
+      go : (o : Option Kept) → find k v.store.kept ≡ o → Good (parses_as (table_id_of_key k)) (section_bytes o)
       go none f b e = absurd (none_some b e)
       go (some x) f b e =
           let q : x.bytes ≡ b = cc in
-          subst (λ (y : Bytes). parses_as (table_id_of_lem k) y ≡ true) q
+          subst (λ (y : Bytes). parses_as (table_id_of_key k) y ≡ true) q
           (every_find KeptParses v.store.kept r.store.kept k x f)
 
   mpt_good : (id : ℕ) → Good mpt_good_lem (mpt_bytes (find id v.controls))
@@ -75,8 +75,8 @@ module _ (v : State) (n : ℕ) (r : Ready n v) where
         section =
             λ i.
             (k.section i).says
-            ∙ ap (λ (w : State). says_of (parses_as (table_id_of_lem i)) (section_bytes (find i w.store.kept))) e
-            ∙ handed_whole (parses_as (table_id_of_lem i)) (section_bytes (find i v.store.kept)) (section_good i);
+            ∙ ap (λ (w : State). says_of (parses_as (table_id_of_key i)) (section_bytes (find i w.store.kept))) e
+            ∙ handed_whole (parses_as (table_id_of_key i)) (section_bytes (find i v.store.kept)) (section_good i);
         mpt =
             λ i.
             (k.mpt i).says

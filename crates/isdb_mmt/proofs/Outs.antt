@@ -78,7 +78,7 @@ ItemOk (some_u32 i) = i < 4294967296
 pub record ObjectOk (h : Mfu) : Type 0 where
   pub mpu : h.mpu < 4294967296
   pub mfu : MfuOk h.mfu
-  pub item_id_of : ItemOk h.item_id_of
+  pub item_id : ItemOk h.item_id
   pub octets : Octets h.bytes
 
 abbrev pub HeldOk : Option Mfu → Type 0
@@ -90,7 +90,7 @@ AllOk hs = All ObjectOk hs
 
 pub record PayloadUnitOk (u : PayloadUnit) : Type 0 where
   pub mfu : MfuOk u.mfu
-  pub item_id_of : ItemOk u.item_id_of
+  pub item_id : ItemOk u.item_id
   pub octets : Octets u.bytes
 
 abbrev pub AllPayloadUnits : List PayloadUnit → Type 0
@@ -180,7 +180,7 @@ units_within m (u ∷ us) a =
 
 grown_ok : (h : Mfu) (d : Bytes) → ObjectOk h → Octets d → ObjectOk (grown h d)
 unfolding grown
-grown_ok h d o q = record { mpu = o.mpu; mfu = o.mfu; item_id_of = o.item_id_of; octets = octets_append h.bytes d o.octets q }
+grown_ok h d o q = record { mpu = o.mpu; mfu = o.mfu; item_id = o.item_id; octets = octets_append h.bytes d o.octets q }
 
 record DidOk (r : UnitEffect) : Type 0 where
   held : HeldOk r.held
@@ -203,7 +203,7 @@ unit_ok Last (some h) u p q = on_ok (leb (length h.bytes + length u.bytes) most_
 
 begun_ok : (m : MpuPacket) (u : PayloadUnit) → mpu_number m.header < 4294967296 → PayloadUnitOk u → ObjectOk (object_of m u)
 unfolding object_of
-begun_ok m u n p = record { mpu = n; mfu = p.mfu; item_id_of = p.item_id_of; octets = p.octets }
+begun_ok m u n p = record { mpu = n; mfu = p.mfu; item_id = p.item_id; octets = p.octets }
 
 -- what units leave held
 pub held_after : (m : MpuPacket) (us : List PayloadUnit) (a : Asset) → mpu_number m.header < 4294967296 → HeldOk a.held → AllPayloadUnits us
@@ -245,7 +245,7 @@ object_fits h o n =
               q.sample,
               (
                 q.offset,
-                (q.priority, (q.dependency, (flag_small (has_u32 h.item_id_of), (item_fits h.item_id_of o.item_id_of, (n, tt))))),
+                (q.priority, (q.dependency, (flag_small (has_u32 h.item_id), (item_fits h.item_id o.item_id, (n, tt))))),
               ),
             ),
           ),
@@ -257,7 +257,7 @@ row_fits : (r : Rec) (at : ℕ) → r.id < 65536 → ObjectOk r.mfu → at < 429
 row_fits r at i o a n =
     let h = header_fits r.mfu.mfu o.mfu in
     let q : row_flags r.scrambled (object_for r.mfu) < 256 =
-    omega (arith, flag_le r.mfu.rap, flag_le r.scrambled, flag_le (has_header r.mfu.mfu), flag_le (has_u32 r.mfu.item_id_of)) in (
+    omega (arith, flag_le r.mfu.rap, flag_le r.scrambled, flag_le (has_header r.mfu.mfu), flag_le (has_u32 r.mfu.item_id)) in (
       i,
       (
         q,
@@ -273,7 +273,7 @@ row_fits r at i o a n =
                   h.offset,
                   (
                     h.priority,
-                    (h.dependency, (omega arith, (item_fits r.mfu.item_id_of o.item_id_of, (a, (n, tt))))),
+                    (h.dependency, (omega arith, (item_fits r.mfu.item_id o.item_id, (a, (n, tt))))),
                   ),
                 ),
               ),
@@ -297,7 +297,7 @@ pub record MediaOk (m : MpuPacket) : Type 0 where
   pub id : m.id < 65536
   pub number : m.number < 4294967296
   pub mpu : mpu_number m.header < 4294967296
-  pub payload_units_lem : AllPayloadUnits (readable m)
+  pub payload_units : AllPayloadUnits (readable m)
   pub long : unit_bytes (readable m) < 65536
   pub raw : length m.raw < 65536
   pub octets : Octets m.raw
@@ -309,12 +309,12 @@ gives_fit pass a m o h n =
     let us = delivered_by m (after_headers a m) (readable m) in
     let w = units_within m (readable m) (after_headers a m) in
     let gone : HeldOk (after_headers a m).held = cond_elim HeldOk (gap a.number m.number) (λ e. tt) (λ e. h) in
-    let k = units_ok m (readable m) (after_headers a m) o.mpu gone o.payload_units_lem in
+    let k = units_ok m (readable m) (after_headers a m) o.mpu gone o.payload_units in
     cond_elim (λ (rs : List Rec). AllFit 0 (rs ++ tagged m.id us)) (pass && (m.scrambled && is_some m.header))
     (λ e. (
       row_fits
-          (record { id = m.id; scrambled = true; mfu = record { mpu = mpu_number m.header; rap = m.rap; mfu = no_mfu; item_id_of = no_u32; bytes = m.raw } })
-          0 o.id (record { mpu = o.mpu; mfu = tt; item_id_of = tt; octets = o.octets }) (omega arith) (omega (arith, o.raw)),
+          (record { id = m.id; scrambled = true; mfu = record { mpu = mpu_number m.header; rap = m.rap; mfu = no_mfu; item_id = no_u32; bytes = m.raw } })
+          0 o.id (record { mpu = o.mpu; mfu = tt; item_id = tt; octets = o.octets }) (omega arith) (omega (arith, o.raw)),
       rows_fit m.id o.id us (0 + length m.raw) k (omega (arith, w, o.long, o.raw)),
     ))
     (λ e. rows_fit m.id o.id us 0 k (omega (arith, w, o.long)))
@@ -336,7 +336,7 @@ module _ {R : Type 0} (P : R → Type 0) where
 
 record UnitOk (u : DataUnit) : Type 0 where
   mfu : MfuOk u.mfu
-  item_id_of : ItemOk u.item_id
+  item_id : ItemOk u.item_id
 
 abbrev AllUnits : Option (List DataUnit) → Type 0
 AllUnits none = Unit {0}
@@ -367,9 +367,9 @@ module _ (s : Bytes) (o : Octets s) (timed aggregated : Bool) where
       (λ e. cond_elim StepOk (ltb (end - at) 14) (λ e. tt) (λ e.
       record {
         mfu = record { fragment = be_small q w 4 0; sample = be_small q w 4 4; offset = be_small q w 4 8; priority = w 12; dependency = w 13 };
-        item_id_of = tt;
+        item_id = tt;
       }))
-      (λ e. cond_elim StepOk (ltb (end - at) 4) (λ e. tt) (λ e. record { mfu = tt; item_id_of = be_small q w 4 0 }))
+      (λ e. cond_elim StepOk (ltb (end - at) 4) (λ e. tt) (λ e. record { mfu = tt; item_id = be_small q w 4 0 }))
 
   at_ok : (at : ℕ) → StepOk (unit_at s timed aggregated at)
   unfolding unit_at
@@ -407,7 +407,7 @@ payload_units_ok h q o [] a = tt
 payload_units_ok h q o (u ∷ us) a = (
   record {
     mfu = a.0.mfu;
-    item_id_of = a.0.item_id_of;
+    item_id = a.0.item_id;
     octets = octets_take u.«data».length (drop u.«data».start q) (octets_drop u.«data».start q o);
   },
   payload_units_ok h q o us a.1,
@@ -419,16 +419,16 @@ payload_units_long h q (u ∷ us) = omega (arith, payload_units_long h q us, len
 
 -- the units that are taken
 record ClearOk (us : List PayloadUnit) : Type 0 where
-  payload_units_lem : AllPayloadUnits us
+  payload_units : AllPayloadUnits us
   long : unit_bytes us < 65536
 
 no_units : ClearOk []
-no_units = record { payload_units_lem = tt; long = omega arith }
+no_units = record { payload_units = tt; long = omega arith }
 
 clear_payload_units : (h : PayloadHeader) (q : Bytes) → Octets q → (r : Option (List DataUnit)) → AllUnits r → data_bytes r < 65536 → ClearOk (clear false (payload_units h q r))
 unfolding clear
 clear_payload_units h q o none a l = no_units
-clear_payload_units h q o (some us) a l = record { payload_units_lem = payload_units_ok h q o us a; long = omega (arith, payload_units_long h q us) }
+clear_payload_units h q o (some us) a l = record { payload_units = payload_units_ok h q o us a; long = omega (arith, payload_units_long h q us) }
 
 clear_units : (h : PayloadHeader) (t : FragmentType) (q : Bytes) → length q < 65536 → Octets q → ClearOk (clear false (units_for h t q))
 unfolding clear
@@ -459,7 +459,7 @@ media_ok : (h : Header) (payload : Bytes) → h.packet_id < 65536 → h.sequence
 unfolding media_of readable
 media_ok h payload i n l o =
     let c = clear_read h.scramble_info payload (header_in (payload_header payload)) l o in
-    record { id = i; number = n; mpu = mpu_small payload o; payload_units_lem = c.payload_units_lem; long = c.long; raw = omega (arith, length-drop 8 payload); octets = octets_drop 8 payload o }
+    record { id = i; number = n; mpu = mpu_small payload o; payload_units = c.payload_units; long = c.long; raw = omega (arith, length-drop 8 payload); octets = octets_drop 8 payload o }
 
 -- a timestamp of 8 bytes, where there is one
 abbrev pub TimeOk : Option ℕ → Type 0

@@ -16,7 +16,7 @@ use Rattle.isdb_mmt.specs.Memory.Session.{Session, limits_of, used_of, latest_of
 use Rattle.isdb_mmt.specs.Memory.Check.{media_in, controls_in, sections_in, lengths_of, sound, Sound}
 use Rattle.isdb_mmt.specs.Memory.View.{given, asset_entry, control_entry, section_entry, kept_table_at, view_by, view}
 use Rattle.isdb_mmt.specs.Memory.Opening.{lent}
-use Rattle.isdb_mmt.specs.Pushes.MediaPush.{place_for_of_lem, asset_next}
+use Rattle.isdb_mmt.specs.Pushes.MediaPush.{place_for_asset, asset_next}
 use Rattle.isdb_mmt.specs.Memory.PlacesOf.{table_length, control_for}
 use Rattle.isdb_mmt.specs.Pushes.Leaves.{with_time, with_counters, counted_in, time_leaves, control_leaves, message_in, control_place_for, message_at, message_leaves, packet_leaves}
 use Rattle.isdb_mmt.specs.Pushes.Push.{Input, packet_of, has_places, has_areas, has_outputs, asks_of, asks_later, asks, Fits, Taken}
@@ -94,7 +94,7 @@ Stores s non_mmtp_of = CountersFit (pushed (view s) non_mmtp_of)
 Stores s other = CountersFit (pushed (view s) other)
 Stores s (ntp none) = CountersFit (pushed (view s) (ntp none))
 Stores s (ntp (some t)) = CountersFit (pushed (view s) (ntp (some t))) × (t < 256 ^ 8)
-Stores s (media m) = Fit (media_fields (place_for_of_lem m.id (asset_next s m)))
+Stores s (media m) = Fit (media_fields (place_for_asset m.id (asset_next s m)))
 Stores s (message c) = MessageFits (limits_of s.state) c.id (pushed (view s) (message c))
 Stores s (control bs) = TablesFit (limits_of s.state) (pushed (view s) (control bs))
 

@@ -20,7 +20,7 @@ use Rattle.isdb_mmt.specs.Decoder.Needs.{held_length, partial_length, units_need
 use Rattle.isdb_mmt.specs.Memory.Layout.{most_mfu_area, most_message_area, most_table_area}
 use Rattle.isdb_mmt.specs.Memory.Session.{number_fields, object_fields, stats_fields, media_fields, control_fields, section_fields, counters_fields}
 use Rattle.isdb_mmt.specs.Memory.Octets.{Octets}
-use Rattle.isdb_mmt.specs.Memory.PlacesOf.{no_object, held_for, first_in, place_for_of_lem, table_length, control_for, section_for}
+use Rattle.isdb_mmt.specs.Memory.PlacesOf.{no_object, held_for, first_in, place_for_asset, table_length, control_for, section_for}
 use Rattle.isdb_mmt.specs.declared.mpu.PayloadHeader.{PayloadHeader}
 use Rattle.isdb_mmt.specs.declared.table.section.LongSection.{LongSection}
 use Rattle.isdb_mmt.proofs.Every.{Every, every_put}
@@ -99,7 +99,7 @@ asset_after_lem area n a m h o q k =
       number = rw s.number o.number;
       mpu = rw s.mpu (mpu_after_lem a.mpu m.header h.mpu o.mpu);
       first = rw s.range (range_first (new_mpu a.mpu (mpu_in m.header)) a.range m.header h.first o.mpu);
-      held = held_after m (readable m) (after_headers a m) o.mpu gone o.payload_units_lem;
+      held = held_after m (readable m) (after_headers a m) o.mpu gone o.payload_units;
     }
 
 zero_object : Fit (object_fields no_object)
@@ -125,10 +125,10 @@ held_fits area w none h l = zero_object
 held_fits area w (some h) o l = object_fits h o (omega arith)
 
 pub asset_place : (area n id : ℕ) (a : Asset) → area ≤ most_mfu_area → n < 18446744073709551616 → id < 4294967296 → AssetOk area n a
-    → Fit (media_fields (place_for_of_lem id a))
-unfolding place_for_of_lem
+    → Fit (media_fields (place_for_asset id a))
+unfolding place_for_asset
 asset_place area n id a w c i h =
-    let p = place_for_of_lem id a in
+    let p = place_for_asset id a in
     let k = h.counts in
     let numbers : Fit (number_fields p) = (
       i,
@@ -149,7 +149,7 @@ asset_place area n id a w c i h =
           (
             omega (arith, k.counts.mfus),
             (
-              omega (arith, k.counts.scrambled_mfus_of),
+              omega (arith, k.counts.scrambled_mfus),
               (
                 omega (arith, k.counts.dropped),
                 (omega (arith, k.counts.mpus), (omega (arith, k.counts.jumps), (omega (arith, k.counts.malformed), tt))),

@@ -10,7 +10,7 @@ use Rattle.isdb_mmt.specs.Memory.View.{given, header_given, item_given, mfu_of, 
 use Rattle.isdb_mmt.specs.Formats.Maybe.{has_u32, number_u32}
 use Rattle.isdb_mmt.specs.Formats.Mpu.{has_header, header_or}
 use Rattle.isdb_mmt.specs.Pushes.Records.{object_for}
-use Rattle.isdb_mmt.specs.Pushes.MediaPush.{no_object, held_for, first_in, place_for_of_lem}
+use Rattle.isdb_mmt.specs.Pushes.MediaPush.{no_object, held_for, first_in, place_for_asset}
 use Rattle.isdb_mmt.specs.Pushes.MediaPlace.{gap_in, lost_in, header_if, item_if, normal_object, begun, start_of, new_in, jump_in, seen_mpu, last_mpu, first_mpu_of, completes_in, adds_of, summed, stats_after, place_after_of}
 use Rattle.isdb_mmt.specs.declared.mpu.MfuHeader.{MfuHeader}
 use Rattle.isdb_mmt.specs.declared.mpu.PayloadHeader.{PayloadHeader}
@@ -210,8 +210,8 @@ module _ (id : ℕ) (p : Media) (b : Bytes) (m : MpuPacket) (long : p.held ≡ t
         let x : (asset_after before m).stats.mfus_dropped ≡ (after_units m (after_headers before m) (readable m)).stats.mfus_dropped = after_dropped before m in
         omega (arith, w.drops, d, e, x)
 
-    pub place_told : place_after_of id p m.number m.scrambled h bad t ≡ place_for_of_lem id (asset_after before m)
-    unfolding place_after_of stats_after summed adds_of place_for_of_lem asset_after after_headers asset_of_place is_some or_else
+    pub place_told : place_after_of id p m.number m.scrambled h bad t ≡ place_for_asset id (asset_after before m)
+    unfolding place_after_of stats_after summed adds_of place_for_asset asset_after after_headers asset_of_place is_some or_else
     place_told =
         let k = units_keep m (readable m) (after_headers before m) in
         let e0 : seen_mpu p h ≡ is_some (mpu_after before.mpu (mpu_in m.header)) =
@@ -228,7 +228,7 @@ module _ (id : ℕ) (p : Media) (b : Bytes) (m : MpuPacket) (long : p.held ≡ t
         let e6 = lost_is p b m.number in
         let e7 = mfus_after in
         let e8 = dropped_after in
-        subst (λ (x : Asset). place_after_of id p m.number m.scrambled h bad t ≡ place_for_of_lem id x) (sym k)
+        subst (λ (x : Asset). place_after_of id p m.number m.scrambled h bad t ≡ place_for_asset id x) (sym k)
         (λ i.
         record {
           packet_id = id;

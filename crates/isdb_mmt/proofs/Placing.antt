@@ -7,7 +7,7 @@ use Rattle.isdb_tlv.proofs.Guards.{either}
 use Rattle.isdb_mmt.specs.Formats.Part.{part_of}
 use Rattle.isdb_mmt.specs.Memory.Lent.{part}
 use Rattle.isdb_mmt.specs.Decoder.Packet.{Bytes}
-use Rattle.isdb_mmt.specs.Formats.Message.{content_of_lem, tables_from}
+use Rattle.isdb_mmt.specs.Formats.Message.{content_of, tables_from}
 use Rattle.isdb_mmt.specs.Decoder.Reassembly.{PartialMessage, messages_of, tables_in, tables_of, tables_of_all, parts_of, cut_of}
 use Rattle.isdb_mmt.specs.declared.part.Part.{Part}
 use Rattle.isdb_mmt.specs.declared.message.Content.{Content}
@@ -33,7 +33,7 @@ bytes_in_lem from m (Tables body at) =
 
 bytes_of : (from : ℕ) (m : Bytes) → table_bytes (placed_of from m) ≡ (tables_of m).tables
 unfolding placed_of tables_of
-bytes_of from m = bytes_in_lem from m (content_of_lem m)
+bytes_of from m = bytes_in_lem from m (content_of m)
 
 bytes_all : (b : Bytes) (ps : List Part) → table_bytes (placed_of_all b ps) ≡ (tables_of_all (parts_of b ps)).tables
 unfolding placed_of_all tables_of_all
@@ -93,7 +93,7 @@ in_located m at b h (Tables body from) =
 
 of_located : (m : Bytes) (at : ℕ) (b : Bytes) → PlacedAt m at b → AllPlaced m (placed_of at b)
 unfolding placed_of
-of_located m at b h = in_located m at b h (content_of_lem b)
+of_located m at b h = in_located m at b h (content_of b)
 
 all_located : (m : Bytes) (ps : List Part) → AllPlaced m (placed_of_all m ps)
 unfolding placed_of_all

@@ -65,15 +65,15 @@ module _ (m : Media) (n mpu : ℕ) (next : is_next m n mpu ≡ true) (x : Payloa
 
   none_new : new_in m (payload x) ≡ false
   unfolding new_in
-  none_new = rw (facts.mpu_seen_lem, eq-eqb x.mpu_sequence_number m.mpu (ex ∙ sym facts.same))
+  none_new = rw (facts.mpu_seen, eq-eqb x.mpu_sequence_number m.mpu (ex ∙ sym facts.same))
 
   no_jump : jump_in m (payload x) ≡ false
   unfolding jump_in
-  no_jump = rw (facts.mpu_seen_lem, eq-eqb x.mpu_sequence_number m.mpu (ex ∙ sym facts.same))
+  no_jump = rw (facts.mpu_seen, eq-eqb x.mpu_sequence_number m.mpu (ex ∙ sym facts.same))
 
   first_is : first_mpu_of m (payload x) ≡ m.first_mpu
   unfolding first_mpu_of
-  first_is = rw facts.mpu_seen_lem
+  first_is = rw facts.mpu_seen
 
   pub more : (a b : ℕ) → b ≡ 0 → a + b ≡ a
   more a b e = omega arith
@@ -351,7 +351,7 @@ module _ (q rows out : Bytes) (can : RoomForUnit q rows out) (mpu id : ℕ) (rap
         let o : object_for rec.mfu ≡ told (be 4 q 8) (be 4 q 12) (be 4 q 16) =
         λ i. record { mpu_sequence_number = mpu; rap = rap; timed = true; header = header_at q can.long i; item = false; item_id = 0; length = length (sym data_is i) } in
         record {
-          rows_are_of = er ∙ ap (λ (z : Object). over 0 (written (row_fields id false z 0)) rows) (sym o)
+          rows_are = er ∙ ap (λ (z : Object). over 0 (written (row_fields id false z 0)) rows) (sym o)
               ∙ ap (λ (z : Bytes). over 0 z rows) (sym (one_row rec)) ∙ ap (λ (z : List Rec). over 0 (rows_from 0 z) rows) (sym recs_are);
           data_are = eo ∙ ap (λ (z : Bytes). over 0 z out) (data_is ∙ sym (one_data rec)) ∙ ap (λ (z : List Rec). over 0 (data_from z) out) (sym recs_are);
         }

@@ -7,7 +7,7 @@ use Rattle.isdb_tlv.proofs.Numbers.{length_put_be}
 use Rattle.isdb_tlv.proofs.Fields.{length_written}
 use Rattle.isdb_mmt.specs.Memory.Layout.{counters_place, media_places, media_size, held_place, object_place, stats_place}
 use Rattle.isdb_mmt.specs.Memory.Lent.{part, over, flag, flag_byte}
-use Rattle.isdb_mmt.specs.Memory.Session.{counters_of, held_object_of_lem, stats_of, media_place_of, media_fields, media_at}
+use Rattle.isdb_mmt.specs.Memory.Session.{counters_of, held_object_at, stats_of, media_place_of, media_fields, media_at}
 use Rattle.isdb_mmt.specs.Memory.Octets.{Octets}
 use Rattle.isdb_mmt.specs.Pushes.MediaPush.{with_packets}
 use Rattle.isdb_mmt.specs.Pushes.MediaCommit.{state_after}
@@ -135,7 +135,7 @@ module _ (p : List ℕ) (n k : ℕ) (rap : Bool) (er : rap ≡ flag p (object_pl
         first_steps ++ (store 8 (be 8 p stats_place + 1) ∷ leave 8 ∷ leave 8 ∷ leave 8 ∷ leave 8 ∷ leave 8 ∷ leave 8 ∷ leave 8 ∷ leave 8 ∷ [])
 
     grown_fields : standing 0 all_steps_lem p ≡ media_fields (grown_of (media_place_of p) n k)
-    unfolding grown_of media_place_of held_object_of_lem stats_of
+    unfolding grown_of media_place_of held_object_at stats_of
     grown_fields = refl
 
     pub stored_grown : (l6 : List ℕ) → l6 ≡ puts stats_place (field 8 (be 8 l5 stats_place + 1) ∷ []) l5

@@ -9,7 +9,7 @@ use Rattle.isdb_tlv.proofs.Guards.{either}
 use Rattle.isdb_tlv.specs.Walk.{also}
 use Rattle.isdb_tlv.specs.Tlv.{packet_type}
 use Rattle.isdb_tlv.specs.Ip.{datagram, context_id, compressed_of}
-use Rattle.isdb_tlv.specs.Mmtp.{payload_type_of, after_fixed, header_of_lem, mmtp_of}
+use Rattle.isdb_tlv.specs.Mmtp.{payload_type_of, after_fixed, header_of, mmtp_of}
 use Rattle.isdb_tlv.specs.declared.tlv.PacketType.TheVariants.{Compressed}
 use Rattle.isdb_tlv.specs.declared.ip.MaybeFlow.TheVariants.{None as no_flow_of}
 use Rattle.isdb_tlv.specs.declared.ip.MaybeContext.TheVariants.{Some as some_context}
@@ -22,7 +22,7 @@ use Rattle.isdb_mmt.specs.Formats.Part.{part_of}
 use Rattle.isdb_mmt.specs.Formats.Mpu.{fragment_type_of, indicator, payload_header_fields, payload_header, declared_of, mfu_at, timed_unit, unit_in, unit_at, unit_step, units_from, units_of, follows}
 use Rattle.isdb_mmt.specs.Memory.Layout.{most_media_ids, used_place, media_places, media_size, held_place, object_place}
 use Rattle.isdb_mmt.specs.Memory.Lent.{flag, names_from, found_from}
-use Rattle.isdb_mmt.specs.Memory.Session.{limits_of, used_of, held_object_of_lem, media_place_of, media_at}
+use Rattle.isdb_mmt.specs.Memory.Session.{limits_of, used_of, held_object_at, media_place_of, media_at}
 use Rattle.isdb_mmt.specs.Memory.Check.{PlacesThere}
 use Rattle.isdb_mmt.specs.Pushes.MediaPush.{media_place_for}
 use Rattle.isdb_mmt.specs.Pushes.Plain.{payload_start, whole_unit, middle_part, is_mpu, is_unit, is_next, growing, plain_header, NextAt, FreeHeader, CanGrow, GrownAt}
@@ -116,7 +116,7 @@ module _ (kind : ℕ) (b : Bytes) (f : MpuFacts kind b) where
   flags = get_or b 3 0
 
   abbrev read : Header
-  read = header_of_lem (drop 3 b) flags Absent
+  read = header_of (drop 3 b) flags Absent
 
   mmtp_read : mmtp_of (drop 3 b) ≡ some_packet (record { header = read; start = 12 })
   unfolding mmtp_of after_fixed
@@ -287,7 +287,7 @@ module _ (p : List ℕ) (n mpu : ℕ) (x : Bool) (ex : x ≡ flag p 4) where
 
 pub record NextFacts (m : Media) (n mpu : ℕ) : Type 0 where
   pub seen : m.seen ≡ true
-  pub mpu_seen_lem : m.mpu_seen ≡ true
+  pub mpu_seen : m.mpu_seen ≡ true
   pub same : m.mpu ≡ mpu
   pub follows_on : follows m.sequence n ≡ true
 
@@ -297,7 +297,7 @@ next_facts m n mpu e =
     let a1 = was_guarded m.seen _ e in
     let a2 = was_guarded m.mpu_seen _ a1.1 in
     let a3 = was_guarded (eqb m.mpu mpu) _ a2.1 in
-    record { seen = a1.0; mpu_seen_lem = a2.0; same = eqb-true m.mpu mpu a3.0; follows_on = a3.1 }
+    record { seen = a1.0; mpu_seen = a2.0; same = eqb-true m.mpu mpu a3.0; follows_on = a3.1 }
 
 pub next_index : (l : List ℕ) (id n mpu i : ℕ) (f : Found) → NextAt l id n mpu f → f ≡ At i → i < most_media_ids
 next_index l id n mpu i f w e = let h : NextAt l id n mpu (At i) = rw e at w in h.1.1
@@ -305,16 +305,16 @@ next_index l id n mpu i f w e = let h : NextAt l id n mpu (At i) = rw e at w in 
 -- the object that it holds
 module _ (p : List ℕ) (x : Bool) (ex : x ≡ flag p held_place) where
   pub none_held : not x ≡ true → false ≡ growing (media_place_of p)
-  unfolding growing media_place_of held_object_of_lem
+  unfolding growing media_place_of held_object_at
   none_held t = rw (no ex t)
 
   module _ (t : not x ≡ false) (y : Bool) (ey : y ≡ flag p (object_place + 5)) where
     pub not_timed : not y ≡ true → false ≡ growing (media_place_of p)
-    unfolding growing media_place_of held_object_of_lem
+    unfolding growing media_place_of held_object_at
     not_timed u = rw (yes ex t, no ey u)
 
     pub by_item : not y ≡ false → (z : Bool) → z ≡ flag p (object_place + 20) → not z ≡ growing (media_place_of p)
-    unfolding growing media_place_of held_object_of_lem
+    unfolding growing media_place_of held_object_at
     by_item u z ez = rw (yes ex t, yes ey u, ez)
 
 pub record GrowingFacts (m : Media) : Type 0 where
@@ -341,7 +341,7 @@ module _ (l : List ℕ) (i n : ℕ) (can : CanGrow l i n) (p : List ℕ) (ep : p
   length_cast = record { fits = omega (arith, ea, can.area, h) }
 
   pub has_grown : GrownAt l i n (some_u32 (o + n))
-  unfolding limits_of media_place_of held_object_of_lem
+  unfolding limits_of media_place_of held_object_at
   has_grown = (
     ap (λ (v : List ℕ). growing (media_place_of v)) (sym ep) ∙ yes er t,
     (ap (λ v. v + n) (eo ∙ ap (λ (v : List ℕ). be 4 v (object_place + 25)) ep), omega (arith, ea, h)),

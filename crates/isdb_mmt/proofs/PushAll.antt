@@ -89,7 +89,7 @@ module _ (s : Session) (kind : ℕ) (b : Bytes) (first : ℕ) (rows : Bytes) (st
         number = h'.number;
         records = ap (λ (y : Reply). y.records) d.replies;
         bytes = ap (λ (y : Reply). y.bytes) d.replies;
-        rows_are_of = rest_put first rows m ∙ ap (λ (y : Reply). take first rows ++ y.rows) d.replies;
+        rows_are = rest_put first rows m ∙ ap (λ (y : Reply). take first rows ++ y.rows) d.replies;
         data_are = rest_put start out n ∙ ap (λ (y : Reply). take start out ++ y.out) d.replies;
       }
 
@@ -116,7 +116,7 @@ module _ (known : Bool) (c : Run) (p : TlvPacket) (h : HasRest known c) where
           taken = λ _ i.
               record {
                 session = q.leaves i;
-                rows = q.rows_are_of i;
+                rows = q.rows_are i;
                 out = q.data_are i;
                 lines = l i;
                 progress = progress_after c.progress (length p.bytes) (q.records i) (q.bytes i);
@@ -129,7 +129,7 @@ module _ (known : Bool) (c : Run) (p : TlvPacket) (h : HasRest known c) where
         let x = input_at c p in
         let f : eqb (asks c.session x) 0 ≡ false = ne_eqb _ 0 (λ z. n (q.number ∙ z)) in
         let s : s' ≡ c.session = rw f at q.leaves in
-        let r : rows' ≡ c.rows = (rw f at q.rows_are_of) ∙ take-append-drop (row_size * c.progress.records) c.rows in
+        let r : rows' ≡ c.rows = (rw f at q.rows_are) ∙ take-append-drop (row_size * c.progress.records) c.rows in
         let o : out' ≡ c.out = (rw f at q.data_are) ∙ take-append-drop c.progress.bytes c.out in
         record {
           number = q.number;
@@ -151,7 +151,7 @@ at_turn_first known s input rows out lines h e o1 o2 o3 o4 n1 n2 n3 =
       rows = omega arith;
       out = omega arith;
       lines = omega arith;
-      rows_long_of = n1;
+      rows_long = n1;
       out_long = n2;
       lines_long = n3;
       inside = omega arith;
@@ -239,7 +239,7 @@ module _ (known : Bool) (input : Bytes) (most : ℕ) (c : Run) (h : AtTurn known
             progress_fits =
                 record {
                   packets = omega (arith, line_fits, h.lines_long);
-                  records = omega (arith, rows_fit, h.rows_long_of);
+                  records = omega (arith, rows_fit, h.rows_long);
                   bytes = omega (arith, out_fits, h.out_long);
                 }
 
@@ -258,7 +258,7 @@ module _ (known : Bool) (input : Bytes) (most : ℕ) (c : Run) (h : AtTurn known
                   rows = omega (arith, rows_fit, e2);
                   out = omega (arith, out_fits, e3);
                   lines = omega (arith, line_fits, e4);
-                  rows_long_of = rw e2 h.rows_long_of;
+                  rows_long = rw e2 h.rows_long;
                   out_long = rw e3 h.out_long;
                   lines_long = rw e4 h.lines_long;
                   inside = lies.inside;

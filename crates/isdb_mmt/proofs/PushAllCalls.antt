@@ -190,7 +190,7 @@ push_all_is_pushes s b a s' rows' out' lines' q =
     let e = q.one_by_one in
     record {
       session = ap (λ (r : Ran). r.run.session) e ∙ w.session;
-      rows_are_of = ap (λ (r : Ran). r.run.rows) e ∙ w.rows;
+      rows_are = ap (λ (r : Ran). r.run.rows) e ∙ w.rows;
       data_are = ap (λ (r : Ran). r.run.out) e ∙ w.out;
       lines_are = ap (λ (r : Ran). r.run.lines) e ∙ w.lines;
       packets = omega (arith, ap (λ (r : Ran). r.run.progress.packets) e, w.packets);
@@ -292,7 +292,7 @@ each_read c (p ∷ ps) h o r q =
 pub records_handed_lem : RecordsHanded
 records_handed_lem s b h o a s' rows' out' lines' q =
     let w = push_all_is_pushes s b a s' rows' out' lines' q in
-    rw (w.rows_are_of, w.data_are) (each_read (start_of s b) (packets_in b) h (recording_bytes b.input b.most o) b.rows b.out)
+    rw (w.rows_are, w.data_are) (each_read (start_of s b) (packets_in b) h (recording_bytes b.input b.most o) b.rows b.out)
 
 -- ---- lists of calls of every sort
 

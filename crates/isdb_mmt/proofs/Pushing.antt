@@ -54,7 +54,7 @@ refused s x n nz e a h =
       kept = λ z. (refl, refl);
       nothing = λ z. (refl, refl);
       session = λ z. absurd (nz z);
-      rows_are_of = λ z. absurd (nz z);
+      rows_are = λ z. absurd (nz z);
       data_are = λ z. absurd (nz z);
       counts = λ z. absurd (nz z);
       state = λ z. absurd (nz z);
@@ -95,7 +95,7 @@ module _ (s : Session) (x : Input) (ready : Bool) (e : ready ≡ sound s) where
             kept = h.kept;
             nothing = h.nothing;
             session = h.session;
-            rows_are_of = h.rows_are_of;
+            rows_are = h.rows_are;
             data_are = h.data_are;
             counts = h.counts;
             state = λ z.

@@ -68,7 +68,7 @@ module _ (s : Session) (p : Packet) (none_given : gives (view s) p ≡ []) where
         kept = λ n. (refl, refl);
         nothing = λ n. (refl, refl);
         session = q.session;
-        rows_are_of = λ z. rw none_given (sym (over_none 0 rows));
+        rows_are = λ z. rw none_given (sym (over_none 0 rows));
         data_are = λ z. rw none_given (sym (over_none 0 out));
         counts = λ z. (sym no_records, sym no_bytes);
       }
@@ -97,9 +97,9 @@ module _ (s : Session) (ok : Sound s.state s.others (lengths_of s)) (m : MpuPack
   abbrev n : Needs
   n = needs (view s) (media m)
 
-  control_places_lem : leb ((used_of s.state).control_ids + n.control_ids_of) l.control_ids ≡ true
+  control_places_lem : leb ((used_of s.state).control_ids + n.control_ids) l.control_ids ≡ true
   unfolding needs pushed
-  control_places_lem = let h : (used_of s.state).control_ids + n.control_ids_of ≤ l.control_ids = omega (arith, ok.controls) in le-leb _ _ h
+  control_places_lem = let h : (used_of s.state).control_ids + n.control_ids ≤ l.control_ids = omega (arith, ok.controls) in le-leb _ _ h
 
   section_places_lem : leb ((used_of s.state).sections + n.sections) l.sections ≡ true
   unfolding needs pushed
@@ -116,13 +116,13 @@ module _ (s : Session) (ok : Sound s.state s.others (lengths_of s)) (m : MpuPack
   pub media_asks_lem : (rows out : ℕ) → media_asks s rows out m ≡ asks_of s rows out (media m)
   unfolding media_asks asks_of has_places has_areas has_outputs
   media_asks_lem rows out =
-      let a : Bool = leb ((used_of s.state).media_ids + n.media_ids_of) l.media_ids in
+      let a : Bool = leb ((used_of s.state).media_ids + n.media_ids) l.media_ids in
       let d : Bool = leb n.object l.mfu_area in
       let r : Bool = leb (row_size * n.records) rows in
       let o : Bool = leb n.data_bytes out in
       let e : ◌≡◌ {A = ℕ} (media_asks s rows out m) (cond (not a) 8 (cond (not d) 9 (cond (not r) 10 (cond (not o) 10 0)))) =
       rw (
-        not_above ((used_of s.state).media_ids + n.media_ids_of) l.media_ids,
+        not_above ((used_of s.state).media_ids + n.media_ids) l.media_ids,
         not_above n.object l.mfu_area,
         not_above (row_size * n.records) rows,
         not_above n.data_bytes out,

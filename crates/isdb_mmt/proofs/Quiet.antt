@@ -12,7 +12,7 @@ use Rattle.isdb_mmt.specs.declared.decoder.head.Used.{Used}
 
 module _ (q : Needs) (l : Limits) (u : Used) where
   -- tables may find no place, a message or a table no area
-  pub asks_kept : u.media_ids + q.media_ids_of ≤ l.media_ids → u.control_ids + q.control_ids_of ≤ l.control_ids → q.object ≤ l.mfu_area
+  pub asks_kept : u.media_ids + q.media_ids ≤ l.media_ids → u.control_ids + q.control_ids ≤ l.control_ids → q.object ≤ l.mfu_area
       → q.records ≡ 0 → q.data_bytes ≡ 0
       → ◌≡◌ {A = ℕ} (if not (has_places l u q) then 8 else if not (has_areas l q) then 9 else if not (has_outputs 0 0 q) then 10 else 0)
       (if l.sections <? u.sections + q.sections then 8 else if l.message_area <? q.message then 9 else if l.table_area <? q.table then 9 else 0)
@@ -31,7 +31,7 @@ module _ (q : Needs) (l : Limits) (u : Used) where
       (λ z. rw (le-leb _ _ (ltb-false _ _ z), le-leb _ _ r0, le-leb _ _ g0, z) refl))))))
 
   -- where no table is kept, only a message
-  pub asks_by : u.media_ids + q.media_ids_of ≤ l.media_ids → u.control_ids + q.control_ids_of ≤ l.control_ids → u.sections + q.sections ≤ l.sections
+  pub asks_by : u.media_ids + q.media_ids ≤ l.media_ids → u.control_ids + q.control_ids ≤ l.control_ids → u.sections + q.sections ≤ l.sections
       → q.object ≤ l.mfu_area → q.table ≤ l.table_area → q.records ≡ 0 → q.data_bytes ≡ 0
       → ◌≡◌ {A = ℕ} (if not (has_places l u q) then 8 else if not (has_areas l q) then 9 else if not (has_outputs 0 0 q) then 10 else 0)
       (if l.message_area <? q.message then 9 else 0)
@@ -40,8 +40,8 @@ module _ (q : Needs) (l : Limits) (u : Used) where
       ∙ ap (λ y. if◌then◌else◌ {A = ℕ} y 8 (if l.message_area <? q.message then 9 else if l.table_area <? q.table then 9 else 0)) (le-ltb _ _ c)
       ∙ ap (λ y. if◌then◌else◌ {A = ℕ} (l.message_area <? q.message) 9 (if y then 9 else 0)) (le-ltb _ _ e)
 
-  pub asks_none : l.control_ids < u.control_ids + q.control_ids_of
+  pub asks_none : l.control_ids < u.control_ids + q.control_ids
       → ◌≡◌ {A = ℕ} (if not (has_places l u q) then 8 else if not (has_areas l q) then 9 else if not (has_outputs 0 0 q) then 10 else 0) 8
   unfolding has_places
   asks_none b =
-      either (leb (u.media_ids + q.media_ids_of) l.media_ids) (λ y. rw (y, lt-leb _ _ b) refl) (λ y. rw y refl)
+      either (leb (u.media_ids + q.media_ids) l.media_ids) (λ y. rw (y, lt-leb _ _ b) refl) (λ y. rw y refl)

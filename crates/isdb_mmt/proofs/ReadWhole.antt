@@ -11,7 +11,7 @@ use Rattle.isdb_mmt.specs.Formats.Tot.{tot_of}
 use Rattle.isdb_mmt.specs.Decoder.Kept.{head_is_ok, body_read, parses_as, mpt_parses, plt_parses, tot_parses}
 use Rattle.isdb_mmt.specs.Memory.Session.{Session}
 use Rattle.isdb_mmt.specs.Memory.Check.{sound}
-use Rattle.isdb_mmt.specs.Answers.Readings.{control_found, section_found, mpt_part, plt_part, tot_part, section_part, table_if, table_read, table_id_of_lem, section_read, mpt_read, plt_read, tot_read}
+use Rattle.isdb_mmt.specs.Answers.Readings.{control_found, section_found, mpt_part, plt_part, tot_part, section_part, table_if, table_read, table_id_of_key, section_read, mpt_read, plt_read, tot_read}
 use Rattle.isdb_mmt.specs.WholeValues.WholeLists.{section_whole}
 use Rattle.isdb_mmt.specs.WholeValues.ReadWhole.{ReadTheorem}
 use Rattle.isdb_mmt.specs.declared.part.Part.{Part}
@@ -53,9 +53,9 @@ tot_read_lem : (s : Session) (p : Part) → tot_read s ≡ the_bytes p → tot_p
 unfolding tot_read
 tot_read_lem s p e = rw e at (handed (λ b. tot_parses (tot_of b).result) s (tot_part s))
 
-section_read_lem : (s : Session) (k : ℕ) (p : Part) → section_read s k ≡ the_bytes p → parses_as (table_id_of_lem k) (part_of s.tables p) ≡ true
+section_read_lem : (s : Session) (k : ℕ) (p : Part) → section_read s k ≡ the_bytes p → parses_as (table_id_of_key k) (part_of s.tables p) ≡ true
 unfolding section_read
-section_read_lem s k p e = rw e at (handed (parses_as (table_id_of_lem k)) s (section_part s (section_found s k)))
+section_read_lem s k p e = rw e at (handed (parses_as (table_id_of_key k)) s (section_part s (section_found s k)))
 
 pub reads : ReadTheorem
 reads =
@@ -63,5 +63,5 @@ reads =
       mpt = λ s id p e. values.mpt (part_of s.tables p) ∙ mpt_read_lem s id p e;
       plt = λ s p e. values.plt (part_of s.tables p) ∙ plt_read_lem s p e;
       tot = λ s p e. values.tot (part_of s.tables p) ∙ tot_read_lem s p e;
-      section = λ s k p e. section_parses (table_id_of_lem k) (part_of s.tables p) (section_read_lem s k p e);
+      section = λ s k p e. section_parses (table_id_of_key k) (part_of s.tables p) (section_read_lem s k p e);
     }

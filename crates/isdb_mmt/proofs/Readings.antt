@@ -13,7 +13,7 @@ use Rattle.isdb_mmt.specs.Memory.Octets.{Octets}
 use Rattle.isdb_mmt.specs.Memory.Layout.{media_places, media_size, control_places, control_size, section_places, section_size}
 use Rattle.isdb_mmt.specs.Memory.Session.{Session, limits_of, used_of, time_of, media_place_of, control_place_of, media_at, control_at}
 use Rattle.isdb_mmt.specs.Memory.Check.{lengths_of, sound, Sound, media_in, controls_in, sections_in, media_sound, control_sound}
-use Rattle.isdb_mmt.specs.Memory.View.{given, mfu_of, asset_of_place, control_state_of_lem, asset_entry, control_entry, section_entry, kept_table_at, view_by, view}
+use Rattle.isdb_mmt.specs.Memory.View.{given, mfu_of, asset_of_place, control_state_in, asset_entry, control_entry, section_entry, kept_table_at, view_by, view}
 use Rattle.isdb_mmt.specs.Answers.Readings.{media_names, control_names, keys_in, media_found, control_found, counters_read, time_at, time_read, count_read, least_from, name_told, name_read, most_name, next_media_read, next_control_read, next_key_read, u32_if, range_if, media_state_of, media_if, media_read, held_object_of, held_at, held_if, held_read, control_state_of, control_if, control_read}
 use Rattle.isdb_mmt.specs.Answers.ReadingLaws.{time_told, CountsAreTold, u32_told, range_told, object_length, joined_length_of, media_told, HeldTold, control_told, IdsAreTold, Least, NextTold, NamesAreTold}
 use Rattle.isdb_mmt.specs.declared.maybe.MaybeU32.{MaybeU32}
@@ -75,8 +75,8 @@ media_told_of m b e =
     rw (← u32_told_lem m.seen m.sequence, ← range_told_lem m.mpu_seen m.first_mpu m.mpu, ← object_told m.held m.object.length (mfu_of m.object b) e)
     refl
 
-control_told_of : (c : Control) (b t : Bytes) → (c.joining ≡ true → length b ≡ c.length) → the_control (control_state_of c) ≡ control_told (some (control_state_of_lem c b t))
-unfolding control_state_of_lem
+control_told_of : (c : Control) (b t : Bytes) → (c.joining ≡ true → length b ≡ c.length) → the_control (control_state_of c) ≡ control_told (some (control_state_in c b t))
+unfolding control_state_in
 control_told_of c b t e =
     rw (← u32_told_lem c.seen c.sequence, ← join_told c.joining c.length (record { long = c.long_length; aggregated = c.aggregated; bytes = b }) e)
     refl
@@ -225,7 +225,7 @@ names_told s e o =
       media = rw (entry_names s) (in_order (media_names s) ok.media_names (names_small st o media_size u.media_ids media_places));
       controls = rw (control_names_lem s) (in_order (control_names s) ok.control_names (names_small st o control_size u.control_ids control_places));
       keys = rw (key_names s) (in_order (keys_in s) ok.keys (names_small st o section_size u.sections section_places));
-      next_media_of = λ a. rw (entry_names s) (next_told s e (media_names s) a most_name);
-      next_control_of = λ a. rw (control_names_lem s) (next_told s e (control_names s) a most_name);
-      next_key_of = λ a b. rw (key_names s) (next_told s e (keys_in s) a b);
+      next_media = λ a. rw (entry_names s) (next_told s e (media_names s) a most_name);
+      next_control = λ a. rw (control_names_lem s) (next_told s e (control_names s) a most_name);
+      next_key = λ a b. rw (key_names s) (next_told s e (keys_in s) a b);
     }

@@ -71,15 +71,15 @@ row_back r at given f e =
       priority = h 7 i;
       dependency_counter = h 8 i;
     })) ∙ header_back r.mfu.mfu in
-    let ei : item_given (bit_of (be 1 (row_of r at) 2) 8) (be 4 (row_of r at) 24) ≡ r.mfu.item_id_of =
-    (λ i. item_given (b.1.1.1 i) (h 10 i)) ∙ item_back r.mfu.item_id_of in
+    let ei : item_given (bit_of (be 1 (row_of r at) 2) 8) (be 4 (row_of r at) 24) ≡ r.mfu.item_id =
+    (λ i. item_given (b.1.1.1 i) (h 10 i)) ∙ item_back r.mfu.item_id in
     let eb : part (be 4 (row_of r at) 28) (be 4 (row_of r at) 32) given ≡ r.mfu.bytes =
     (λ i. part (h 11 i) (h 12 i) given) ∙ e in
     λ i.
     record {
       id = h 0 i;
       scrambled = b.1.0 i;
-      mfu = record { mpu = h 3 i; rap = b.0 i; mfu = eh i; item_id_of = ei i; bytes = eb i };
+      mfu = record { mpu = h 3 i; rap = b.0 i; mfu = eh i; item_id = ei i; bytes = eb i };
     }
 
 -- all rows

@@ -8,7 +8,7 @@ use Rattle.isdb_mmt.specs.Formats.Mpu.{follows, lost_from}
 use Rattle.isdb_mmt.specs.Decoder.Packet.{Bytes, PayloadUnit, MpuPacket, Packet, ip_error, ntp, non_mmtp_of, media, message, control, other, readable}
 use Rattle.isdb_mmt.specs.Decoder.Maps.{one, is_some, find, put, or_else}
 use Rattle.isdb_mmt.specs.Decoder.Objects.{Mfu, Rec, Asset, most_object, grown, fresh, gap, lost_by, continued, effect_of, after_unit, unit_effect, object_of, after_units, delivered_by, after_headers, asset_after, tagged, passes, media_gives}
-use Rattle.isdb_mmt.specs.Decoder.Model.{State, asset_of_lem, pushed, gives}
+use Rattle.isdb_mmt.specs.Decoder.Model.{State, asset_of, pushed, gives}
 use Rattle.isdb_mmt.specs.Books.Book.{LogEntry, packet_number, unit_received, units_received, log_entries, reception_log, Book, drop_counted, in_order_of, missing, follower, continued_by, entered, entered_all, delivered_of}
 use Rattle.isdb_mmt.specs.Books.Demand.{push_all, give_all, held_bytes}
 use Rattle.isdb_mmt.specs.declared.mpu.FragmentationIndicator.{FragmentationIndicator}
@@ -137,21 +137,21 @@ mfus_given pass i a m =
     ∙ rw (delivered_passes, delivered_tagged)
 
 put_written : (i j : ℕ) (s : State) (os : List Bytes) (m : MpuPacket) (b : Bool) → eqb i j ≡ b
-    → entered_all (book_of (asset_of_lem i s) os) (cond b (packet_number m.number ∷ units_received m.number (readable m)) [])
-    ≡ book_of (or_else fresh (find i (put j (asset_after (asset_of_lem j s) m) s.assets)))
-    (os ++ cond b (data_of (delivered_by m (after_headers (asset_of_lem j s) m) (readable m))) [])
-unfolding entered_all asset_of_lem or_else
-put_written i j s os m true e = rw (← (eqb-true i j e), find_put) (media_written (asset_of_lem i s) os m)
+    → entered_all (book_of (asset_of i s) os) (cond b (packet_number m.number ∷ units_received m.number (readable m)) [])
+    ≡ book_of (or_else fresh (find i (put j (asset_after (asset_of j s) m) s.assets)))
+    (os ++ cond b (data_of (delivered_by m (after_headers (asset_of j s) m) (readable m))) [])
+unfolding entered_all asset_of or_else
+put_written i j s os m true e = rw (← (eqb-true i j e), find_put) (media_written (asset_of i s) os m)
 put_written i j s os m false e = rw (find_put_other i j _ _ e, append-nil)
 
 push_written : (i : ℕ) (s : State) (os : List Bytes) (p : Packet)
-    → entered_all (book_of (asset_of_lem i s) os) (log_entries i p) ≡ book_of (asset_of_lem i (pushed s p)) (os ++ delivered_of i (gives s p))
-unfolding log_entries pushed gives delivered_of entered_all asset_of_lem
+    → entered_all (book_of (asset_of i s) os) (log_entries i p) ≡ book_of (asset_of i (pushed s p)) (os ++ delivered_of i (gives s p))
+unfolding log_entries pushed gives delivered_of entered_all asset_of
 push_written i s os ip_error = rw append-nil
 push_written i s os (ntp t) = rw append-nil
 push_written i s os non_mmtp_of = rw append-nil
 push_written i s os (media m) =
-    rw (mfus_given s.passing i (asset_of_lem m.id s) m) (put_written i m.id s os m (eqb i m.id) refl)
+    rw (mfus_given s.passing i (asset_of m.id s) m) (put_written i m.id s os m (eqb i m.id) refl)
 push_written i s os (message c) = rw append-nil
 push_written i s os (control bs) = rw append-nil
 push_written i s os other = rw append-nil
@@ -159,11 +159,11 @@ push_written i s os other = rw append-nil
 -- ---- a run
 
 pub run_written : (i : ℕ) (s : State) (os : List Bytes) (ps : List Packet)
-    → entered_all (book_of (asset_of_lem i s) os) (reception_log i ps) ≡ book_of (asset_of_lem i (push_all s ps)) (os ++ delivered_of i (give_all s ps))
+    → entered_all (book_of (asset_of i s) os) (reception_log i ps) ≡ book_of (asset_of i (push_all s ps)) (os ++ delivered_of i (give_all s ps))
 unfolding reception_log push_all give_all delivered_of entered_all
 run_written i s os [] = rw append-nil
 run_written i s os (p ∷ ps) =
-    write_all_append (book_of (asset_of_lem i s) os) (log_entries i p) (reception_log i ps)
+    write_all_append (book_of (asset_of i s) os) (log_entries i p) (reception_log i ps)
     ∙ ap (λ (b : Book). entered_all b (reception_log i ps)) (push_written i s os p)
     ∙ run_written i (pushed s p) (os ++ delivered_of i (gives s p)) ps
     ∙ rw (delivered_of_append, append_assoc)

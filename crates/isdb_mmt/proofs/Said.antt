@@ -7,7 +7,7 @@ use Rattle.isdb_mmt.specs.Decoder.Packet.{Bytes}
 use Rattle.isdb_mmt.specs.Decoder.Maps.{find, or_else}
 use Rattle.isdb_mmt.specs.Decoder.Objects.{Mfu, Asset, fresh}
 use Rattle.isdb_mmt.specs.Decoder.Kept.{Kept}
-use Rattle.isdb_mmt.specs.Decoder.Model.{Control as ControlState, asset_of_lem}
+use Rattle.isdb_mmt.specs.Decoder.Model.{Control as ControlState, asset_of}
 use Rattle.isdb_mmt.specs.Books.Demand.{held_bytes, held_of, dropped_of, lost_of}
 use Rattle.isdb_mmt.specs.Memory.Lent.{part, places_from, names_from, found_from, indexed}
 use Rattle.isdb_mmt.specs.Memory.Layout.{media_places, media_size, control_places, control_size, section_places, section_size}
@@ -94,7 +94,7 @@ module _ (s : Session) where
   of_dropped (At i) = refl
 
   pub dropped_said : (i : ℕ) → dropped_in s i ≡ dropped_of i (view s)
-  unfolding dropped_in asset_of_lem
+  unfolding dropped_in asset_of
   dropped_said i = of_dropped (media_found s i) ∙ sym (ap (λ (o : Option Asset). (or_else fresh o).stats.mfus_dropped) (media_found_lem i))
 
   of_lost : (p : Found) → lost_at s p ≡ (or_else fresh (media_entry p)).stats.packets_lost
@@ -103,7 +103,7 @@ module _ (s : Session) where
   of_lost (At i) = refl
 
   pub lost_said : (i : ℕ) → lost_in s i ≡ lost_of i (view s)
-  unfolding lost_in asset_of_lem
+  unfolding lost_in asset_of
   lost_said i = of_lost (media_found s i) ∙ sym (ap (λ (o : Option Asset). (or_else fresh o).stats.packets_lost) (media_found_lem i))
 
   given_held : (b : Bool) (u : Mfu) → given b u.bytes ≡ held_bytes (given b u)
@@ -119,7 +119,7 @@ module _ (s : Session) where
       given_held m.held (mfu_of m.object (part (i * l.mfu_area) m.object.length s.objects))
 
   pub held_said_lem : (i : ℕ) → held_in s i ≡ held_of i (view s)
-  unfolding held_in asset_of_lem
+  unfolding held_in asset_of
   held_said_lem i = of_held (media_found s i) ∙ sym (ap (λ (o : Option Asset). held_bytes (or_else fresh o).held) (media_found_lem i))
 
   -- ---- of a key

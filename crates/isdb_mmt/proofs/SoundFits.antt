@@ -4,7 +4,7 @@ use Rattle.std.proofs.Common.{◌≡◌, ℕ, ◌+◌, ◌≤◌, length, arith}
 use Rattle.isdb_tlv.specs.Fields.{Fit}
 use Rattle.isdb_mmt.specs.Decoder.Packet.{Bytes, MpuPacket, Packet, ip_error, ntp, non_mmtp_of, media, message, control, other, classify}
 use Rattle.isdb_mmt.specs.Decoder.Objects.{asset_after}
-use Rattle.isdb_mmt.specs.Decoder.Model.{State, asset_of_lem, pushed, gives}
+use Rattle.isdb_mmt.specs.Decoder.Model.{State, asset_of, pushed, gives}
 use Rattle.isdb_mmt.specs.Decoder.Needs.{needs}
 use Rattle.isdb_mmt.specs.Memory.Lent.{over}
 use Rattle.isdb_mmt.specs.Memory.Layout.{most_count, most_mfu_area}
@@ -12,7 +12,7 @@ use Rattle.isdb_mmt.specs.Memory.Session.{Session, limits_of, counters_fields, m
 use Rattle.isdb_mmt.specs.Memory.Check.{Sound, lengths_of}
 use Rattle.isdb_mmt.specs.Memory.View.{view}
 use Rattle.isdb_mmt.specs.Memory.Octets.{Octets, Lent}
-use Rattle.isdb_mmt.specs.Memory.PlacesOf.{place_for_of_lem}
+use Rattle.isdb_mmt.specs.Memory.PlacesOf.{place_for_asset}
 use Rattle.isdb_mmt.specs.Pushes.Records.{rows_from, data_from, read_rows}
 use Rattle.isdb_mmt.specs.declared.decoder.limits.Limits.{Limits}
 use Rattle.isdb_mmt.proofs.Limits.{Passed, passed}
@@ -21,7 +21,7 @@ use Rattle.isdb_mmt.specs.Theorems.Room.{most_added}
 use Rattle.isdb_mmt.proofs.RecordRows.{AllFit, rows_back}
 use Rattle.isdb_mmt.proofs.Outs.{PacketOk, packet_ok, gives_fit}
 use Rattle.isdb_mmt.proofs.PlaceFits.{asset_place, counters_place_lem}
-use Rattle.isdb_mmt.proofs.Storable.{Storable, asset_of, asset_next_lem, counters_next, storable_view}
+use Rattle.isdb_mmt.proofs.Storable.{Storable, asset_of_lem, asset_next_lem, counters_next, storable_view}
 
 -- ---- a packet's records
 
@@ -31,7 +31,7 @@ rows_of l n s h ip_error o k = tt
 rows_of l n s h (ntp t) o k = tt
 rows_of l n s h non_mmtp_of o k = tt
 rows_of l n s h (media m) o k =
-    gives_fit s.passing (asset_of_lem m.id s) m o (asset_of l n s h m.id (omega (arith, o.id))).1.held k
+    gives_fit s.passing (asset_of m.id s) m o (asset_of_lem l n s h m.id (omega (arith, o.id))).1.held k
 rows_of l n s h (message c) o k = tt
 rows_of l n s h (control bs) o k = tt
 rows_of l n s h other o k = tt
@@ -53,7 +53,7 @@ module _ (s : Session) (q : Sound s.state s.others (lengths_of s)) (h : Lent s) 
 
   -- the place of a media id
   pub media_fits : (m : MpuPacket) → classify kind b ≡ media m → (needs (view s) (media m)).object ≤ l.mfu_area
-      → Fit (media_fields (place_for_of_lem m.id (asset_after (asset_of_lem m.id (view s)) m)))
+      → Fit (media_fields (place_for_asset m.id (asset_after (asset_of m.id (view s)) m)))
   media_fits m e a =
       let k = asset_next_lem l most_count (view s) (storable_view s q h) m (rw e at is_ok) (rw e at is_plain) a in
       asset_place l.mfu_area (most_count + most_added) m.id _ (omega (arith, in_order.ranges.object)) (omega arith) k.0 k.1

@@ -85,7 +85,7 @@ module _ (l : Limits) (s : Session) (n : ℕ) where
   media_counts [] i h = tt
   media_counts (m ∷ ms) i h =
       let c = h.0.1.counts.counts in (
-        (c.packets, (c.lost, (c.scrambled, (c.mfus, (c.scrambled_mfus_of, (c.dropped, (c.mpus, (c.jumps, (c.malformed, tt))))))))),
+        (c.packets, (c.lost, (c.scrambled, (c.mfus, (c.scrambled_mfus, (c.dropped, (c.mpus, (c.jumps, (c.malformed, tt))))))))),
         media_counts ms (i + 1) h.1,
       )
 
@@ -137,7 +137,7 @@ module _ (s : Session) where
       record {
         media_names = rw (media_keys s) q.media_names;
         control_names = rw (control_keys s) q.control_names;
-        kept_names_lem = rw (section_keys s) q.keys;
+        kept_names = rw (section_keys s) q.keys;
         media = omega (arith, media_length s, q.media);
         lines = omega (arith, control_length s, q.controls);
         sections = omega (arith, section_length s, q.sections);

@@ -10,7 +10,7 @@ use Rattle.isdb_mmt.specs.Memory.Limits.{asked}
 use Rattle.isdb_mmt.specs.Memory.Layout.{most_count, media_places, media_size, control_places, control_size, section_places, section_size}
 use Rattle.isdb_mmt.specs.Memory.Session.{Session, limits_of, used_of, latest_of, counters_of, section_place_of}
 use Rattle.isdb_mmt.specs.Memory.Check.{count_fits_of, length_fits, media_sound, control_sound, section_sound, media_in, controls_in, sections_in, sound, lengths_of, Sound}
-use Rattle.isdb_mmt.specs.Memory.View.{given, mfu_of, asset_of_place, control_state_of_lem, asset_entry, control_entry, section_entry, view_by, view}
+use Rattle.isdb_mmt.specs.Memory.View.{given, mfu_of, asset_of_place, control_state_in, asset_entry, control_entry, section_entry, view_by, view}
 use Rattle.isdb_mmt.specs.declared.decoder.limits.Limits.{Limits}
 use Rattle.isdb_mmt.specs.declared.decoder.media.Media.{Media}
 use Rattle.isdb_mmt.specs.declared.decoder.control.Control.{Control}
@@ -109,7 +109,7 @@ module _ (l : Limits) (s : Session) (n : ℕ) (big : n ≤ most_count) where
         le-leb m.stats.packets_lost most_count (omega (arith, h.counts.lost)),
         le-leb m.stats.scrambled_packets most_count (omega (arith, h.counts.scrambled)),
         le-leb m.stats.mfus most_count (omega (arith, h.counts.mfus)),
-        le-leb m.stats.scrambled_mfus most_count (omega (arith, h.counts.scrambled_mfus_of)),
+        le-leb m.stats.scrambled_mfus most_count (omega (arith, h.counts.scrambled_mfus)),
         le-leb m.stats.mfus_dropped most_count (omega (arith, h.counts.dropped)),
         le-leb m.stats.mpus most_count (omega (arith, h.counts.mpus)),
         le-leb m.stats.mpu_sequence_jumps most_count (omega (arith, h.counts.jumps)),
@@ -118,7 +118,7 @@ module _ (l : Limits) (s : Session) (n : ℕ) (big : n ≤ most_count) where
 
   control_sound_lem : (i : ℕ) (c : Control) → ControlOk l.message_area l.table_area (control_entry l s i c).1 → control_there_lem l s i c
       → control_sound l c ≡ true
-  unfolding control_state_of_lem
+  unfolding control_state_in
   control_sound_lem i c h e =
       control_is l c
       (λ t. let k = join_length c.joining _ l.message_area h.joins t in omega (arith, length_part (i * l.message_area) c.length s.messages (e.0 t)))
@@ -208,7 +208,7 @@ stays_sound s n big a e h w =
           (λ i x f t. section_sound_lem l s n big i x f t) (sections_in s.state) 0 h.store.kept e.sections;
       media_names = rw (media_keys s) at w.media_names;
       control_names = rw (control_keys s) at w.control_names;
-      keys = rw (section_keys s) at w.kept_names_lem;
+      keys = rw (section_keys s) at w.kept_names;
     })
 
 -- ---- a session that passes question 5 has what it says: nothing is to be shown of places that a push leaves

@@ -20,7 +20,7 @@ use Rattle.isdb_mmt.proofs.BytesBehind.{found_is}
 use Rattle.isdb_mmt.proofs.WholeLists.{sent as sent_read}
 use Rattle.isdb_mmt.specs.Standards.StdB60Descriptors.{rows_sent, SentTime, time_fields, time_sent, TimeConforming, time_seen, SentListed, listed_fields, listed_sent, ListedConforming, listed_seen, SentGenre, genre_fields, genre_sent, GenreConforming, genre_seen}
 use Rattle.isdb_mmt.specs.Standards.StdB60Descriptors.{SentHevc, hevc_fields, HevcConforming, event_fields, scrambler_fields, service_fields}
-use Rattle.isdb_mmt.specs.Standards.StdB60Descriptors.{SentBody, mpu_times, ca_system, ca_system_at, scrambling, hevc_video, services_listed, event_texts, component_tag_of_lem, genres, broadcaster_called, service_called, mpu_times_extended, tag_of, BodyConforming, BodyRead, BodyTheorem}
+use Rattle.isdb_mmt.specs.Standards.StdB60Descriptors.{SentBody, mpu_times, ca_system, ca_system_at, scrambling, hevc_video, services_listed, event_texts, component_tag_of, genres, broadcaster_called, service_called, mpu_times_extended, tag_of, BodyConforming, BodyRead, BodyTheorem}
 use Rattle.isdb_mmt.specs.Standards.StdB60Descriptors.{place_seen, length_bytes, whole_sent, WholeConforming, whole_seen, described, DescriptorsTheorem, LocationsTheorem, Examples}
 use Rattle.isdb_mmt.proofs.StdB60Rows.{rows_given, ends_same}
 use Rattle.isdb_mmt.proofs.StdB60Extended.{extended_read}
@@ -55,7 +55,7 @@ scrambler_read layer reserved system private c =
     rw (le-ltb (length s) 2 (omega arith), upper, front_byte fs fit private 1 refl)
 
 -- stream identifier
-component_read : (c : ℕ) → BodyConforming (component_tag_of_lem c) → BodyRead (component_tag_of_lem c)
+component_read : (c : ℕ) → BodyConforming (component_tag_of c) → BodyRead (component_tag_of c)
 unfolding descriptor_of stream_identifier
 component_read c h =
     let fs : List Field = field 2 c ∷ [] in
@@ -259,7 +259,7 @@ bodies (scrambling layer reserved system private) c = scrambler_read layer reser
 bodies (hevc_video x) c = hevc_read x c
 bodies (services_listed xs) c = rw (listed_whole xs c)
 bodies (event_texts a b d name text) c = event_read a b d name text c
-bodies (component_tag_of_lem d) c = component_read d c
+bodies (component_tag_of d) c = component_read d c
 bodies (genres xs) c = rw (genres_whole xs c)
 bodies (broadcaster_called name) c = broadcaster_read name
 bodies (service_called t provider name) c = service_read t provider name c
@@ -275,7 +275,7 @@ width (scrambling layer reserved system private) = refl
 width (hevc_video x) = refl
 width (services_listed xs) = refl
 width (event_texts a b d name text) = refl
-width (component_tag_of_lem d) = refl
+width (component_tag_of d) = refl
 width (genres xs) = refl
 width (broadcaster_called name) = refl
 width (service_called t provider name) = refl
@@ -289,7 +289,7 @@ tag_fits (scrambling layer reserved system private) = omega arith
 tag_fits (hevc_video x) = omega arith
 tag_fits (services_listed xs) = omega arith
 tag_fits (event_texts a b d name text) = omega arith
-tag_fits (component_tag_of_lem d) = omega arith
+tag_fits (component_tag_of d) = omega arith
 tag_fits (genres xs) = omega arith
 tag_fits (broadcaster_called name) = omega arith
 tag_fits (service_called t provider name) = omega arith

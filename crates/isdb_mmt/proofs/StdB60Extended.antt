@@ -90,19 +90,19 @@ module _ {s : List ℕ} {at : ℕ} (o : PtsOffsets) (m : SentMpu) (c : MpuConfor
   mpu_length = rw (length-append, length_written (mpu_fields m), units_size o m.units)
 
   mpu_step : mpu_at s (is_own o) at
-      ≡ Mpu m.sequence_number m.leap_indicator_of m.decoding_time_offset_of (length m.units) (part_at (at + 8) (length units))
+      ≡ Mpu m.sequence_number m.leap_indicator m.decoding_time_offset (length m.units) (part_at (at + 8) (length units))
       (at + length (mpu_sent o m))
   unfolding mpu_at
   mpu_step =
       let fs = mpu_fields m in
-      let fit : Fit fs = omega (arith, c.sequence_number, c.leap_indicator_of, c.reserved, c.decoding_time_offset_of, c.few) in
+      let fit : Fit fs = omega (arith, c.sequence_number, c.leap_indicator, c.reserved, c.decoding_time_offset, c.few) in
       let front = located_front (written fs) units h in
       let long = located_within (mpu_sent o m) h in
       let n = length m.units * unit_size_of (is_own o) in
       let all = mpu_length in
       let next : at + length (mpu_sent o m) ≡ at + 8 + n = omega arith in
       let count : get_or s (at + 7) 0 ≡ length m.units = byte_read fs fit front 3 refl in
-      let leap : get_or s (at + 4) 0 / 64 ≡ m.leap_indicator_of = rw (byte_read fs fit front 1 refl) (omega (arith, c.leap_indicator_of, c.reserved)) in
+      let leap : get_or s (at + 4) 0 / 64 ≡ m.leap_indicator = rw (byte_read fs fit front 1 refl) (omega (arith, c.leap_indicator, c.reserved)) in
       rw (lt-leb (length s) at (omega arith), le-ltb (length s - at) 8 (omega arith), count, le-ltb (length s - (at + 8)) n (omega arith))
       (rw (first_read fs fit front, leap, field_read fs fit front 2, units_size o m.units, next))
 

@@ -11,7 +11,7 @@ use Rattle.isdb_tlv.proofs.StdB32.{tlv, kind_named}
 use Rattle.isdb_mmt.specs.Decoder.Packet.{Bytes, message, message_packet, classify}
 use Rattle.isdb_mmt.specs.Decoder.Maps.{find, or_else}
 use Rattle.isdb_mmt.specs.Decoder.Objects.{fresh}
-use Rattle.isdb_mmt.specs.Decoder.Model.{State, opened, asset_of_lem, control_of, pushed}
+use Rattle.isdb_mmt.specs.Decoder.Model.{State, opened, asset_of, control_of, pushed}
 use Rattle.isdb_mmt.specs.Books.Demand.{push_all, packets_of as fed_packets}
 use Rattle.isdb_mmt.specs.Memory.View.{view}
 use Rattle.isdb_mmt.specs.Pushes.Push.{Input, packet_of, packets_of}
@@ -28,17 +28,17 @@ use Rattle.isdb_mmt.proofs.StdB60Kept.{mpt_in_pa, mpt_witness_lem}
 
 -- the packet is classified as a message packet, with the sender's payload
 module _ (x : MptInPa) (m : Mmtp) {kind : ℕ} {b : List ℕ} (c : MptCarried x m kind b) where
-  seen : classify kind b ≡ message (message_packet m.packet_id_of m.sequence_number (control_sent (mpt_in_pa_sent x)))
+  seen : classify kind b ≡ message (message_packet m.packet_id m.sequence_number (control_sent (mpt_in_pa_sent x)))
   seen =
       let r = iso23008 m c.packet in
       carried c.datagram ∙ rw (r.fields, r.payload, c.type, c.payload)
 
 pub mpt_fed : MptFed
-mpt_fed x m kind b c s = rw (seen x m c) (mpt_in_pa x c.message s m.packet_id_of m.sequence_number)
+mpt_fed x m kind b c s = rw (seen x m c) (mpt_in_pa x c.message s m.packet_id m.sequence_number)
 
 pub mpt_pushed : MptPushed
 mpt_pushed x m i c s s' number records bytes rows out p zero =
-    ap (λ y. (control_of m.packet_id_of y).mpt) (p.state zero) ∙ mpt_fed x m i.kind i.bytes c (view s)
+    ap (λ y. (control_of m.packet_id y).mpt) (p.state zero) ∙ mpt_fed x m i.kind i.bytes c (view s)
 
 tlv_read : (t : Tlv) → TlvConforming t → classify (get_or (tlv_sent t) 1 0) (drop 4 (tlv_sent t)) ≡ classify (kind_code t.kind) t.content
 unfolding classify
@@ -54,10 +54,10 @@ read_as_sent t c =
     record {
       mpt = _;
       parsed = ap (λ y. y.mpt) r.table;
-      table_id_of = refl;
+      table_id = refl;
       version = refl;
       mode = refl;
-      package_id_of = r.package_id_of;
+      package_id = r.package_id;
       descriptors = r.descriptors;
       assets = r.assets;
     }
@@ -99,7 +99,7 @@ feed_packets (i ∷ xs) = ap (λ ps. packet_of i ∷ ps) (feed_packets xs)
 
 -- an opened state awaits every object
 opened_awaits : (pass : Bool) (o : SentObject) → Awaited (opened pass) o
-unfolding asset_of_lem opened or_else find fresh
+unfolding asset_of opened or_else find fresh
 opened_awaits pass o = record { held = refl; number = tt }
 
 pub object_handed : ObjectHanded
@@ -112,7 +112,7 @@ pub object_handed_among : ObjectHandedAmong
 object_handed_among o c short l s a h xs b t own =
     let pass = l.pass_scrambled in
     let d = among_others o c short (opened pass) (opened_awaits pass o) (packets_of xs) own in
-    ap (id_records o.packet_id_of) (demand_2 l s a h xs b t).records ∙ d.0
+    ap (id_records o.packet_id) (demand_2 l s a h xs b t).records ∙ d.0
 
 -- the last of some packets
 push_last : (s : State) (xs : List Input) (i : Input)
@@ -124,5 +124,5 @@ push_last s (x ∷ xs) i = push_last (pushed s (packet_of x)) xs i
 pub mpt_pushed_last : MptPushedLast
 mpt_pushed_last x m i c l s a h xs b t =
     let o = opened l.pass_scrambled in
-    ap (λ y. (control_of m.packet_id_of y).mpt) ((demand_2 l s a h (xs ++ (i ∷ [])) b t).state ∙ push_last o xs i)
+    ap (λ y. (control_of m.packet_id y).mpt) ((demand_2 l s a h (xs ++ (i ∷ [])) b t).state ∙ push_last o xs i)
     ∙ mpt_fed x m i.kind i.bytes c (push_all o (packets_of xs))

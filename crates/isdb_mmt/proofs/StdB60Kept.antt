@@ -32,13 +32,13 @@ pub mpt_recognized : MptRecognized
 unfolding table_read table_by_id mpt_sent
 mpt_recognized t c is =
     let r = mpt_rest t in
-    let fs = table_head t.table_id_of t.version (length r) in
+    let fs = table_head t.table_id t.version (length r) in
     let s = mpt_sent t in
-    let h = headed t.table_id_of t.version r c.table_id_of c.version c.short in
+    let h = headed t.table_id t.version r c.table_id c.version c.short in
     let long = h.long in
     let fit : Fit fs = omega arith in
     let size : be 2 s 2 ≡ length r = field_read fs fit (located_first (written fs) r) 2 in
-    rw (ne_eqb (length s) 0 (λ e. omega arith), h.id, le-ltb t.table_id_of 0x11 is.0, le-leb t.table_id_of 0x20 is.1)
+    rw (ne_eqb (length s) 0 (λ e. omega arith), h.id, le-ltb t.table_id 0x11 is.0, le-leb t.table_id 0x20 is.1)
     (rw ((mpt t c).table, size, h.whole))
 
 -- another table leaves the MPT as it is

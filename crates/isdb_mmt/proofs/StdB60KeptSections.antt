@@ -54,7 +54,7 @@ module _ (h : Header) (c : HeaderConforming h) (b : Bytes) (short : length b + 9
   unfolding section_sent
   section_size_lem = rw (with_crc_length (written fs ++ b), length-append (written fs) b, length_written fs) (omega arith)
 
-  section_id : get_or s 0 0 ≡ h.table_id_of
+  section_id : get_or s 0 0 ≡ h.table_id
   section_id = byte_read fs header_fit header_found 0 refl
 
   section_declared : declared_section s ≡ s
@@ -63,7 +63,7 @@ module _ (h : Header) (c : HeaderConforming h) (b : Bytes) (short : length b + 9
       rw len (take_all (length b + 9 + 3) s (omega (arith, section_size_lem)))
 
   -- a section whose body is read
-  section_read_lem : body_read h.table_id_of s ≡ body true 0 → section_of s ≡ sent_section h b
+  section_read_lem : body_read h.table_id s ≡ body true 0 → section_of s ≡ sent_section h b
   unfolding section_of
   section_read_lem e =
       let extension : be 2 s 3 ≡ h.extension = field_read fs header_fit header_found 2 in
@@ -72,17 +72,17 @@ module _ (h : Header) (c : HeaderConforming h) (b : Bytes) (short : length b + 9
       rw ((sections h c b short).header, section_declared, id, extension, number, e)
 
   -- and whose id is one of those that are kept by key
-  long_table_lem : 0x8B ≤ h.table_id_of → h.table_id_of ≤ 0xA0 → (h.table_id_of ≡ 0x9C → ⊥) → (h.table_id_of ≡ 0x9E → ⊥)
-      → body_read h.table_id_of s ≡ body true 0 → Recognized h b
+  long_table_lem : 0x8B ≤ h.table_id → h.table_id ≤ 0xA0 → (h.table_id ≡ 0x9C → ⊥) → (h.table_id ≡ 0x9E → ⊥)
+      → body_read h.table_id s ≡ body true 0 → Recognized h b
   unfolding table_read
   long_table_lem from to not9C not9E e =
       let size = section_size_lem in
-      rw (ne_eqb (length s) 0 (λ z. omega arith), section_id, by_key h.table_id_of s from to not9C not9E (omega arith), section_read_lem e)
+      rw (ne_eqb (length s) 0 (λ z. omega arith), section_id, by_key h.table_id s from to not9C not9E (omega arith), section_read_lem e)
 
 pub eit_recognized : EitRecognized
 unfolding body_read
 eit_recognized t c from to =
-    let id = t.header.table_id_of in
+    let id = t.header.table_id in
     long_table_lem t.header c.header (eit_body_sent t) c.short from (omega arith) (λ z. omega arith) (λ z. omega arith)
     (rw (ne_eqb id 0x9D (λ z. omega arith), ne_eqb id 0x9F (λ z. omega arith), ne_eqb id 0xA0 (λ z. omega arith))
     (rw (ne_eqb id 0x40 (λ z. omega arith), ne_eqb id 0x41 (λ z. omega arith), ne_eqb id 0xFE (λ z. omega arith), (eit t c).section)))
@@ -90,7 +90,7 @@ eit_recognized t c from to =
 pub sdt_recognized : SdtRecognized
 unfolding body_read
 sdt_recognized t c from to =
-    let id = t.header.table_id_of in
+    let id = t.header.table_id in
     long_table_lem t.header c.header (sdt_body_sent t) c.short (omega arith) to (λ z. omega arith) (λ z. omega arith)
     (rw (ne_eqb id 0x9D (λ z. omega arith), (sdt t c).section)
     (either (eqb id 0x9F)
@@ -101,7 +101,7 @@ pub bit_recognized : BitRecognized
 unfolding body_read
 bit_recognized t c is =
     long_table_lem t.header c.header (bit_body_sent t) c.short (omega arith) (omega arith) (λ z. omega arith) (λ z. omega arith)
-    (rw (eq-eqb t.header.table_id_of 0x9D is, (bit t c).section))
+    (rw (eq-eqb t.header.table_id 0x9D is, (bit t c).section))
 
 -- a section of another version than the kept one's
 store_one : (st : KeptTables) (h : Header) (b : Bytes) → other_version (find (sent_key h) st.kept) h.version ≡ true

@@ -6,7 +6,7 @@ use Rattle.isdb_tlv.specs.Bytes.{be}
 use Rattle.isdb_tlv.specs.Fields.{bytes_of, Field, field, written, Fit}
 use Rattle.isdb_tlv.proofs.Fields.{be_one, length_written}
 use Rattle.isdb_mmt.specs.Formats.Part.{part_at, part_of}
-use Rattle.isdb_mmt.specs.Formats.Message.{division_of, prefix_width, aggregated_at, aggregated_from, pa_tables, section_table, content_of_lem}
+use Rattle.isdb_mmt.specs.Formats.Message.{division_of, prefix_width, aggregated_at, aggregated_from, pa_tables, section_table, content_of}
 use Rattle.isdb_mmt.specs.Formats.Message.{table_at, tables_from, Aggregated}
 use Rattle.isdb_mmt.specs.Decoder.Packet.{MessagePacket, message_packet}
 use Rattle.isdb_mmt.specs.Decoder.Reassembly.{PartialMessage, Reassembly, short, part_before, joined_on, part_after, whole_of}
@@ -93,7 +93,7 @@ module _ (id v : ℕ) (t : List ℕ) (from : 0x8000 ≤ id) (to : id ≤ 0x8002)
       }
 
   one_table : tables_of (one_table_sent id v t) ≡ all_read_of (t ∷ [])
-  unfolding tables_of content_of_lem section_table
+  unfolding tables_of content_of section_table
   one_table =
       let m = one_table_sent id v t in
       let f = one_table_fields_lem in
@@ -154,7 +154,7 @@ module _ (v : ℕ) (ts : List SentTable) (c : PaConforming v ts) where
       }
 
   pa_read : tables_of (message_sent (pa v ts)) ≡ all_read_of (map table_sent ts)
-  unfolding tables_of content_of_lem pa_tables
+  unfolding tables_of content_of pa_tables
   pa_read =
       let m = message_sent (pa v ts) in
       let n = length (pa_body ts) in

@@ -83,7 +83,7 @@ module _ (p : SentPayload) (c : PayloadConforming p) (r : List ℕ) where
       let tf = type_fits p.body in
       let df = division_fits p.division in
       let af = aggregation_fits p.body in
-      omega (arith, c.timed, c.counter, c.mpu_sequence_number_of, c.short)
+      omega (arith, c.timed, c.counter, c.mpu_sequence_number, c.short)
 
   fields_located : FoundAt s 0 (written (header_fields p))
   unfolding payload_sent
@@ -231,7 +231,7 @@ header_some (untimed_header item) = omega arith
 -- a payload by its body's kind
 abbrev with_body : SentPayload → Body → SentPayload
 with_body p b =
-    record { timed = p.timed; division = p.division; counter = p.counter; mpu_sequence_number_of = p.mpu_sequence_number_of; body = b }
+    record { timed = p.timed; division = p.division; counter = p.counter; mpu_sequence_number = p.mpu_sequence_number; body = b }
 
 module _ (p : SentPayload) where
   body_cut : (b : Body) → PayloadConforming (with_body p b) → UnitsRead (with_body p b) b

@@ -6,7 +6,7 @@ use Rattle.isdb_tlv.specs.Guards.{◌=?◌}
 use Rattle.isdb_tlv.specs.Tlv.{packet_type}
 use Rattle.isdb_tlv.specs.Mmtp.{mmtp_of}
 use Rattle.isdb_tlv.specs.Fields.{bytes_of}
-use Rattle.isdb_tlv.specs.Iso23008.{Mmtp, header_of_lem, sent as mmtp_sent}
+use Rattle.isdb_tlv.specs.Iso23008.{Mmtp, header_of, sent as mmtp_sent}
 use Rattle.isdb_tlv.specs.Rfc791.{flow_of as ipv4_flow}
 use Rattle.isdb_tlv.specs.Rfc8200.{flow_of as ipv6_flow}
 use Rattle.isdb_tlv.specs.StdB32.{ipv6_id, Hcfb, ipv6_id_fits, HcfbConforming, flow_in, hcfb_sent}
@@ -23,7 +23,7 @@ use Rattle.isdb_mmt.specs.Decoder.Packet.{Packet, ip_error, ntp, non_mmtp_of, me
 use Rattle.isdb_mmt.specs.Decoder.Maps.{find, or_else, is_some}
 use Rattle.isdb_mmt.specs.Decoder.Objects.{Mfu, Asset, fresh, Rec, most_object, gap, lost_by, UnitEffect, grown, continued, effect_of, object_of, unit_effect}
 use Rattle.isdb_mmt.specs.Decoder.Objects.{after_unit, after_units, delivered_by, malformed_payload, after_headers, asset_after, tagged, passes, media_gives}
-use Rattle.isdb_mmt.specs.Decoder.Model.{State, opened, asset_of_lem, packet_counted, pushed, gives}
+use Rattle.isdb_mmt.specs.Decoder.Model.{State, opened, asset_of, packet_counted, pushed, gives}
 use Rattle.isdb_mmt.specs.Books.Demand.{push_all, give_all, Feed, packets_of}
 use Rattle.isdb_mmt.specs.declared.mpu.PayloadHeader.{PayloadHeader}
 use Rattle.isdb_mmt.proofs.Maps.{eqb_self, eqb-true, find_put, find_put_other}
@@ -37,7 +37,7 @@ use Rattle.isdb_mmt.proofs.StdB60Mpu.{payloads}
 
 -- the packet of a part, as the decoder has it
 abbrev part_seen : SentObject → ℕ → Division → ObjectPart → MpuPacket
-part_seen o n d x = media_seen (header_of_lem (part_packet o n d x)) (part_payload o d x) []
+part_seen o n d x = media_seen (header_of (part_packet o n d x)) (part_payload o d x) []
 
 part_received : (o : SentObject) (n : ℕ) (d : Division) (x : ObjectPart) → PartConforming o n d x
     → received (part_packet o n d x) ≡ media (part_seen o n d x)
@@ -45,7 +45,7 @@ part_received o n d x c =
     let m = part_packet o n d x in
     let p = part_payload o d x in
     let r = iso23008 m c.packet in
-    let e = rw (append-nil (payload_sent p)) at ((payloads p c.payload []).media (header_of_lem m)) in
+    let e = rw (append-nil (payload_sent p)) at ((payloads p c.payload []).media (header_of m)) in
     rw (r.fields, r.payload, e)
 
 -- what follows the last number leaves no gap
@@ -98,20 +98,20 @@ module _ (a : Asset) (m : MpuPacket) (h : PayloadHeader) (u : PayloadUnit) (next
       }
 
 -- the same of the state
-asset_after_lem : (s : State) (m : MpuPacket) → asset_of_lem m.id (pushed s (media m)) ≡ asset_after (asset_of_lem m.id s) m
-unfolding asset_of_lem pushed or_else
-asset_after_lem s m = rw (find_put m.id (asset_after (asset_of_lem m.id s) m) s.assets)
+asset_after_lem : (s : State) (m : MpuPacket) → asset_of m.id (pushed s (media m)) ≡ asset_after (asset_of m.id s) m
+unfolding asset_of pushed or_else
+asset_after_lem s m = rw (find_put m.id (asset_after (asset_of m.id s) m) s.assets)
 
 -- a packet that gives out nothing, before others that deliver an object
 pub record Passes (i : ℕ) (s : State) (p : Packet) : Type 0 where
   pub given : gives s p ≡ []
-  pub packets : (asset_of_lem i (pushed s p)).stats.packets ≡ (asset_of_lem i s).stats.packets + 1
-  pub delivered : (asset_of_lem i (pushed s p)).stats.mfus ≡ (asset_of_lem i s).stats.mfus
-  pub lost : (asset_of_lem i (pushed s p)).stats.packets_lost ≡ (asset_of_lem i s).stats.packets_lost
-  pub dropped : (asset_of_lem i (pushed s p)).stats.mfus_dropped ≡ (asset_of_lem i s).stats.mfus_dropped
-  pub malformed : (asset_of_lem i (pushed s p)).stats.malformed ≡ (asset_of_lem i s).stats.malformed
-  pub ip_errors_of : (pushed s p).counters.ip_errors ≡ s.counters.ip_errors
-  pub non_mmtp_of : (pushed s p).counters.non_mmtp ≡ s.counters.non_mmtp
+  pub packets : (asset_of i (pushed s p)).stats.packets ≡ (asset_of i s).stats.packets + 1
+  pub delivered : (asset_of i (pushed s p)).stats.mfus ≡ (asset_of i s).stats.mfus
+  pub lost : (asset_of i (pushed s p)).stats.packets_lost ≡ (asset_of i s).stats.packets_lost
+  pub dropped : (asset_of i (pushed s p)).stats.mfus_dropped ≡ (asset_of i s).stats.mfus_dropped
+  pub malformed : (asset_of i (pushed s p)).stats.malformed ≡ (asset_of i s).stats.malformed
+  pub ip_errors : (pushed s p).counters.ip_errors ≡ s.counters.ip_errors
+  pub non_mmtp : (pushed s p).counters.non_mmtp ≡ s.counters.non_mmtp
 
 then_delivers : {i : ℕ} {s : State} {p : Packet} {ps : List Packet} {x : Mfu} → Passes i s p
     → Delivers i (pushed s p) ps x → Delivers i s (p ∷ ps) x
@@ -128,12 +128,12 @@ then_delivers {i} {s} {p} {ps} f r =
             dropped = r.asset.dropped ∙ f.dropped;
             malformed = r.asset.malformed ∙ f.malformed;
           };
-      ip_errors_of = r.ip_errors_of ∙ f.ip_errors_of;
-      non_mmtp_of = r.non_mmtp_of ∙ f.non_mmtp_of;
+      ip_errors = r.ip_errors ∙ f.ip_errors;
+      non_mmtp = r.non_mmtp ∙ f.non_mmtp;
     }
 
 module _ (s : State) (m : MpuPacket) where
-  media_passes : {x : UnitEffect} → Takes (asset_of_lem m.id s) m x → x.outs ≡ [] → x.drops ≡ 0 → Passes m.id s (media m)
+  media_passes : {x : UnitEffect} → Takes (asset_of m.id s) m x → x.outs ≡ [] → x.drops ≡ 0 → Passes m.id s (media m)
   unfolding pushed gives packet_counted tagged
   media_passes t none_out none_dropped =
       record {
@@ -143,11 +143,11 @@ module _ (s : State) (m : MpuPacket) where
         lost = rw (asset_after_lem s m) t.lost;
         dropped = rw (asset_after_lem s m) (t.dropped ∙ rw none_dropped (rw add-zero));
         malformed = rw (asset_after_lem s m) t.malformed;
-        ip_errors_of = rw add-zero;
-        non_mmtp_of = rw add-zero;
+        ip_errors = rw add-zero;
+        non_mmtp = rw add-zero;
       }
 
-  media_delivers : {x : UnitEffect} {o : Mfu} → Takes (asset_of_lem m.id s) m x → x.outs ≡ o ∷ [] → x.drops ≡ 0 → x.held ≡ none
+  media_delivers : {x : UnitEffect} {o : Mfu} → Takes (asset_of m.id s) m x → x.outs ≡ o ∷ [] → x.drops ≡ 0 → x.held ≡ none
       → Delivers m.id s (media m ∷ []) o
   unfolding pushed gives packet_counted tagged push_all give_all
   media_delivers t one_out none_dropped none_held =
@@ -163,18 +163,18 @@ module _ (s : State) (m : MpuPacket) where
               dropped = t.dropped ∙ rw none_dropped (rw add-zero);
               malformed = t.malformed;
             });
-        ip_errors_of = rw add-zero;
-        non_mmtp_of = rw add-zero;
+        ip_errors = rw add-zero;
+        non_mmtp = rw add-zero;
       }
 
 -- a part: what its packet does is what its unit does
 abbrev part_object : SentObject → ObjectPart → Mfu
 part_object o x =
     record {
-      mpu = o.mpu_sequence_number_of;
+      mpu = o.mpu_sequence_number;
       rap = x.frame.rap =? 1;
       mfu = mfu_seen x.unit.header;
-      item_id_of = item_seen x.unit.header;
+      item_id = item_seen x.unit.header;
       bytes = x.unit.content;
     }
 
@@ -190,28 +190,28 @@ grown_twice g a b = rw (append_assoc g.bytes a b)
 
 -- the parts behind the first, while `g` is held
 rest_delivers : (o : SentObject) (xs : List ObjectPart) (final : ObjectPart) (n : ℕ) (s : State) (g : Mfu) → PartsConforming o n xs final
-    → (asset_of_lem o.packet_id_of s).held ≡ some g → Before (asset_of_lem o.packet_id_of s).number n
+    → (asset_of o.packet_id s).held ≡ some g → Before (asset_of o.packet_id s).number n
     → length g.bytes + length (data_from xs final) ≤ most_object
-    → Delivers o.packet_id_of s (map received (packets_from o n xs final)) (grown g (data_from xs final))
+    → Delivers o.packet_id s (map received (packets_from o n xs final)) (grown g (data_from xs final))
 unfolding effect_of continued
 rest_delivers o [] final n s g c held b short =
-    let a = asset_of_lem o.packet_id_of s in
+    let a = asset_of o.packet_id s in
     let t = part_takes o n last final c a b in
     let fits = le-leb (length g.bytes + length final.unit.content) most_object short in
     rw (part_received o n last final c)
     (media_delivers s (part_seen o n last final) t (rw (held, fits)) (rw (held, fits)) (rw (held, fits)))
 rest_delivers o (x ∷ xs) final n s g c held b short =
     let m = part_seen o n middle x in
-    let a = asset_of_lem o.packet_id_of s in
+    let a = asset_of o.packet_id s in
     let t = part_takes o n middle x c.0 a b in
     let more = length-append x.unit.content (data_from xs final) in
     let fits = le-leb (length g.bytes + length x.unit.content) most_object (omega arith) in
     let after = asset_after_lem s m in
     let s' = pushed s (media m) in
     let g' = grown g x.unit.content in
-    let holds : (asset_of_lem o.packet_id_of s').held ≡ some g' = rw after (t.held ∙ rw (held, fits)) in
-    let number : (asset_of_lem o.packet_id_of s').number ≡ some n = rw after t.number in
-    let before : Before (asset_of_lem o.packet_id_of s').number (next_number n) = rw number refl in
+    let holds : (asset_of o.packet_id s').held ≡ some g' = rw after (t.held ∙ rw (held, fits)) in
+    let number : (asset_of o.packet_id s').number ≡ some n = rw after t.number in
+    let before : Before (asset_of o.packet_id s').number (next_number n) = rw number refl in
     let long = length-append g.bytes x.unit.content in
     let rest = rest_delivers o xs final (next_number n) s' g' c.1 holds before (omega arith) in
     rw (part_received o n middle x c.0, ← grown_twice g x.unit.content (data_from xs final))
@@ -221,13 +221,13 @@ pub objects : ObjectTheorem
 unfolding effect_of is_some grown
 objects o c short s w =
     let m = part_seen o o.number head o.first in
-    let t = part_takes o o.number head o.first c.first (asset_of_lem o.packet_id_of s) w.number in
+    let t = part_takes o o.number head o.first c.first (asset_of o.packet_id s) w.number in
     let after = asset_after_lem s m in
     let s' = pushed s (media m) in
     let g = part_object o o.first in
-    let holds : (asset_of_lem o.packet_id_of s').held ≡ some g = rw after t.held in
-    let number : (asset_of_lem o.packet_id_of s').number ≡ some o.number = rw after t.number in
-    let before : Before (asset_of_lem o.packet_id_of s').number (next_number o.number) = rw number refl in
+    let holds : (asset_of o.packet_id s').held ≡ some g = rw after t.held in
+    let number : (asset_of o.packet_id s').number ≡ some o.number = rw after t.number in
+    let before : Before (asset_of o.packet_id s').number (next_number o.number) = rw number refl in
     let long = length-append o.first.unit.content (data_from o.middles o.final) in
     let rest = rest_delivers o o.middles o.final (next_number o.number) s' g c.others holds before (omega arith) in
     rw (part_received o o.number head o.first c.first) (then_delivers (media_passes s m t refl (rw w.held)) rest)
@@ -236,17 +236,17 @@ objects o c short s w =
 
 record Agree (i : ℕ) (s t : State) : Type 0 where
   passing : s.passing ≡ t.passing
-  asset : asset_of_lem i s ≡ asset_of_lem i t
+  asset : asset_of i s ≡ asset_of i t
 
 module _ (i : ℕ) where
-  asset_own : (s : State) (m : MpuPacket) → (i =? m.id) ≡ true → asset_of_lem i (pushed s (media m)) ≡ asset_after (asset_of_lem i s) m
+  asset_own : (s : State) (m : MpuPacket) → (i =? m.id) ≡ true → asset_of i (pushed s (media m)) ≡ asset_after (asset_of i s) m
   asset_own s m e = rw (eqb-true i m.id e) (asset_after_lem s m)
 
-  asset_other : (s : State) (m : MpuPacket) → (i =? m.id) ≡ false → asset_of_lem i (pushed s (media m)) ≡ asset_of_lem i s
-  unfolding asset_of_lem pushed
-  asset_other s m e = rw (find_put_other i m.id (asset_after (asset_of_lem m.id s) m) s.assets e)
+  asset_other : (s : State) (m : MpuPacket) → (i =? m.id) ≡ false → asset_of i (pushed s (media m)) ≡ asset_of i s
+  unfolding asset_of pushed
+  asset_other s m e = rw (find_put_other i m.id (asset_after (asset_of m.id s) m) s.assets e)
 
-  gives_own : (s : State) (m : MpuPacket) → (i =? m.id) ≡ true → gives s (media m) ≡ media_gives s.passing (asset_of_lem i s) m
+  gives_own : (s : State) (m : MpuPacket) → (i =? m.id) ≡ true → gives s (media m) ≡ media_gives s.passing (asset_of i s) m
   unfolding gives
   gives_own s m e = rw (eqb-true i m.id e)
 
@@ -269,7 +269,7 @@ module _ (i : ℕ) where
   gives_other : (s : State) (m : MpuPacket) → (i =? m.id) ≡ false → id_records i (gives s (media m)) ≡ []
   unfolding gives media_gives
   gives_other s m e =
-      let a = asset_of_lem m.id s in
+      let a = asset_of m.id s in
       let ds = delivered_by m (after_headers a m) (readable m) in
       records_append (passes s.passing m) (tagged m.id ds)
       ∙ rw (records_passes s.passing m e, records_tagged m.id ds e)
@@ -277,7 +277,7 @@ module _ (i : ℕ) where
   -- of what some packets do to the id, the id's own do all
   record Same (s t : State) (ps qs : List Packet) : Type 0 where
     given : id_records i (give_all s ps) ≡ id_records i (give_all t qs)
-    asset : asset_of_lem i (push_all s ps) ≡ asset_of_lem i (push_all t qs)
+    asset : asset_of i (push_all s ps) ≡ asset_of i (push_all t qs)
 
   skip_one : {s t : State} {p : Packet} {ps qs : List Packet} → id_records i (gives s p) ≡ []
       → Same (pushed s p) t ps qs → Same s t (p ∷ ps) qs
@@ -297,7 +297,7 @@ module _ (i : ℕ) where
 
   -- a packet of another id or kind
   other_agree : {s t : State} (p : Packet) → is_of i p ≡ false → Agree i s t → (id_records i (gives s p) ≡ []) × Agree i (pushed s p) t
-  unfolding gives pushed asset_of_lem id_records
+  unfolding gives pushed asset_of id_records
   other_agree ip_error e g = (refl, record { passing = g.passing; asset = g.asset })
   other_agree (ntp z) e g = (refl, record { passing = g.passing; asset = g.asset })
   other_agree non_mmtp_of e g = (refl, record { passing = g.passing; asset = g.asset })
@@ -308,7 +308,7 @@ module _ (i : ℕ) where
 
   -- one of the id
   own_agree : {s t : State} (p : Packet) → is_of i p ≡ true → Agree i s t → (gives s p ≡ gives t p) × Agree i (pushed s p) (pushed t p)
-  unfolding gives pushed asset_of_lem
+  unfolding gives pushed asset_of
   own_agree ip_error e g = (refl, record { passing = g.passing; asset = g.asset })
   own_agree (ntp z) e g = (refl, record { passing = g.passing; asset = g.asset })
   own_agree non_mmtp_of e g = (refl, record { passing = g.passing; asset = g.asset })
@@ -331,7 +331,7 @@ module _ (i : ℕ) where
 pub among_others : AmongOthersTheorem
 unfolding id_records
 among_others o c short s w ps own =
-    let i = o.packet_id_of in
+    let i = o.packet_id in
     let r = own_alone i ps s s (record { passing = refl; asset = refl }) in
     let d = objects o c short s w in
     (rw own at r.given ∙ rw (d.given, eqb_self i), rw (r.asset, own, ← length-map (object_packets o) received) d.asset)
@@ -367,7 +367,7 @@ example_carried : (m : Mmtp) → Carried (mmtp_sent m) (0x03, hcfb_sent (example
 example_carried m = by_hcfb (example_hcfb (mmtp_sent m)) (example_conforms (mmtp_sent m)) tt
 
 pub object_example : ObjectExample
-unfolding hcfb_sent mmtp_sent payload_sent bytes_of asset_of_lem opened or_else find fresh
+unfolding hcfb_sent mmtp_sent payload_sent bytes_of asset_of opened or_else find fresh
 object_example =
     let ps = object_packets example_object in
     let m = example_object.first.frame in

@@ -49,7 +49,7 @@ module _ {s : List ℕ} {at : ℕ} (x : SentSection) (c : SectionConforming x) (
   word_found : FoundAt s (at + 1) (written (field 2 length_word ∷ []))
   word_found =
       rw append-nil
-      (located_front (bytes_of 2 length_word) _ (located_rest (bytes_of 1 x.header.table_id_of) _ fields_found (length_bytes_of 1 x.header.table_id_of)))
+      (located_front (bytes_of 2 length_word) _ (located_rest (bytes_of 1 x.header.table_id) _ fields_found (length_bytes_of 1 x.header.table_id)))
 
   whole : whole_size s at ≡ length (bytes_sent x)
   whole = let k = c.header in let n = c.short in rw (of_header 1, size) (omega arith)

@@ -163,8 +163,8 @@ event_told_lem s x c y h =
     let e = (event_sized x c).conforming in
     let of = entry_field 10 (event_entry x) e refl h.sent in
     let upper = entry_upper 10 (event_entry x) e refl h.sent in
-    let running : get_or s (y.at + 10) 0 / 32 ≡ x.running_status_of = omega arith in
-    let free : get_or s (y.at + 10) 0 / 16 % 2 ≡ x.free_ca_of = omega arith in
+    let running : get_or s (y.at + 10) 0 / 32 ≡ x.running_status = omega arith in
+    let free : get_or s (y.at + 10) 0 / 16 % 2 ≡ x.free_ca = omega arith in
     rw (rw add-zero at (of 0), of 1, of 2, running, free, h.loop)
 
 event_kind : Kind 10 EventConforming event_entry event_value event_of event_seen
@@ -199,9 +199,9 @@ service_told_lem s x c y h =
     let flags = be_one s (y.at + 2) ∙ of 1 in
     let user : get_or s (y.at + 2) 0 / 4 % 8 ≡ x.user_defined_flags = omega arith in
     let schedule : get_or s (y.at + 2) 0 / 2 % 2 ≡ x.schedule = omega arith in
-    let following : get_or s (y.at + 2) 0 % 2 ≡ x.present_following_of = omega arith in
-    let running : get_or s (y.at + 3) 0 / 32 ≡ x.running_status_of = omega arith in
-    let free : get_or s (y.at + 3) 0 / 16 % 2 ≡ x.free_ca_of = omega arith in
+    let following : get_or s (y.at + 2) 0 % 2 ≡ x.present_following = omega arith in
+    let running : get_or s (y.at + 3) 0 / 32 ≡ x.running_status = omega arith in
+    let free : get_or s (y.at + 3) 0 / 16 % 2 ≡ x.free_ca = omega arith in
     rw (rw add-zero at (of 0), user, schedule, following, running, free, h.loop)
 
 service_kind : Kind 3 ServiceConforming service_entry service_value service_of service_seen

@@ -31,7 +31,7 @@ flow_size (flow6 sh sl sm dh dl dm) = refl
 -- what stands in them, by index of the field, is what is seen
 flow_told_lem : (x : SentFlow) (f : Flow) (s : List ℕ)
     → ((k : ℕ) → be (field_at k (flow_fields f)).width s (0 + offset_of k (flow_fields f)) ≡ (field_at k (flow_fields f)).value)
-    → flow_of s x.service_id_of_lem (address_size (is_ipv6 f =? 1)) (is_ipv6 f =? 1) ≡ flow_seen x f
+    → flow_of s x.service_id (address_size (is_ipv6 f =? 1)) (is_ipv6 f =? 1) ≡ flow_seen x f
 flow_told_lem x (flow4 a am d dm) s of = rw (be_one s 4, be_one s 9, of 0, of 1, of 2, of 3)
 flow_told_lem x (flow6 ah al am dh dl dm) s of = rw (be_one s 16, be_one s 33, of 0, of 1, of 2, of 3, of 4, of 5)
 
@@ -40,7 +40,7 @@ abbrev flow_word : SentFlow → ℕ
 flow_word x = packed (bits 1 (is_ipv6 x.flow) ∷ bits 5 x.reserved ∷ bits 10 (length (flow_loop x)) ∷ [])
 
 abbrev flow_head : SentFlow → List Field
-flow_head x = field 2 x.service_id_of_lem ∷ field 2 (flow_word x) ∷ []
+flow_head x = field 2 x.service_id ∷ field 2 (flow_word x) ∷ []
 
 flow_length : (x : SentFlow) → length (flow_sent x) ≡ 4 + length (flow_loop x)
 flow_length x = rw (length-append (written (flow_head x)) (flow_loop x), length_written (flow_head x))
@@ -58,7 +58,7 @@ flow_step {s} {at} x c h =
     let whole = flow_length x in
     let holds : n ≡ size (flow_fields x.flow) + length x.private = rw (length-append, length_written (flow_fields x.flow)) in
     let wide = flow_size x.flow in
-    let id : be 2 s at ≡ x.service_id_of_lem = first_read (flow_head x) fits head in
+    let id : be 2 s at ≡ x.service_id = first_read (flow_head x) fits head in
     let word : be 2 s (at + 2) ≡ flow_word x = rw add-zero at (field_read (flow_head x) fits head 1) in
     let version : flow_word x / 32768 ≡ is_ipv6 x.flow = omega arith in
     let len : flow_word x % 1024 ≡ n = omega arith in

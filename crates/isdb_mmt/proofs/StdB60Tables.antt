@@ -116,12 +116,12 @@ asset_places a = locations_sent a.locations ++ asset_end a
 abbrev asset_rest : SentAsset → List ℕ
 asset_rest a = written (asset_middle a) ++ asset_places a
 
-asset_parts : (a : SentAsset) → asset_sent a ≡ written (asset_head a) ++ (a.asset_id_of ++ asset_rest a)
+asset_parts : (a : SentAsset) → asset_sent a ≡ written (asset_head a) ++ (a.asset_id ++ asset_rest a)
 asset_parts a = simp append_assoc
 
 -- what is read of one that stands at `at`
 abbrev middle_at : SentAsset → ℕ → ℕ
-middle_at a at = at + 6 + length a.asset_id_of
+middle_at a at = at + 6 + length a.asset_id
 
 abbrev end_at : SentAsset → ℕ → ℕ
 end_at a at = middle_at a at + 6 + length (locations_sent a.locations)
@@ -129,25 +129,25 @@ end_at a at = middle_at a at + 6 + length (locations_sent a.locations)
 abbrev asset_read : SentAsset → ℕ → Asset
 asset_read a at =
     record {
-      identifier_type = a.identifier_type_of;
+      identifier_type = a.identifier_type;
       asset_id_scheme = a.id_scheme;
-      asset_id = part_at (at + 6) (length a.asset_id_of);
-      asset_type = a.asset_type_of;
-      clock_relation = a.clock_relation_of =? 1;
+      asset_id = part_at (at + 6) (length a.asset_id);
+      asset_type = a.asset_type;
+      clock_relation = a.clock_relation =? 1;
       locations = length a.locations;
       locations_start = middle_at a at + 6;
       descriptors = part_at (end_at a at + 2) (length (loop_sent a.descriptors));
     }
 
 module _ {s : List ℕ} {at : ℕ} (a : SentAsset) (c : AssetConforming a) (sent : FoundAt s at (asset_sent a)) where
-  all_located : FoundAt s at (written (asset_head a) ++ (a.asset_id_of ++ asset_rest a))
+  all_located : FoundAt s at (written (asset_head a) ++ (a.asset_id ++ asset_rest a))
   all_located = rw (asset_parts a) at sent
 
-  id_located : FoundAt s (at + 6) (a.asset_id_of ++ asset_rest a)
-  id_located = located_rest (written (asset_head a)) (a.asset_id_of ++ asset_rest a) all_located (length_written (asset_head a))
+  id_located : FoundAt s (at + 6) (a.asset_id ++ asset_rest a)
+  id_located = located_rest (written (asset_head a)) (a.asset_id ++ asset_rest a) all_located (length_written (asset_head a))
 
   middle_located : FoundAt s (middle_at a at) (asset_rest a)
-  middle_located = located_rest a.asset_id_of (asset_rest a) id_located refl
+  middle_located = located_rest a.asset_id (asset_rest a) id_located refl
 
   places_located : FoundAt s (middle_at a at + 6) (asset_places a)
   places_located = located_rest (written (asset_middle a)) (asset_places a) middle_located (length_written (asset_middle a))
@@ -160,7 +160,7 @@ module _ {s : List ℕ} {at : ℕ} (a : SentAsset) (c : AssetConforming a) (sent
 
   asset_next_lem : at + length (asset_sent a) ≡ end_at a at + 2 + length (loop_sent a.descriptors)
   asset_next_lem =
-      rw (asset_parts a, length-append (written (asset_head a)) (a.asset_id_of ++ asset_rest a), length-append a.asset_id_of (asset_rest a))
+      rw (asset_parts a, length-append (written (asset_head a)) (a.asset_id ++ asset_rest a), length-append a.asset_id (asset_rest a))
       (rw (length-append (written (asset_middle a)) (asset_places a), length-append (locations_sent a.locations) (asset_end a))
       (rw (length-append (written (size_field (loop_sent a.descriptors))) (loop_sent a.descriptors), length_written (asset_head a))
       (rw (length_written (asset_middle a), length_written (size_field (loop_sent a.descriptors))) (omega arith))))
@@ -168,19 +168,19 @@ module _ {s : List ℕ} {at : ℕ} (a : SentAsset) (c : AssetConforming a) (sent
   asset_step : asset_at_of s at ≡ asset (asset_read a at) (at + length (asset_sent a))
   unfolding asset_at_of asset_fields
   asset_step =
-      let n = length a.asset_id_of in
+      let n = length a.asset_id in
       let m = length (loop_sent a.descriptors) in
       let q = middle_at a at in
       let e = end_at a at in
-      let head = located_front (written (asset_head a)) (a.asset_id_of ++ asset_rest a) all_located in
+      let head = located_front (written (asset_head a)) (a.asset_id ++ asset_rest a) all_located in
       let fits : Fit (asset_head a) = omega arith in
       let middle = located_front (written (asset_middle a)) (asset_places a) middle_located in
       let fits2 : Fit (asset_middle a) = omega arith in
-      let kind : get_or s at 0 ≡ a.identifier_type_of = be_one s at ∙ first_read (asset_head a) fits head in
+      let kind : get_or s at 0 ≡ a.identifier_type = be_one s at ∙ first_read (asset_head a) fits head in
       let scheme : be 4 s (at + 1) ≡ a.id_scheme = field_read (asset_head a) fits head 1 in
       let len : get_or s (at + 5) 0 ≡ n = byte_read (asset_head a) fits head 2 refl in
-      let type : be 4 s q ≡ a.asset_type_of = first_read (asset_middle a) fits2 middle in
-      let clock : get_or s (q + 4) 0 % 2 ≡ a.clock_relation_of = rw (byte_read (asset_middle a) fits2 middle 1 refl) (omega arith) in
+      let type : be 4 s q ≡ a.asset_type = first_read (asset_middle a) fits2 middle in
+      let clock : get_or s (q + 4) 0 % 2 ≡ a.clock_relation = rw (byte_read (asset_middle a) fits2 middle 1 refl) (omega arith) in
       let count : get_or s (q + 5) 0 ≡ length a.locations = byte_read (asset_middle a) fits2 middle 2 refl in
       let end = locations_end_lem (q + 6) a.locations c.places (located_front (locations_sent a.locations) (asset_end a) places_located) in
       let size = size_read (loop_sent a.descriptors) c.loop end_located in
@@ -195,7 +195,7 @@ module _ {s : List ℕ} {at : ℕ} (a : SentAsset) (c : AssetConforming a) (sent
 
   asset_told_lem : asset_seen s (asset_read a at) ≡ asset_value a
   asset_told_lem =
-      let id = located_part a.asset_id_of (located_front a.asset_id_of (asset_rest a) id_located) in
+      let id = located_part a.asset_id (located_front a.asset_id (asset_rest a) id_located) in
       let ls = locations_read (middle_at a at + 6) a.locations c.places (located_front (locations_sent a.locations) (asset_end a) places_located) in
       rw (id, ls, asset_loop)
 
@@ -227,28 +227,28 @@ abbrev mpt_loop_part : SentMpt → List ℕ
 mpt_loop_part t = written (size_field (loop_sent t.descriptors)) ++ (loop_sent t.descriptors ++ mpt_assets_part t)
 
 abbrev mpt_front : SentMpt → List Field
-mpt_front t = field 1 (packed (bits 6 t.reserved ∷ bits 2 t.mode ∷ [])) ∷ field 1 (length t.package_id_of) ∷ []
+mpt_front t = field 1 (packed (bits 6 t.reserved ∷ bits 2 t.mode ∷ [])) ∷ field 1 (length t.package_id) ∷ []
 
-mpt_parts : (t : SentMpt) → mpt_rest t ≡ written (mpt_front t) ++ (t.package_id_of ++ mpt_loop_part t)
+mpt_parts : (t : SentMpt) → mpt_rest t ≡ written (mpt_front t) ++ (t.package_id ++ mpt_loop_part t)
 mpt_parts t = simp append_assoc
 
 module _ (t : SentMpt) (c : MptConforming t) where
-  mpt_headed : Headed (mpt_sent t) t.table_id_of t.version (mpt_rest t)
+  mpt_headed : Headed (mpt_sent t) t.table_id t.version (mpt_rest t)
   unfolding mpt_sent
-  mpt_headed = headed t.table_id_of t.version (mpt_rest t) c.table_id_of c.version c.short
+  mpt_headed = headed t.table_id t.version (mpt_rest t) c.table_id c.version c.short
 
-  mpt_located : FoundAt (mpt_sent t) 4 (written (mpt_front t) ++ (t.package_id_of ++ mpt_loop_part t))
+  mpt_located : FoundAt (mpt_sent t) 4 (written (mpt_front t) ++ (t.package_id ++ mpt_loop_part t))
   mpt_located = rw (mpt_parts t) at mpt_headed.rest
 
-  mpt_package : FoundAt (mpt_sent t) 6 (t.package_id_of ++ mpt_loop_part t)
-  mpt_package = located_rest (written (mpt_front t)) (t.package_id_of ++ mpt_loop_part t) mpt_located (length_written (mpt_front t))
+  mpt_package : FoundAt (mpt_sent t) 6 (t.package_id ++ mpt_loop_part t)
+  mpt_package = located_rest (written (mpt_front t)) (t.package_id ++ mpt_loop_part t) mpt_located (length_written (mpt_front t))
 
-  mpt_size : FoundAt (mpt_sent t) (length t.package_id_of + 6) (mpt_loop_part t)
-  mpt_size = rw (add_comm 6 (length t.package_id_of)) at (located_rest t.package_id_of (mpt_loop_part t) mpt_package refl)
+  mpt_size : FoundAt (mpt_sent t) (length t.package_id + 6) (mpt_loop_part t)
+  mpt_size = rw (add_comm 6 (length t.package_id)) at (located_rest t.package_id (mpt_loop_part t) mpt_package refl)
 
   mpt_loop_lem : FoundAt (mpt_sent t) (mpt_loop_start t) (loop_sent t.descriptors ++ mpt_assets_part t)
   mpt_loop_lem =
-      let place : length t.package_id_of + 6 + 2 ≡ mpt_loop_start t = omega arith in
+      let place : length t.package_id + 6 + 2 ≡ mpt_loop_start t = omega arith in
       rw place at (located_rest (written (size_field (loop_sent t.descriptors))) (loop_sent t.descriptors ++ mpt_assets_part t) mpt_size
       (length_written (size_field (loop_sent t.descriptors))))
 
@@ -259,13 +259,13 @@ pub mpt : MptTheorem
 unfolding mpt_of mpt_table mpt_assets
 mpt t c =
     let s = mpt_sent t in
-    let n = length t.package_id_of in
+    let n = length t.package_id in
     let m = length (loop_sent t.descriptors) in
     let start = mpt_loop_start t in
     let table = mpt_headed t c in
     let counted = counted_located (length t.assets) (assets_sent t.assets) c.few (mpt_assets_lem t c) in
     let within = located_within (assets_sent t.assets) counted in
-    let front = located_front (written (mpt_front t)) (t.package_id_of ++ mpt_loop_part t) (mpt_located t c) in
+    let front = located_front (written (mpt_front t)) (t.package_id ++ mpt_loop_part t) (mpt_located t c) in
     let fits : Fit (mpt_front t) = omega arith in
     let mode : get_or s 4 0 % 4 ≡ t.mode = rw (byte_read (mpt_front t) fits front 0 refl) (omega arith) in
     let id : get_or s 5 0 ≡ n = byte_read (mpt_front t) fits front 1 refl in
@@ -282,53 +282,53 @@ mpt t c =
           (rw (le-ltb (length s) (n + 8) (omega arith), size, le-ltb (length s - start) m (omega arith))
           (rw (le-ltb (length s - (start + m)) 1 (omega arith), number, l.whole, l.breaks, loop)
           (rw (loop_whole t.descriptors c.descriptors, table.id, table.version, mode))));
-      package_id_of = located_part t.package_id_of (located_front t.package_id_of (mpt_loop_part t) (mpt_package t c));
+      package_id = located_part t.package_id (located_front t.package_id (mpt_loop_part t) (mpt_package t c));
       descriptors = loop;
       assets = l.found;
     }
 
 -- PLT: a package that stands at `at`
 abbrev package_rest : SentPackage → List ℕ
-package_rest p = p.package_id_of ++ location_sent p.location
+package_rest p = p.package_id ++ location_sent p.location
 
-package_parts : (p : SentPackage) → package_sent p ≡ written (byte_field_lem (length p.package_id_of)) ++ package_rest p
-package_parts p = append_assoc (written (byte_field_lem (length p.package_id_of))) p.package_id_of (location_sent p.location)
+package_parts : (p : SentPackage) → package_sent p ≡ written (byte_field_lem (length p.package_id)) ++ package_rest p
+package_parts p = append_assoc (written (byte_field_lem (length p.package_id))) p.package_id (location_sent p.location)
 
 abbrev package_read : SentPackage → ℕ → Package
 package_read p at =
     record {
-      package_id = part_at (at + 1) (length p.package_id_of);
+      package_id = part_at (at + 1) (length p.package_id);
       location = location_seen p.location;
-      location_start = at + 1 + length p.package_id_of;
+      location_start = at + 1 + length p.package_id;
     }
 
 module _ {s : List ℕ} {at : ℕ} (p : SentPackage) (c : PackageConforming p) (sent : FoundAt s at (package_sent p)) where
-  package_located : FoundAt s at (written (byte_field_lem (length p.package_id_of)) ++ package_rest p)
+  package_located : FoundAt s at (written (byte_field_lem (length p.package_id)) ++ package_rest p)
   package_located = rw (package_parts p) at sent
 
   package_id_lem : FoundAt s (at + 1) (package_rest p)
-  package_id_lem = counted_located (length p.package_id_of) (package_rest p) c.package_id_of package_located
+  package_id_lem = counted_located (length p.package_id) (package_rest p) c.package_id package_located
 
-  package_place : FoundAt s (at + 1 + length p.package_id_of) (location_sent p.location)
-  package_place = located_rest p.package_id_of (location_sent p.location) package_id_lem refl
+  package_place : FoundAt s (at + 1 + length p.package_id) (location_sent p.location)
+  package_place = located_rest p.package_id (location_sent p.location) package_id_lem refl
 
-  package_next : at + length (package_sent p) ≡ at + 1 + length p.package_id_of + length (location_sent p.location)
+  package_next : at + length (package_sent p) ≡ at + 1 + length p.package_id + length (location_sent p.location)
   package_next =
-      let n = length p.package_id_of in
-      rw (package_parts p, length-append (written (byte_field_lem n)) (package_rest p), length-append p.package_id_of (location_sent p.location))
+      let n = length p.package_id in
+      rw (package_parts p, length-append (written (byte_field_lem n)) (package_rest p), length-append p.package_id (location_sent p.location))
       (rw (length_written (byte_field_lem n)) (omega arith))
 
   package_step : package_at_of s at ≡ one_package (package_read p at) (at + length (package_sent p))
   unfolding package_at_of
   package_step =
-      let n = length p.package_id_of in
+      let n = length p.package_id in
       let within = located_within (location_sent p.location) package_place in
-      let len = count_read_lem n (package_rest p) c.package_id_of package_located in
+      let len = count_read_lem n (package_rest p) c.package_id package_located in
       rw (lt-leb (length s) at (omega arith), len, le-ltb (length s - (at + 1)) n (omega arith))
       (rw (location_read p.location c.location package_place, package_next))
 
   package_told_lem : package_seen s (package_read p at) ≡ package_value p
-  package_told_lem = rw (located_part p.package_id_of (located_front p.package_id_of (location_sent p.location) package_id_lem))
+  package_told_lem = rw (located_part p.package_id (located_front p.package_id (location_sent p.location) package_id_lem))
 
 -- packages one behind another
 module _ (s : List ℕ) where
@@ -426,9 +426,9 @@ plt_parts : (t : SentPlt) → plt_rest t ≡ written (byte_field_lem (length t.p
 plt_parts t = append_assoc (written (byte_field_lem (length t.packages))) (packages_sent t.packages) (plt_deliveries_part t)
 
 module _ (t : SentPlt) (c : PltConforming t) where
-  plt_headed : Headed (plt_sent t) t.table_id_of t.version (plt_rest t)
+  plt_headed : Headed (plt_sent t) t.table_id t.version (plt_rest t)
   unfolding plt_sent
-  plt_headed = headed t.table_id_of t.version (plt_rest t) c.table_id_of c.version c.short
+  plt_headed = headed t.table_id t.version (plt_rest t) c.table_id c.version c.short
 
   plt_located : FoundAt (plt_sent t) 4 (written (byte_field_lem (length t.packages)) ++ plt_packages_part t)
   plt_located = rw (plt_parts t) at plt_headed.rest

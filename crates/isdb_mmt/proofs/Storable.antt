@@ -9,13 +9,13 @@ use Rattle.isdb_mmt.specs.Decoder.Objects.{Mfu, Asset, fresh, asset_after}
 use Rattle.isdb_mmt.specs.Decoder.Reassembly.{PartialMessage, most_message, reassembly_after, message_completed, cut_of_all}
 use Rattle.isdb_mmt.specs.Decoder.Kept.{zeros, table_read, mpt_after_all, a_section, section_of}
 use Rattle.isdb_mmt.specs.Decoder.GivenTables.{tables_given, control_tables}
-use Rattle.isdb_mmt.specs.Decoder.Model.{State, Control as ControlState, idle_control, opened, asset_of_lem, control_of, reassembly_of, packet_counted, time_after, pushed}
+use Rattle.isdb_mmt.specs.Decoder.Model.{State, Control as ControlState, idle_control, opened, asset_of, control_of, reassembly_of, packet_counted, time_after, pushed}
 use Rattle.isdb_mmt.specs.Decoder.Needs.{held_length, needs}
 use Rattle.isdb_mmt.specs.Memory.Lent.{part, places_from, every, indexed}
 use Rattle.isdb_mmt.specs.Memory.Layout.{most_count, media_places, media_size, object_place, control_places, control_size, section_places, section_size, time_place}
-use Rattle.isdb_mmt.specs.Memory.Session.{Session, limits_of, used_of, latest_of, time_of, counters_of, held_object_of_lem, media_place_of, control_place_of, section_place_of}
+use Rattle.isdb_mmt.specs.Memory.Session.{Session, limits_of, used_of, latest_of, time_of, counters_of, held_object_at, media_place_of, control_place_of, section_place_of}
 use Rattle.isdb_mmt.specs.Memory.Check.{stats_counts, packet_counts, table_counts, media_sound, control_sound, section_sound, media_in, controls_in, sections_in, Sound, lengths_of}
-use Rattle.isdb_mmt.specs.Memory.View.{given, header_given, item_given, mfu_of, asset_of_place, control_state_of_lem, asset_entry, control_entry, section_entry, view_by, view}
+use Rattle.isdb_mmt.specs.Memory.View.{given, header_given, item_given, mfu_of, asset_of_place, control_state_in, asset_entry, control_entry, section_entry, view_by, view}
 use Rattle.isdb_mmt.specs.Memory.Octets.{Octets, Lent}
 use Rattle.isdb_mmt.specs.Memory.PlacesOf.{first_in}
 use Rattle.isdb_mmt.specs.Pushes.MediaPlace.{StatsWithin}
@@ -89,20 +89,20 @@ module _ (l : Limits) (n : ℕ) (s : State) (h : Storable l n s) where
   time_after_lem (some t) q = q
 
   -- an id's asset, and its reassembly
-  pub asset_of : (i : ℕ) → i < 4294967296 → MediaFits l n i (asset_of_lem i s)
-  unfolding asset_of_lem
-  asset_of i q = every_found (MediaFits l n) fresh i (q, fresh_ok l.mfu_area n) s.assets h.assets
+  pub asset_of_lem : (i : ℕ) → i < 4294967296 → MediaFits l n i (asset_of i s)
+  unfolding asset_of
+  asset_of_lem i q = every_found (MediaFits l n) fresh i (q, fresh_ok l.mfu_area n) s.assets h.assets
 
   pub control_of_lem : (i : ℕ) → i < 4294967296 → ReassemblyFits l i (control_of i s)
   unfolding control_of
   control_of_lem i q = every_found (ReassemblyFits l) idle_control i (q, idle_ok l.message_area l.table_area) s.controls h.controls
 
   pub asset_next_lem : (m : MpuPacket) → MediaOk m → Plain (media m) → (needs s (media m)).object ≤ l.mfu_area
-      → MediaFits l (n + most_added) m.id (asset_after (asset_of_lem m.id s) m)
+      → MediaFits l (n + most_added) m.id (asset_after (asset_of m.id s) m)
   unfolding needs
   asset_next_lem m o q t =
       let i : m.id < 4294967296 = omega (arith, o.id) in
-      (i, asset_after_lem l.mfu_area n (asset_of_lem m.id s) m (asset_of m.id i).1 o q t)
+      (i, asset_after_lem l.mfu_area n (asset_of m.id s) m (asset_of_lem m.id i).1 o q t)
 
   -- a message packet: the tables that it gives, and its reassembly after it
   pub tables_given_lem : (c : MessagePacket) → PacketOk (message c) → Plain (message c) → Given (cut_of_all (message_completed (reassembly_of c.id s) c))
@@ -308,13 +308,13 @@ places_all of g f P size b o h (suc n) at i e =
     let q = was_both (f (of (part at size b))) _ e in
     (h i (part at size b) (octets_part at size b o) q.0, places_all of g f P size b o h n (at + size) (i + 1) q.1)
 
-object_ok : (p b : Bytes) → Octets p → Octets b → ObjectOk (mfu_of (held_object_of_lem p) b)
-unfolding mfu_of held_object_of_lem
+object_ok : (p b : Bytes) → Octets p → Octets b → ObjectOk (mfu_of (held_object_at p) b)
+unfolding mfu_of held_object_at
 object_ok p b o q =
     record {
       mpu = be_small p o 4 object_place;
       mfu =
-          header_given_lem (held_object_of_lem p).timed (held_object_of_lem p).header
+          header_given_lem (held_object_at p).timed (held_object_at p).header
           (record {
             fragment = be_small p o 4 (object_place + 6);
             sample = be_small p o 4 (object_place + 10);
@@ -322,7 +322,7 @@ object_ok p b o q =
             priority = be_small p o 1 (object_place + 18);
             dependency = be_small p o 1 (object_place + 19);
           });
-      item_id_of = item_given_lem (held_object_of_lem p).item (held_object_of_lem p).item_id (be_small p o 4 (object_place + 21));
+      item_id = item_given_lem (held_object_at p).item (held_object_at p).item_id (be_small p o 4 (object_place + 21));
       octets = q;
     }
 
@@ -334,7 +334,7 @@ stats_of_lem n s k =
       lost = k 1;
       scrambled = k 2;
       mfus = k 3;
-      scrambled_mfus_of = k 4;
+      scrambled_mfus = k 4;
       dropped = k 5;
       mpus = k 6;
       jumps = k 7;
@@ -384,7 +384,7 @@ module _ (l : Limits) (s : Session) (h : Lent s) where
 
   control_view : (i : ℕ) (p : Bytes) → Octets p → control_sound l (control_place_of p) ≡ true
       → ReassemblyFits l (control_entry l s i (control_place_of p)).0 (control_entry l s i (control_place_of p)).1
-  unfolding control_place_of control_state_of_lem
+  unfolding control_place_of control_state_in
   control_view i p o e =
       let c = control_place_of p in
       let w = control_was l c e in (

@@ -8,7 +8,7 @@ use Rattle.isdb_tlv.specs.Fields.{Field, field, written, Fit, puts}
 use Rattle.isdb_tlv.proofs.Numbers.{be_drop, be_take}
 use Rattle.isdb_tlv.proofs.Fields.{be_behind, field_at, offset_of, size, read, length_written}
 use Rattle.isdb_mmt.specs.Memory.Lent.{part, over, flag, flag_byte}
-use Rattle.isdb_mmt.specs.Memory.Session.{limits_of, limits_fields, used_of, used_fields, latest_of, latest_fields, time_of, time_fields, counters_of, counters_fields, held_object_of_lem, stats_of, media_place_of, media_fields, control_place_of, control_fields, section_place_of, section_fields}
+use Rattle.isdb_mmt.specs.Memory.Session.{limits_of, limits_fields, used_of, used_fields, latest_of, latest_fields, time_of, time_fields, counters_of, counters_fields, held_object_at, stats_of, media_place_of, media_fields, control_place_of, control_fields, section_place_of, section_fields}
 use Rattle.isdb_mmt.specs.Memory.Layout.{used_place, latest_place, time_place, counters_place, state_size}
 use Rattle.isdb_mmt.specs.declared.decoder.limits.Limits.{Limits}
 use Rattle.isdb_mmt.specs.declared.decoder.counts.Counters.{Counters}
@@ -125,7 +125,7 @@ counters_held x l h =
     }
 
 media_held : (x : Media) (p : List ℕ) → Holds 0 (media_fields x) p → media_place_of p ≡ x
-unfolding media_place_of held_object_of_lem stats_of
+unfolding media_place_of held_object_at stats_of
 media_held x p h =
     let o = x.object in
     λ i.

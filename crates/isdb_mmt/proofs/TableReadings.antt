@@ -8,7 +8,7 @@ use Rattle.isdb_mmt.specs.Decoder.Packet.{Bytes}
 use Rattle.isdb_mmt.specs.Formats.Part.{part_of}
 use Rattle.isdb_mmt.specs.Decoder.Maps.{find}
 use Rattle.isdb_mmt.specs.Decoder.Kept.{parses_as, mpt_parses, plt_parses, tot_parses}
-use Rattle.isdb_mmt.specs.Formats.Mpt.{mpt_of, service_id_of_lem, assets_from}
+use Rattle.isdb_mmt.specs.Formats.Mpt.{mpt_of, service_id_of, assets_from}
 use Rattle.isdb_mmt.specs.Formats.Plt.{plt_of}
 use Rattle.isdb_mmt.specs.Formats.Tot.{tot_of}
 use Rattle.isdb_mmt.specs.Memory.Layout.{control_places, control_size, section_places, section_size}
@@ -16,8 +16,8 @@ use Rattle.isdb_mmt.specs.Memory.Lent.{part, names_from, found_from, among}
 use Rattle.isdb_mmt.specs.Memory.Session.{Session, limits_of, used_of, latest_of, control_place_of, control_at, section_place_of, section_at}
 use Rattle.isdb_mmt.specs.Memory.Check.{controls_in, sections_in, control_sound, section_sound, lengths_of, sound, Sound}
 use Rattle.isdb_mmt.specs.Decoder.Model.{Control as ControlState}
-use Rattle.isdb_mmt.specs.Memory.View.{given, control_state_of_lem, view_by, view}
-use Rattle.isdb_mmt.specs.Answers.Readings.{area_part, section_found, section_part, control_found, mpt_at, mpt_part, plt_part, tot_part, table_if, table_read, table_id_of_lem, section_read, mpt_read, plt_read, tot_read, control_names, ascending, first_carried, carried, asset_in, asset_if, asset_among, asset_read, told_by}
+use Rattle.isdb_mmt.specs.Memory.View.{given, control_state_in, view_by, view}
+use Rattle.isdb_mmt.specs.Answers.Readings.{area_part, section_found, section_part, control_found, mpt_at, mpt_part, plt_part, tot_part, table_if, table_read, table_id_of_key, section_read, mpt_read, plt_read, tot_read, control_names, ascending, first_carried, carried, asset_in, asset_if, asset_among, asset_read, told_by}
 use Rattle.isdb_mmt.specs.Answers.ReadingLaws.{names_in, rises, InOrder}
 use Rattle.isdb_mmt.specs.Answers.TableReadingLaws.{says_of, section_bytes, mpt_bytes, Inside, Reads, TablesAreTold, SaysAsset, says_asset, carried_by, mpt_says, kept_says, carried_among, InsideMpt, AssetRead, CarriedAssets, Passes, PassedBelow, AnswerIs, FirstCarriers}
 use Rattle.isdb_mmt.specs.declared.part.Part.{Part}
@@ -92,16 +92,16 @@ module _ (s : Session) (ok : sound s ≡ true) where
         (section_was l (section_at s.state i)
         (place_was (section_sound l) section_place_of (used_of s.state).sections section_size section_places s.state i facts.kept u))
 
-    pub section_read_lem : Reads s.tables (section_read s k) (parses_as (table_id_of_lem k)) (section_bytes (find k (view s).store.kept))
+    pub section_read_lem : Reads s.tables (section_read s k) (parses_as (table_id_of_key k)) (section_bytes (find k (view s).store.kept))
     unfolding section_read
     section_read_lem =
-        reads (parses_as (table_id_of_lem k)) (section_part s (section_found s k)) (section_bytes (find k (view s).store.kept)) section_view
+        reads (parses_as (table_id_of_key k)) (section_part s (section_found s k)) (section_bytes (find k (view s).store.kept)) section_view
         (section_within (section_found s k) refl)
 
   -- ---- an MPT
   module _ (id : ℕ) where
-    at_place : (i : ℕ) (c : Control) (m : Bytes) → bytes_in s.tables (mpt_at l i c) ≡ mpt_bytes (some (control_state_of_lem c m (part ((l.sections + i) * l.table_area) c.mpt_length s.tables)))
-    unfolding control_state_of_lem
+    at_place : (i : ℕ) (c : Control) (m : Bytes) → bytes_in s.tables (mpt_at l i c) ≡ mpt_bytes (some (control_state_in c m (part ((l.sections + i) * l.table_area) c.mpt_length s.tables)))
+    unfolding control_state_in
     at_place i c m = either c.mpt (λ t. rw t refl) (λ f. rw f refl)
 
     mpt_of_lem : (r : Found) → bytes_in s.tables (mpt_part s r) ≡ mpt_bytes (control_at_place s r)
@@ -174,7 +174,7 @@ module _ (p id : ℕ) (tables : Bytes) (rest : AssetReading) where
   says_mpt : (m : Part) (t : MaybeMpt) → says_asset tables (asset_in p id m (part_of tables m) t rest) ≡ mpt_says p id (part_of tables m) t (says_asset tables rest)
   says_mpt m no_mpt = refl
   says_mpt m (some_mpt t) =
-      says_carried m (service_id_of_lem (part_of tables m) t.package_id) (first_carried p (part_of tables m) (assets_from t.assets (part_of tables m) t.start).found)
+      says_carried m (service_id_of (part_of tables m) t.package_id) (first_carried p (part_of tables m) (assets_from t.assets (part_of tables m) t.start).found)
 
   says_kept : (o : Option Part) → says_asset tables (asset_if p tables id o rest) ≡ kept_says p id (bytes_in tables o) (says_asset tables rest)
   says_kept none = refl
@@ -188,7 +188,7 @@ module _ (p id : ℕ) (tables : Bytes) (rest : AssetReading) where
     inside_mpt : (m : Part) → m.start + m.length ≤ length tables → (t : MaybeMpt) → InsideMpt tables (asset_in p id m (part_of tables m) t rest)
     inside_mpt m w no_mpt = tt
     inside_mpt m w (some_mpt t) =
-        inside_carried m w (service_id_of_lem (part_of tables m) t.package_id) (first_carried p (part_of tables m) (assets_from t.assets (part_of tables m) t.start).found)
+        inside_carried m w (service_id_of (part_of tables m) t.package_id) (first_carried p (part_of tables m) (assets_from t.assets (part_of tables m) t.start).found)
 
     inside_kept : (o : Option Part) → Within tables o → InsideMpt tables (asset_if p tables id o rest)
     inside_kept none w = r
@@ -278,7 +278,7 @@ module _ (p : ℕ) (m : List (ℕ × ControlState)) where
     module _ (rest : SaysAsset) (on : ((b : Bytes) → mpt_bytes (find x m) ≡ some b → Passes p b) → AnswerIs p m rest) where
       of_asset : (b : Bytes) → mpt_bytes (find x m) ≡ some b → (t : Mpt) → (mpt_of b).mpt ≡ some_mpt t → (o : Option Asset)
           → first_carried p b (assets_from t.assets b t.start).found ≡ o
-          → AnswerIs p m (carried_by x b (service_id_of_lem b t.package_id) o rest)
+          → AnswerIs p m (carried_by x b (service_id_of b t.package_id) o rest)
       of_asset b e t d none q =
           on (λ c g. let z : b ≡ c = some_same b c (sym e ∙ g) in subst (Passes p) z (record { mpt = t; parses = d; none = q }))
       of_asset b e t d (some y) q =

@@ -86,7 +86,7 @@ media_pushed s ok rows out m r k n s' rows' out' h =
       kept = h.kept;
       nothing = h.nothing;
       session = h.session;
-      rows_are_of = h.rows_out;
+      rows_are = h.rows_out;
       data_are = h.data_out;
       counts = h.counts;
     }

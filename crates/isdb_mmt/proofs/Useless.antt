@@ -6,7 +6,7 @@ use Rattle.isdb_mmt.specs.Decoder.Packet.{Bytes}
 use Rattle.isdb_mmt.specs.Decoder.Maps.{find, or_else}
 use Rattle.isdb_mmt.specs.Decoder.Objects.{fresh as fresh_asset}
 use Rattle.isdb_mmt.specs.Decoder.Kept.{Section}
-use Rattle.isdb_mmt.specs.Decoder.Model.{opened, asset_of_lem}
+use Rattle.isdb_mmt.specs.Decoder.Model.{opened, asset_of}
 use Rattle.isdb_mmt.specs.Books.Book.{book, is_held, delivered_of, well_formed, well_formed_in, reaching, all_idle, sections_from, reassemblies_after, sections_among}
 use Rattle.isdb_mmt.specs.Books.Demand.{held_bytes}
 use Rattle.isdb_mmt.specs.Memory.Lent.{every}
@@ -110,7 +110,7 @@ module _ (d : Decoder) (h : Demand3 d) where
       at (both.holds.ids media_id).delivered
 
   stays_none : held_in start media_id ≡ none
-  unfolding opened asset_of_lem find or_else fresh_asset held_bytes
+  unfolding opened asset_of find or_else fresh_asset held_bytes
   stays_none = rw (held_said_lem start media_id, (opening (small 9) (blank 2) fits).state) refl
 
   not_useless : NotUseless d

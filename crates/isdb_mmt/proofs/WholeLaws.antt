@@ -206,19 +206,19 @@ module _ (s : Session) (x : MessagePacket) (y : ReceivedFragment) (i k : ℕ) (i
 
   sits_by : (k : ℕ) → y.place_for ≡ place_for_at i k → k ≤ 1 → Sits s x.id i k c
   unfolding place_in
-  sits_by zero e h = subst (Sits s x.id i 0) (sym (fragment.place ∙ ap (place_in s.state) e)) (sits_old s ok x.id i (sym fragment.place_for_of_lem ∙ e))
-  sits_by (suc zero) e h = subst (Sits s x.id i 1) (sym (fragment.place ∙ ap (place_in s.state) e)) (sits_new s ok x.id i (sym fragment.place_for_of_lem ∙ e))
+  sits_by zero e h = subst (Sits s x.id i 0) (sym (fragment.place ∙ ap (place_in s.state) e)) (sits_old s ok x.id i (sym fragment.place_for ∙ e))
+  sits_by (suc zero) e h = subst (Sits s x.id i 1) (sym (fragment.place ∙ ap (place_in s.state) e)) (sits_new s ok x.id i (sym fragment.place_for ∙ e))
   sits_by (suc (suc k)) e h = absurd (omega arith)
 
   at : Sits s x.id i k c
-  at = sits_by k can.place_for_of can.few
+  at = sits_by k can.place_for can.few
 
   small_by : (k : ℕ) → y.place_for ≡ place_for_at i k → c.mpt ≡ true → c.mpt_length ≤ l.table_area
   unfolding place_in control_place_for controls_in
   small_by zero e t =
       let u : ℕ = (used_of s.state).control_ids in
       let names : List ℕ = names_from u control_size control_places s.state in
-      let w = found_within 0 names x.id i (place_for_was_old names l.control_ids x.id i (sym fragment.place_for_of_lem ∙ e)) in
+      let w = found_within 0 names x.id i (place_for_was_old names l.control_ids x.id i (sym fragment.place_for ∙ e)) in
       let n : length names ≡ u = length_names control_size u control_places s.state in
       let q = control_was l (control_at s.state i) (place_was (control_sound l) control_place_of u control_size control_places s.state i ok.messages (omega arith)) in
       let ec : c ≡ control_at s.state i = fragment.place ∙ ap (place_in s.state) e in
@@ -226,7 +226,7 @@ module _ (s : Session) (x : MessagePacket) (y : ReceivedFragment) (i k : ℕ) (i
   small_by (suc k) e t = true_not_false false (rw (fragment.place ∙ ap (place_in s.state) e) at t) refl
 
   small : c.mpt ≡ true → c.mpt_length ≤ l.table_area
-  small t = small_by k can.place_for_of t
+  small t = small_by k can.place_for t
 
   abbrev met : Passed l (lengths_of s)
   met = passed l (lengths_of s) ok.limits
@@ -491,7 +491,7 @@ module _ (s : Session) (x : MessagePacket) (y : ReceivedFragment) (i k : ℕ) (i
                 (laid_by f (i * l.message_area) c b s.messages)
                 (bytes_over ((l.sections + i) * l.table_area) (control_of x.id n).mpt
                 (latest_over l n.store (kept_over l.table_area 0 n.store.kept s.tables))))
-                ∙ sym (leaves_parts s ok x i k c at f fragment.outcome free.room y.place_for (sym fragment.place_for_of_lem) (place_for_by k can.place_for_of))
+                ∙ sym (leaves_parts s ok x i k c at f fragment.outcome free.room y.place_for (sym fragment.place_for) (place_for_by k can.place_for))
 
             pub whole_taken : QuietPushed s (message x) 0 (lent state' others' s.objects s.messages tables')
             whole_taken = record { number = sym e0 ∙ number_is; same = λ h. absurd (h refl); session = λ h. session_left }
@@ -537,4 +537,4 @@ module _ (s : Session) (x : MessagePacket) (y : ReceivedFragment) (i k : ℕ) (i
 
 module _ (s : Session) (x : MessagePacket) (y : ReceivedFragment) (h : CanPushWhole s x y) where
   pub whole_full : y.place_for ≡ NoneFree → QuietPushed s (message x) 8 s
-  whole_full e = no_place s h.session x (sym (received_met s x y h.received).place_for_of_lem ∙ e)
+  whole_full e = no_place s h.session x (sym (received_met s x y h.received).place_for ∙ e)

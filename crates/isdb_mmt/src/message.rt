@@ -2,7 +2,7 @@
 // message into the tables it carries.
 // Translated from message.rs of isdb-rs (Apache-2.0, see NOTICE) and changed.
 ghost use Rattle.std.specs.Prelude.{◌≡◌, ◌≤◌, length};
-ghost use Rattle.isdb_mmt.specs.Formats.Message.{fragment_of_lem, prefix_width, aggregated_at, body_part, section_table, pa_tables, content_of_lem, table_at};
+ghost use Rattle.isdb_mmt.specs.Formats.Message.{fragment_of, prefix_width, aggregated_at, body_part, section_table, pa_tables, content_of, table_at};
 
 use crate::part;
 use crate::part::Part;
@@ -31,7 +31,7 @@ pub struct Fragment {
 
 // The division of a payload that starts with a byte. Its data start at 2.
 pub fn fragment_of(flags: u8) -> Fragment
-    ensures { result ≡ fragment_of_lem flags }
+    ensures { result ≡ fragment_of flags }
 {
     let long_length = flags / 2 % 2 == 1;
     let aggregated = flags % 2 == 1;
@@ -146,7 +146,7 @@ fn pa_tables(m: &[u8]) -> Content
 
 // A message, by its id: PA, M2 section, CA, M2 short section; others hold no table.
 pub fn content_of(m: &[u8]) -> Content
-    ensures { result ≡ content_of_lem m.now }
+    ensures { result ≡ content_of m.now }
 {
     if m.len() < 2 {
         return Content::Malformed;

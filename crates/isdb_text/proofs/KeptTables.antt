@@ -2,7 +2,7 @@
 use Rattle.std.proofs.Common.{◌≡◌, ℕ, ◌-◌, ◌/◌, ◌<◌, List, [], ◌∷◌, refl, arith, ne_eqb}
 use Rattle.isdb_mmt.specs.Formats.Part.{part_of}
 use Rattle.isdb_mmt.specs.Memory.Session.{Session}
-use Rattle.isdb_mmt.specs.Answers.Readings.{table_id_of_lem, mpt_read, section_read, plt_read, tot_read, next_control_read, next_key_read}
+use Rattle.isdb_mmt.specs.Answers.Readings.{table_id_of_key, mpt_read, section_read, plt_read, tot_read, next_control_read, next_key_read}
 use Rattle.isdb_mmt.specs.declared.part.Part.{Part}
 use Rattle.isdb_mmt.specs.declared.decoder.readings.NameReading.{NameReading}
 use Rattle.isdb_mmt.specs.declared.decoder.readings.NameReading.TheVariants.{Refused as name_refused, Nothing as no_name_of, Name}
@@ -77,34 +77,34 @@ module _ (s : Session) (a : Ahead) where
 module _ {l m : List ℕ} {at q : ℕ} (key : ℕ) (b : List ℕ) where
   pub section_bit : key / 16777216 ≡ 0x9D → Wrote l at (bit_text key b) m q → Wrote l at (section_text key b) m q
   unfolding section_text
-  section_bit e w = let id : table_id_of_lem key ≡ 0x9D = e in rw id w
+  section_bit e w = let id : table_id_of_key key ≡ 0x9D = e in rw id w
 
   pub section_sdt : key / 16777216 ≡ 0x9F → Wrote l at (sdt_text key b) m q → Wrote l at (section_text key b) m q
   unfolding section_text
-  section_sdt e w = let id : table_id_of_lem key ≡ 0x9F = e in rw id w
+  section_sdt e w = let id : table_id_of_key key ≡ 0x9F = e in rw id w
 
   pub section_other_sdt : key / 16777216 ≡ 0xA0 → Wrote l at (sdt_text key b) m q → Wrote l at (section_text key b) m q
   unfolding section_text
-  section_other_sdt e w = let id : table_id_of_lem key ≡ 0xA0 = e in rw id w
+  section_other_sdt e w = let id : table_id_of_key key ≡ 0xA0 = e in rw id w
 
   pub section_nit : key / 16777216 ≡ 0x40 → Wrote l at (nit_text key b) m q → Wrote l at (section_text key b) m q
   unfolding section_text
-  section_nit e w = let id : table_id_of_lem key ≡ 0x40 = e in rw id w
+  section_nit e w = let id : table_id_of_key key ≡ 0x40 = e in rw id w
 
   pub section_other_nit : key / 16777216 ≡ 0x41 → Wrote l at (nit_text key b) m q → Wrote l at (section_text key b) m q
   unfolding section_text
-  section_other_nit e w = let id : table_id_of_lem key ≡ 0x41 = e in rw id w
+  section_other_nit e w = let id : table_id_of_key key ≡ 0x41 = e in rw id w
 
   pub section_amt : key / 16777216 ≡ 0xFE → Wrote l at (amt_text key b) m q → Wrote l at (section_text key b) m q
   unfolding section_text
-  section_amt e w = let id : table_id_of_lem key ≡ 0xFE = e in rw id w
+  section_amt e w = let id : table_id_of_key key ≡ 0xFE = e in rw id w
 
   pub section_eit : (key / 16777216 ≡ 0x9D → ⊥) → (key / 16777216 ≡ 0x9F → ⊥) → (key / 16777216 ≡ 0xA0 → ⊥)
       → (key / 16777216 ≡ 0x40 → ⊥) → (key / 16777216 ≡ 0x41 → ⊥) → (key / 16777216 ≡ 0xFE → ⊥)
       → Wrote l at (eit_text key b) m q → Wrote l at (section_text key b) m q
   unfolding section_text
   section_eit e f g h i j w =
-      let id : ℕ = table_id_of_lem key in
+      let id : ℕ = table_id_of_key key in
       rw (ne_eqb id 0x9D e, ne_eqb id 0x9F f, ne_eqb id 0xA0 g, ne_eqb id 0x40 h, ne_eqb id 0x41 i, ne_eqb id 0xFE j) w
 
 module _ {l m : List ℕ} {at q : ℕ} (t : Table) (b : List ℕ) where

@@ -68,7 +68,7 @@ record Fitting (c : Run) : Type 0 where
   rows : row_size * c.progress.records ≤ length c.rows
   out : c.progress.bytes ≤ length c.out
   lines : line_size * c.progress.packets ≤ length c.lines
-  rows_long_of : length c.rows < count_of_usize
+  rows_long : length c.rows < count_of_usize
   out_long : length c.out < count_of_usize
   lines_long : length c.lines < count_of_usize
 
@@ -105,7 +105,7 @@ module _ (c : Run) (p : TlvPacket) (h : Fitting c) (z : asks c.session (input_at
         rows = omega (arith, rows_long, given.records, length-drop (row_size * c.progress.records) c.rows, h.rows);
         out = omega (arith, out_long_lem, given.bytes, length-drop c.progress.bytes c.out, h.out);
         lines = omega (arith, line_put, room);
-        rows_long_of = rw rows_long h.rows_long_of;
+        rows_long = rw rows_long h.rows_long;
         out_long = rw out_long_lem h.out_long;
         lines_long = rw line_put h.lines_long;
       }
@@ -214,7 +214,7 @@ module _ (input : Bytes) (most : ℕ) where
       line_is = kept.lines (line_size * c.progress.packets) line_size (omega arith) ∙ line_there c p h it.asked it.room
 
       reply_records : c.progress.records + reply.records < count_of_usize
-      reply_records = omega (arith, next_fits.rows, next_fits.rows_long_of)
+      reply_records = omega (arith, next_fits.rows, next_fits.rows_long)
 
       reply_bytes : c.progress.bytes + reply.bytes < count_of_usize
       reply_bytes = omega (arith, next_fits.out, next_fits.out_long)
@@ -234,7 +234,7 @@ module _ (input : Bytes) (most : ℕ) where
           record {
             place = g;
             answer = answer_is;
-            rows_are_of = kept.rows (row_size * c.progress.records) (row_size * reply.records) (omega arith) ∙ rows_there_lem c p h it.asked it.room;
+            rows_are = kept.rows (row_size * c.progress.records) (row_size * reply.records) (omega arith) ∙ rows_there_lem c p h it.asked it.room;
             data_are = kept.out c.progress.bytes reply.bytes (omega arith) ∙ data_there c p h it.asked it.room;
           }
 
@@ -306,7 +306,7 @@ module _ (s s' : Session) (input : Bytes) (most : ℕ) (rows out lines rows' out
       (record {
         place = refl;
         answer = rw (u, d.1) refl;
-        rows_are_of = refl;
+        rows_are = refl;
         data_are = refl;
       })
 
@@ -322,7 +322,7 @@ module _ (s s' : Session) (input : Bytes) (most : ℕ) (rows out lines rows' out
       → Told input most a rows' out' lines' (length before) (pushed_over start before) (reply_of (pushed_over start before).session (input_at (pushed_over start before) p))
   unfolding recording_of progress_at Ended
   told_some n1 n2 n3 before after p f m =
-      let h : Fitting start = record { rows = omega arith; out = omega arith; lines = omega arith; rows_long_of = n1; out_long = n2; lines_long = n3 } in
+      let h : Fitting start = record { rows = omega arith; out = omega arith; lines = omega arith; rows_long = n1; out_long = n2; lines_long = n3 } in
       told_from input most s' rows' out' lines' a before after p start h (ended (before ++ (p ∷ after)) f) f (length before) (omega arith) m refl
 
 pub told_as_pushed : ToldAsPushed

@@ -3,7 +3,7 @@ use Rattle.std.specs.Prelude.{ℕ, List, []}
 use Rattle.isdb_tlv.specs.Guards.{◌=?◌}
 use Rattle.std.specs.Prelude.{if◌then◌else◌}
 use Rattle.isdb_mmt.specs.Formats.Part.{part_of}
-use Rattle.isdb_mmt.specs.Answers.Readings.{table_id_of_lem}
+use Rattle.isdb_mmt.specs.Answers.Readings.{table_id_of_key}
 use Rattle.isdb_mmt.specs.declared.decoder.readings.TableReading.{TableReading}
 use Rattle.isdb_mmt.specs.declared.decoder.readings.TableReading.TheVariants.{Refused as table_refused, Nothing as no_table_of, Bytes as the_bytes}
 use Rattle.isdb_text.specs.declared.kept_tables.Table.{Table}
@@ -22,7 +22,7 @@ section_of id key s =
     else eit_text key s
 
 unfoldable pub section_text : ℕ → List ℕ → List ℕ
-section_text key s = section_of (table_id_of_lem key) key s
+section_text key s = section_of (table_id_of_key key) key s
 
 abbrev pub table_text : Table → List ℕ → List ℕ
 table_text (Mpt id) s = mpt_text id s

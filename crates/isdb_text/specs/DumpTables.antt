@@ -10,7 +10,7 @@ use Rattle.isdb_mmt.specs.Formats.Eit.{event_step, eit_of}
 use Rattle.isdb_mmt.specs.Formats.Bit.{broadcaster_step, bit_of}
 use Rattle.isdb_mmt.specs.Formats.Nit.{stream_step, nit_of}
 use Rattle.isdb_mmt.specs.Formats.Plt.{package_at_of, delivery_at_of, plt_of}
-use Rattle.isdb_mmt.specs.Formats.Mpt.{asset_at_of, mpt_of, service_id_of_lem, first_packet_id, locations_of, component_tag_of_lem}
+use Rattle.isdb_mmt.specs.Formats.Mpt.{asset_at_of, mpt_of, service_id_of, first_packet_id, locations_of, component_tag_of}
 use Rattle.isdb_mmt.specs.declared.location.Location.{Location}
 use Rattle.isdb_mmt.specs.declared.location.Located.{Located}
 use Rattle.isdb_mmt.specs.declared.location.Located.TheVariants.{None as not_located, Some as located}
@@ -285,7 +285,7 @@ asset_fields s a =
 unfoldable pub asset_line : List ℕ → Asset → List ℕ
 asset_line s a =
     asset_fields s a ++ (u16_text (first_packet_id (locations_of a.locations s a.locations_start))
-    ++ (ascii " component_tag " ++ (u16_text (component_tag_of_lem (part_of s a.descriptors)) ++ ascii "\n")))
+    ++ (ascii " component_tag " ++ (u16_text (component_tag_of (part_of s a.descriptors)) ++ ascii "\n")))
 
 unfoldable pub asset_text : List ℕ → Asset → List ℕ
 asset_text s a =
@@ -301,7 +301,7 @@ assets_text s n from = texts (λ at. asset_element s (asset_at_of s at)) n from
 unfoldable pub mpt_line : ℕ → List ℕ → Mpt → List ℕ
 mpt_line control s t =
     filled (ascii "mpt # table_id 0x%% version # mode # package_id ") (control ∷ t.table_id ∷ t.version ∷ t.mode ∷ [])
-    ++ (bytes_as_hex (part_of s t.package_id) ++ (ascii " service_id " ++ (u16_text (service_id_of_lem s t.package_id) ++ ascii "\n")))
+    ++ (bytes_as_hex (part_of s t.package_id) ++ (ascii " service_id " ++ (u16_text (service_id_of s t.package_id) ++ ascii "\n")))
 
 unfoldable pub mpt_table : ℕ → List ℕ → Mpt → List ℕ
 mpt_table control s t =

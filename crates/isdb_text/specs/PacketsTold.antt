@@ -25,7 +25,7 @@ answered y = record { number = y.number; records = y.records; bytes = y.bytes }
 pub record Told (input : Bytes) (most : ℕ) (a : Pushes) (rows out lines : Bytes) (k : ℕ) (c : Run) (y : Reply) : Type 0 where
   pub place : progress_at input most lines a k ≡ c.progress
   pub answer : answer_of a lines k ≡ answered y
-  pub rows_are_of : part (row_size * c.progress.records) (row_size * y.records) rows ≡ take (row_size * y.records) y.rows
+  pub rows_are : part (row_size * c.progress.records) (row_size * y.records) rows ≡ take (row_size * y.records) y.rows
   pub data_are : part c.progress.bytes y.bytes out ≡ take y.bytes y.out
 
 -- of every packet of a call that is written; a list of lines has room for one at least

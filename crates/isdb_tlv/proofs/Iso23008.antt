@@ -12,7 +12,7 @@ use lib.Seq.{take_at, drop_at, get_or-drop}
 use borrow.Author.Tests.{lt-ltb, le-ltb, le-leb, lt-leb, ne_eqb, leb-true, leb-false}
 use Rattle.isdb_tlv.specs.Bytes.{be}
 use Rattle.isdb_tlv.specs.Fields.{Field, field, bits, packed, bytes_of, written}
-use Rattle.isdb_tlv.specs.Mmtp.{fec_type_of, payload_type_of, scramble_info_of_lem, scramble_control_of_lem}
+use Rattle.isdb_tlv.specs.Mmtp.{fec_type_of, payload_type_of, scramble_info_of, scramble_control_of}
 use Rattle.isdb_tlv.specs.Mmtp.{bits_of, entry, entries, extension_at, fixed_size, after_fixed, mmtp_of}
 use Rattle.isdb_tlv.specs.Iso23008.{Fec, not_protected, source, repair, reserved_fec, fec_code_of, fec_seen}
 use Rattle.isdb_tlv.specs.Iso23008.{Kind, mpu, generic_object, control_message, repair_symbol, open_kind, kind_code, kind_seen, KindConforming}
@@ -21,7 +21,7 @@ use Rattle.isdb_tlv.specs.Iso23008.{Entry, scrambling, other_entry, entry_type, 
 use Rattle.isdb_tlv.specs.Iso23008.{Extension, no_extension, multi_type, other_type, Mmtp, entry_sent, entries_sent}
 use Rattle.isdb_tlv.specs.Iso23008.{extension_bytes, extension_sent, extension_flag, counter_sent, counter_flag, header, front, sent}
 use Rattle.isdb_tlv.specs.Iso23008.{EntryConforming, EntriesConforming, ExtensionConforming, Conforming}
-use Rattle.isdb_tlv.specs.Iso23008.{scrambling_or, scrambling_in, scrambling_of, info_seen, control_seen, header_of_lem, Theorem}
+use Rattle.isdb_tlv.specs.Iso23008.{scrambling_or, scrambling_in, scrambling_of, info_seen, control_seen, header_of, Theorem}
 use Rattle.isdb_tlv.specs.declared.mmtp.Scramble.{Scramble}
 use Rattle.isdb_tlv.specs.declared.mmtp.Scramble.TheVariants.{Absent, Bits}
 use Rattle.isdb_tlv.specs.declared.mmtp.Extension.TheVariants.{Good}
@@ -95,13 +95,13 @@ abbrev told : Option Scrambling → Scramble
 told none = Absent
 told (some x) = Bits (scrambling_code x)
 
-info_told : (o : Option Scrambling) → scramble_info_of_lem (told o) ≡ info_seen o
+info_told : (o : Option Scrambling) → scramble_info_of (told o) ≡ info_seen o
 info_told none = refl
 info_told (some not_scrambled) = refl
 info_told (some even_key) = refl
 info_told (some odd_key) = refl
 
-control_told_lem : (o : Option Scrambling) → scramble_control_of_lem (told o) ≡ control_seen o
+control_told_lem : (o : Option Scrambling) → scramble_control_of (told o) ≡ control_seen o
 control_told_lem none = refl
 control_told_lem (some x) = refl
 
@@ -292,7 +292,7 @@ module _ (p : Mmtp) (c : Conforming p) where
       let e : get_or (sent p) 0 0 / 2 % 2 ≡ extension_flag p.extension = omega (arith, first, extended, fec) in
       after p.extension c.extension (fixed p) p.payload (get_or (sent p) 0 0) e fixed_size_lem
 
-  fields : mmtp_of (sent p) ≡ some_packet (record { header = header_of_lem p; start = length (front p) })
+  fields : mmtp_of (sent p) ≡ some_packet (record { header = header_of p; start = length (front p) })
   unfolding mmtp_of
   fields =
       let s = sent p in

@@ -95,7 +95,7 @@ pub record Mmtp : Type 0 where
   pub rap : ℕ
   pub reserved2 : ℕ
   pub kind : Kind
-  pub packet_id_of : ℕ
+  pub packet_id : ℕ
   pub delivery_timestamp : ℕ
   pub sequence_number : ℕ
   pub packet_counter : Option ℕ
@@ -140,7 +140,7 @@ header p =
     field 1 (packed (bits 2 0 ∷ bits 1 (counter_flag p.packet_counter) ∷ bits 2 (fec_code_of p.fec)
     ∷ bits 1 p.reserved ∷ bits 1 (extension_flag p.extension) ∷ bits 1 p.rap ∷ []))
     ∷ field 1 (packed (bits 2 p.reserved2 ∷ bits 6 (kind_code p.kind) ∷ []))
-    ∷ field 2 p.packet_id_of
+    ∷ field 2 p.packet_id
     ∷ field 4 p.delivery_timestamp
     ∷ field 4 p.sequence_number
     ∷ []
@@ -179,7 +179,7 @@ pub record Conforming (p : Mmtp) : Type 0 where
   pub rap : p.rap < 2
   pub reserved2 : p.reserved2 < 2 ^ 2
   pub kind : KindConforming p.kind
-  pub packet_id_of : p.packet_id_of < 2 ^ 16
+  pub packet_id : p.packet_id < 2 ^ 16
   pub delivery_timestamp : p.delivery_timestamp < 2 ^ 32
   pub sequence_number : p.sequence_number < 2 ^ 32
   pub extension : ExtensionConforming p.extension
@@ -209,20 +209,20 @@ abbrev pub control_seen : Option Scrambling → MaybeControl
 control_seen none = no_control
 control_seen (some x) = some_control (scrambling_code x)
 
-abbrev pub header_of_lem : Mmtp → Header
-header_of_lem p =
+abbrev pub header_of : Mmtp → Header
+header_of p =
     record {
       fec_type = fec_seen p.fec;
       rap = p.rap =? 1;
       payload_type = kind_seen p.kind;
-      packet_id = p.packet_id_of;
+      packet_id = p.packet_id;
       sequence = p.sequence_number;
       scramble_info = info_seen (scrambling_of p.extension);
       scramble_control = control_seen (scrambling_of p.extension);
     }
 
 pub record Read (p : Mmtp) : Type 0 where
-  pub fields : mmtp_of (sent p) ≡ some_packet (record { header = header_of_lem p; start = length (front p) })
+  pub fields : mmtp_of (sent p) ≡ some_packet (record { header = header_of p; start = length (front p) })
   pub payload : drop (length (front p)) (sent p) ≡ p.payload
 
 -- proved in proofs/Iso23008.antt

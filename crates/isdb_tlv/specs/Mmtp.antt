@@ -68,15 +68,15 @@ unfoldable pub entries : List ℕ → ℕ → Scramble
 entries s at = walk (entry s) Absent (length s) at
 
 -- scrambled: bits of 2 or 3, or an entry without its byte
-abbrev pub scramble_info_of_lem : Scramble → Bool
-scramble_info_of_lem Absent = false
-scramble_info_of_lem NoByte = true
-scramble_info_of_lem (Bits c) = 2 ≤? c
+abbrev pub scramble_info_of : Scramble → Bool
+scramble_info_of Absent = false
+scramble_info_of NoByte = true
+scramble_info_of (Bits c) = 2 ≤? c
 
-abbrev pub scramble_control_of_lem : Scramble → MaybeControl
-scramble_control_of_lem Absent = no_control
-scramble_control_of_lem NoByte = no_control
-scramble_control_of_lem (Bits c) = some_control c
+abbrev pub scramble_control_of : Scramble → MaybeControl
+scramble_control_of Absent = no_control
+scramble_control_of NoByte = no_control
+scramble_control_of (Bits c) = some_control c
 
 -- the header extension at `at`: a type, a length and so many bytes, all present. Type 0 holds entries (Table 6-7).
 unfoldable pub extension_at : List ℕ → ℕ → Extension
@@ -98,21 +98,21 @@ after_fixed s flags =
 
 -- Table 6-4: version 2 bits, packet counter flag 1, FEC type 2, reserved 1, extension flag 1, RAP flag 1, reserved 2,
 -- payload type 6, packet id 16, delivery timestamp 32, packet sequence number 32
-abbrev pub header_of_lem : List ℕ → ℕ → Scramble → Header
-header_of_lem s flags scramble =
+abbrev pub header_of : List ℕ → ℕ → Scramble → Header
+header_of s flags scramble =
     record {
       fec_type = fec_type_of (flags / 8);
       rap = flags % 2 =? 1;
       payload_type = payload_type_of (get_or s 1 0);
       packet_id = be 2 s 2;
       sequence = be 4 s 8;
-      scramble_info = scramble_info_of_lem scramble;
-      scramble_control = scramble_control_of_lem scramble;
+      scramble_info = scramble_info_of scramble;
+      scramble_control = scramble_control_of scramble;
     }
 
 abbrev pub packet : List ℕ → ℕ → Extension → Parsed
 packet s flags Bad = no_packet
-packet s flags (Good scramble start) = some_packet (record { header = header_of_lem s flags scramble; start = start })
+packet s flags (Good scramble start) = some_packet (record { header = header_of s flags scramble; start = start })
 
 -- a packet: twelve bytes at least and version 0, or none
 unfoldable pub mmtp_of : List ℕ → Parsed

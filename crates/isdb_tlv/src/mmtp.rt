@@ -2,7 +2,7 @@
 // (STD-B60, 4.2 and 7.2.3, Tables 4-6 and 4-8).
 // Translated from mmtp.rs of isdb-rs (Apache-2.0, see NOTICE) and changed.
 ghost use Rattle.std.specs.Prelude.{◌≡◌, ◌+◌, ◌≤◌, ◌<◌, length, drop};
-ghost use Rattle.isdb_tlv.specs.Mmtp.{fec_code_of, fec_type_of, payload_code_of, payload_type_of, entries, scramble_info_of_lem, scramble_control_of_lem, fixed_size, extension_at, after_fixed, header_of_lem, mmtp_of};
+ghost use Rattle.isdb_tlv.specs.Mmtp.{fec_code_of, fec_type_of, payload_code_of, payload_type_of, entries, scramble_info_of, scramble_control_of, fixed_size, extension_at, after_fixed, header_of, mmtp_of};
 ghost use Rattle.isdb_tlv.specs.Messages.{no_table_ids, word_of, has, insert, insert_all, set_of, listed_from, walked_from, pa_tables, pa_message, section_message, message_of, message_in, prefixed_at, message_at, message_step, counted, messages_of};
 
 use crate::bytes;
@@ -101,7 +101,7 @@ pub enum Scramble {
 impl Scramble {
     // Whether the payload counts as scrambled: bits of 2 or 3, or no byte to say.
     pub fn info(self) -> bool
-        ensures { result ≡ scramble_info_of_lem self }
+        ensures { result ≡ scramble_info_of self }
     {
         match self {
             Scramble::Absent => false,
@@ -111,7 +111,7 @@ impl Scramble {
     }
 
     pub fn control(self) -> MaybeControl
-        ensures { result ≡ scramble_control_of_lem self }
+        ensures { result ≡ scramble_control_of self }
     {
         match self {
             Scramble::Absent => MaybeControl::None,
@@ -246,7 +246,7 @@ fn after_fixed(b: &[u8], flags: u8) -> Extension
 // The header's fields. The caller has seen the 12 bytes.
 fn header_of(b: &[u8], flags: u8, scramble: Scramble) -> Header
     requires { 12 ≤ length b.now }
-    ensures { result ≡ header_of_lem b.now flags scramble }
+    ensures { result ≡ header_of b.now flags scramble }
 {
     Header {
         fec_type: FecType::from_code(flags / 8),

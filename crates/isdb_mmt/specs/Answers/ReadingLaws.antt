@@ -84,7 +84,7 @@ object_of b o =
       mpu = o.mpu_sequence_number;
       rap = o.rap;
       mfu = o.mfu;
-      item_id_of = o.item_id;
+      item_id = o.item_id;
       bytes = part_of b o.bytes;
     }
 
@@ -147,9 +147,9 @@ pub record NamesTold (s : Session) : Type 0 where
   pub media : InOrder (names_in (view s).assets) (ascending (media_names s))
   pub controls : InOrder (names_in (view s).controls) (ascending (control_names s))
   pub keys : InOrder (names_in (view s).store.kept) (ascending (keys_in s))
-  pub next_media_of : (a : ℕ) → NextTold (names_in (view s).assets) a most_name (next_media_read s a)
-  pub next_control_of : (a : ℕ) → NextTold (names_in (view s).controls) a most_name (next_control_read s a)
-  pub next_key_of : (a b : ℕ) → NextTold (names_in (view s).store.kept) a b (next_key_read s a b)
+  pub next_media : (a : ℕ) → NextTold (names_in (view s).assets) a most_name (next_media_read s a)
+  pub next_control : (a : ℕ) → NextTold (names_in (view s).controls) a most_name (next_control_read s a)
+  pub next_key : (a b : ℕ) → NextTold (names_in (view s).store.kept) a b (next_key_read s a b)
 
 -- the state is made of bytes, so that no name is above the largest
 abbrev pub NamesAreTold : Type 0

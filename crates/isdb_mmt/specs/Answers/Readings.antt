@@ -12,7 +12,7 @@ use Rattle.isdb_mmt.specs.Memory.Session.{Session, limits_of, used_of, latest_of
 use Rattle.isdb_mmt.specs.Memory.Check.{sound}
 use Rattle.isdb_mmt.specs.Memory.View.{given, header_given, item_given}
 use Rattle.isdb_mmt.specs.Decoder.Kept.{parses_as, mpt_parses, plt_parses, tot_parses}
-use Rattle.isdb_mmt.specs.Formats.Mpt.{mpt_of, service_id_of_lem, locations_of, first_packet_id, assets_from}
+use Rattle.isdb_mmt.specs.Formats.Mpt.{mpt_of, service_id_of, locations_of, first_packet_id, assets_from}
 use Rattle.isdb_mmt.specs.Formats.Plt.{plt_of}
 use Rattle.isdb_mmt.specs.Formats.Tot.{tot_of}
 use Rattle.isdb_mmt.specs.declared.part.Part.{Part}
@@ -222,11 +222,11 @@ abbrev pub table_read : Session → (Bytes → Bool) → Option Part → TableRe
 table_read s parses p = if sound s then table_if parses s.tables p else table_refused 5
 
 -- a section as the table that its key's high byte, the table id, names
-abbrev pub table_id_of_lem : ℕ → ℕ
-table_id_of_lem k = k / 2 ^ 24
+abbrev pub table_id_of_key : ℕ → ℕ
+table_id_of_key k = k / 2 ^ 24
 
 unfoldable pub section_read : Session → ℕ → TableReading
-section_read s k = table_read s (parses_as (table_id_of_lem k)) (section_part s (section_found s k))
+section_read s k = table_read s (parses_as (table_id_of_key k)) (section_part s (section_found s k))
 
 unfoldable pub mpt_read : Session → ℕ → TableReading
 mpt_read s id = table_read s (λ b. mpt_parses (mpt_of b).mpt) (mpt_part s (control_found s id))
@@ -257,7 +257,7 @@ carried id m service (some a) rest = the_asset (record { control_id = id; mpt = 
 abbrev pub asset_in : ℕ → ℕ → Part → Bytes → MaybeMpt → AssetReading → AssetReading
 asset_in p id m b no_mpt rest = asset_refused 5
 asset_in p id m b (some_mpt t) rest =
-    carried id m (service_id_of_lem b t.package_id) (first_carried p b (assets_from t.assets b t.start).found) rest
+    carried id m (service_id_of b t.package_id) (first_carried p b (assets_from t.assets b t.start).found) rest
 
 abbrev pub asset_if : ℕ → Bytes → ℕ → Option Part → AssetReading → AssetReading
 asset_if p tables id none rest = rest

@@ -6,14 +6,14 @@ use Rattle.isdb_mmt.specs.Decoder.Packet.{Bytes}
 use Rattle.isdb_mmt.specs.Formats.Part.{part_of}
 use Rattle.isdb_mmt.specs.Decoder.Maps.{find}
 use Rattle.isdb_mmt.specs.Decoder.Kept.{Kept, parses_as, mpt_parses, plt_parses, tot_parses}
-use Rattle.isdb_mmt.specs.Formats.Mpt.{mpt_of, service_id_of_lem, assets_from}
+use Rattle.isdb_mmt.specs.Formats.Mpt.{mpt_of, service_id_of, assets_from}
 use Rattle.isdb_mmt.specs.Formats.Plt.{plt_of}
 use Rattle.isdb_mmt.specs.Formats.Tot.{tot_of}
 use Rattle.isdb_mmt.specs.Decoder.Model.{State, Control}
 use Rattle.isdb_mmt.specs.Memory.Session.{Session}
 use Rattle.isdb_mmt.specs.Memory.Check.{sound}
 use Rattle.isdb_mmt.specs.Memory.View.{view}
-use Rattle.isdb_mmt.specs.Answers.Readings.{table_id_of_lem, section_read, mpt_read, plt_read, tot_read, first_carried, ascending, asset_read, TableTold, refused, nothing, these, told_by}
+use Rattle.isdb_mmt.specs.Answers.Readings.{table_id_of_key, section_read, mpt_read, plt_read, tot_read, first_carried, ascending, asset_read, TableTold, refused, nothing, these, told_by}
 use Rattle.isdb_mmt.specs.Memory.Octets.{Octets}
 use Rattle.isdb_mmt.specs.Answers.ReadingLaws.{names_in}
 use Rattle.isdb_mmt.specs.declared.maybe.MaybeU16.{MaybeU16}
@@ -52,7 +52,7 @@ pub record Reads (tables : Bytes) (r : TableReading) (parses : Bytes → Bool) (
 
 -- every reading of a session's kept tables
 pub record KeptRead (s : Session) : Type 0 where
-  pub section : (k : ℕ) → Reads s.tables (section_read s k) (parses_as (table_id_of_lem k)) (section_bytes (find k (view s).store.kept))
+  pub section : (k : ℕ) → Reads s.tables (section_read s k) (parses_as (table_id_of_key k)) (section_bytes (find k (view s).store.kept))
   pub mpt : (id : ℕ) → Reads s.tables (mpt_read s id) (λ b. mpt_parses (mpt_of b).mpt) (mpt_bytes (find id (view s).controls))
   pub plt : Reads s.tables (plt_read s) (λ b. plt_parses (plt_of b)) (view s).store.plt
   pub tot : Reads s.tables (tot_read s) (λ b. tot_parses (tot_of b).result) (view s).store.tot
@@ -81,7 +81,7 @@ carried_by id b v (some a) rest = an_asset id b v a
 abbrev pub mpt_says : ℕ → ℕ → Bytes → MaybeMpt → SaysAsset → SaysAsset
 mpt_says p id b no_mpt rest = refused_asset 5
 mpt_says p id b (some_mpt t) rest =
-    carried_by id b (service_id_of_lem b t.package_id) (first_carried p b (assets_from t.assets b t.start).found) rest
+    carried_by id b (service_id_of b t.package_id) (first_carried p b (assets_from t.assets b t.start).found) rest
 
 abbrev pub kept_says : ℕ → ℕ → Option Bytes → SaysAsset → SaysAsset
 kept_says p id none rest = rest
@@ -120,7 +120,7 @@ pub record Carries (p : ℕ) (m : List (ℕ × Control)) (id : ℕ) (b : Bytes) 
   pub kept : mpt_bytes (find id m) ≡ some b
   pub mpt : Mpt
   pub parses : (mpt_of b).mpt ≡ some_mpt mpt
-  pub service : v ≡ service_id_of_lem b mpt.package_id
+  pub service : v ≡ service_id_of b mpt.package_id
   pub asset : first_carried p b (assets_from mpt.assets b mpt.start).found ≡ some a
   pub before : PassedBelow p m id
 

@@ -5,7 +5,7 @@ use Rattle.isdb_mmt.specs.Decoder.Packet.{Bytes, PayloadUnit, Packet, classify, 
 use Rattle.isdb_mmt.specs.Decoder.Maps.{find}
 use Rattle.isdb_mmt.specs.Decoder.Objects.{Mfu, Rec}
 use Rattle.isdb_mmt.specs.Decoder.Kept.{Kept, Section}
-use Rattle.isdb_mmt.specs.Decoder.Model.{State, opened, asset_of_lem, pushed, gives}
+use Rattle.isdb_mmt.specs.Decoder.Model.{State, opened, asset_of, pushed, gives}
 use Rattle.isdb_mmt.specs.Books.Book.{reception_log, book, is_held, begun, delivered_of, MadeOf, well_formed, FirstOfLastRun}
 
 -- the packets one after the other, and all that they give out
@@ -22,13 +22,13 @@ held_bytes none = none
 held_bytes (some h) = some h.bytes
 
 abbrev pub held_of : ℕ → State → Option Bytes
-held_of i s = held_bytes (asset_of_lem i s).held
+held_of i s = held_bytes (asset_of i s).held
 
 abbrev pub dropped_of : ℕ → State → ℕ
-dropped_of i s = (asset_of_lem i s).stats.mfus_dropped
+dropped_of i s = (asset_of i s).stats.mfus_dropped
 
 abbrev pub lost_of : ℕ → State → ℕ
-lost_of i s = (asset_of_lem i s).stats.packets_lost
+lost_of i s = (asset_of i s).stats.packets_lost
 
 -- a unit is a part of its packet, which has at most 65,535 bytes
 abbrev pub AllSmall : List PayloadUnit → Type 0

@@ -41,9 +41,9 @@ opened pass =
       counters = zeros;
     }
 
-unfoldable pub asset_of_lem : ℕ → State → Asset
+unfoldable pub asset_of : ℕ → State → Asset
 unfolding or_else fresh find
-asset_of_lem i s = or_else fresh (find i s.assets)
+asset_of i s = or_else fresh (find i s.assets)
 
 unfoldable pub control_of : ℕ → State → Control
 unfolding or_else idle_control find
@@ -88,7 +88,7 @@ counting s c =
     record { passing = s.passing; assets = s.assets; controls = s.controls; store = s.store; time = s.time; counters = c }
 
 unfoldable pub pushed : State → Packet → State
-unfolding put asset_after asset_of_lem control_of reassembly_after message_completed mpt_after_all stored_all counted_all packet_counted reassembly_counted tables_given time_after
+unfolding put asset_after asset_of control_of reassembly_after message_completed mpt_after_all stored_all counted_all packet_counted reassembly_counted tables_given time_after
 pushed s ip_error = counting s (packet_counted s.counters 1 0 0)
 pushed s non_mmtp_of = counting s (packet_counted s.counters 0 1 0)
 pushed s other = counting s (packet_counted s.counters 0 0 0)
@@ -104,7 +104,7 @@ pushed s (ntp t) =
 pushed s (media m) =
     record {
       passing = s.passing;
-      assets = put m.id (asset_after (asset_of_lem m.id s) m) s.assets;
+      assets = put m.id (asset_after (asset_of m.id s) m) s.assets;
       controls = s.controls;
       store = s.store;
       time = s.time;
@@ -139,11 +139,11 @@ pushed s (control bs) =
 
 -- the records given out
 unfoldable pub gives : State → Packet → List Rec
-unfolding media_gives asset_of_lem
+unfolding media_gives asset_of
 gives s ip_error = []
 gives s non_mmtp_of = []
 gives s other = []
 gives s (ntp t) = []
-gives s (media m) = media_gives s.passing (asset_of_lem m.id s) m
+gives s (media m) = media_gives s.passing (asset_of m.id s) m
 gives s (message c) = []
 gives s (control bs) = []

@@ -8,7 +8,7 @@ use Rattle.isdb_mmt.specs.Decoder.Objects.{Mfu, Asset, UnitEffect, unit_effect, 
 use Rattle.isdb_mmt.specs.Decoder.Reassembly.{PartialMessage, Reassembly, short, flags_of, part_before, joined_on}
 use Rattle.isdb_mmt.specs.Decoder.Kept.{other_version, KeptTables, stored, Table, empty_table, mpt_table, plt_table, tot_table, truncated_section, a_section, other_table}
 use Rattle.isdb_mmt.specs.Decoder.GivenTables.{tables_given, control_tables}
-use Rattle.isdb_mmt.specs.Decoder.Model.{State, asset_of_lem, control_of, reassembly_of, pushed, gives}
+use Rattle.isdb_mmt.specs.Decoder.Model.{State, asset_of, control_of, reassembly_of, pushed, gives}
 use Rattle.isdb_mmt.specs.declared.mpu.FragmentationIndicator.{FragmentationIndicator}
 use Rattle.isdb_mmt.specs.declared.mpu.FragmentationIndicator.TheVariants.{Complete, Head, Middle, Last}
 use Rattle.isdb_mmt.specs.declared.message.Division.{Division}
@@ -16,8 +16,8 @@ use Rattle.isdb_mmt.specs.declared.message.Division.TheVariants.{Undivided, Firs
 
 pub record Needs : Type 0 where
   -- places that it takes, of each sort
-  pub media_ids_of : ℕ
-  pub control_ids_of : ℕ
+  pub media_ids : ℕ
+  pub control_ids : ℕ
   pub sections : ℕ
   -- the longest object, message and table that it holds, joins or keeps on the way
   pub object : ℕ
@@ -83,7 +83,7 @@ abbrev pub object_for : State → Packet → ℕ
 object_for s ip_error = 0
 object_for s (ntp t) = 0
 object_for s non_mmtp_of = 0
-object_for s (media m) = units_need m (after_headers (asset_of_lem m.id s) m) (readable m)
+object_for s (media m) = units_need m (after_headers (asset_of m.id s) m) (readable m)
 object_for s (message c) = 0
 object_for s (control bs) = 0
 object_for s other = 0
@@ -111,11 +111,11 @@ data_of [] = 0
 data_of (r ∷ rs) = length r.mfu.bytes + data_of rs
 
 unfoldable pub needs : State → Packet → Needs
-unfolding pushed gives units_need after_headers asset_of_lem readable reassembly_needs control_of tables_need tables_given
+unfolding pushed gives units_need after_headers asset_of readable reassembly_needs control_of tables_need tables_given
 needs s p =
     record {
-      media_ids_of = length (pushed s p).assets - length s.assets;
-      control_ids_of = length (pushed s p).controls - length s.controls;
+      media_ids = length (pushed s p).assets - length s.assets;
+      control_ids = length (pushed s p).controls - length s.controls;
       sections = length (pushed s p).store.kept - length s.store.kept;
       object = object_for s p;
       message = message_for s p;

@@ -21,7 +21,7 @@ pub record Mfu : Type 0 where
   pub mpu : ℕ
   pub rap : Bool
   pub mfu : MaybeMfu
-  pub item_id_of : MaybeU32
+  pub item_id : MaybeU32
   pub bytes : Bytes
 
 pub record Asset : Type 0 where
@@ -85,7 +85,7 @@ pub record UnitEffect : Type 0 where
   pub outs : List Mfu
 
 unfoldable pub grown : Mfu → Bytes → Mfu
-grown h d = record { mpu = h.mpu; rap = h.rap; mfu = h.mfu; item_id_of = h.item_id_of; bytes = h.bytes ++ d }
+grown h d = record { mpu = h.mpu; rap = h.rap; mfu = h.mfu; item_id = h.item_id; bytes = h.bytes ++ d }
 
 -- an object continued: it fits or it is dropped; its end delivers it
 unfoldable pub continued : Bool → Bool → Mfu → UnitEffect
@@ -123,7 +123,7 @@ mpu_number (some h) = h.mpu_sequence_number
 -- the object that a unit begins
 unfoldable pub object_of : MpuPacket → PayloadUnit → Mfu
 object_of m u =
-    record { mpu = mpu_number m.header; rap = m.rap; mfu = u.mfu; item_id_of = u.item_id_of; bytes = u.bytes }
+    record { mpu = mpu_number m.header; rap = m.rap; mfu = u.mfu; item_id = u.item_id; bytes = u.bytes }
 
 unfoldable pub unit_effect : MpuPacket → Asset → PayloadUnit → UnitEffect
 unfolding effect_of object_of
@@ -217,7 +217,7 @@ passes pass m =
     (record {
       id = m.id;
       scrambled = true;
-      mfu = record { mpu = mpu_number m.header; rap = m.rap; mfu = no_mfu; item_id_of = no_u32; bytes = m.raw };
+      mfu = record { mpu = mpu_number m.header; rap = m.rap; mfu = no_mfu; item_id = no_u32; bytes = m.raw };
     } ∷ [])
     []
 

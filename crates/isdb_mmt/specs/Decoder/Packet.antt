@@ -40,7 +40,7 @@ Bytes = List ℕ
 pub record PayloadUnit : Type 0 where
   pub fragment : FragmentationIndicator
   pub mfu : MaybeMfu
-  pub item_id_of : MaybeU32
+  pub item_id : MaybeU32
   pub bytes : Bytes
 
 -- an MPU-type packet: its id and number, RAP flag, whether it counts as scrambled, its payload's header, its units where the
@@ -59,7 +59,7 @@ header_in no_header = none
 header_in (some_header h) = some h
 
 abbrev pub payload_unit : PayloadHeader → Bytes → DataUnit → PayloadUnit
-payload_unit h q u = record { fragment = h.fragmentation; mfu = u.mfu; item_id_of = u.item_id; bytes = part_of q u.«data» }
+payload_unit h q u = record { fragment = h.fragmentation; mfu = u.mfu; item_id = u.item_id; bytes = part_of q u.«data» }
 
 abbrev pub payload_units : PayloadHeader → Bytes → Option (List DataUnit) → Option (List PayloadUnit)
 payload_units h q none = none

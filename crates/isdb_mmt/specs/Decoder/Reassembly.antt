@@ -6,7 +6,7 @@ use Rattle.std.proofs.Math.Option.{Option, none, some}
 use Rattle.isdb_tlv.specs.Guards.{◌<?◌, ◌≤?◌}
 use Rattle.std.specs.Prelude.{if◌then◌else◌}
 use Rattle.isdb_mmt.specs.Formats.Part.{part_of}
-use Rattle.isdb_mmt.specs.Formats.Message.{fragment_of_lem, Aggregated, aggregated_from, content_of_lem, tables_from}
+use Rattle.isdb_mmt.specs.Formats.Message.{fragment_of, Aggregated, aggregated_from, content_of, tables_from}
 use Rattle.isdb_mmt.specs.Decoder.Packet.{Bytes, MessagePacket}
 use Rattle.isdb_mmt.specs.declared.part.Part.{Part}
 use Rattle.isdb_mmt.specs.declared.message.Division.{Division}
@@ -38,7 +38,7 @@ abbrev pub short : MessagePacket → Bool
 short c = length c.payload <? 2
 
 abbrev pub flags_of : MessagePacket → Fragment
-flags_of c = fragment_of_lem (slice_index c.payload 0)
+flags_of c = fragment_of (slice_index c.payload 0)
 
 abbrev pub started : MessagePacket → PartialMessage
 started c =
@@ -124,7 +124,7 @@ tables_in m (Tables body at) =
     }
 
 unfoldable pub tables_of : Bytes → TablesFound
-tables_of m = tables_in m (content_of_lem m)
+tables_of m = tables_in m (content_of m)
 
 unfoldable pub tables_of_all : List Bytes → TablesFound
 tables_of_all [] = no_tables 0

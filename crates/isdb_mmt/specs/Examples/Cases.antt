@@ -22,14 +22,14 @@ use Rattle.isdb_mmt.specs.Formats.Section.{long_section_of, entry_at, entries_fr
 use Rattle.isdb_mmt.specs.Formats.Nit.{nit_body, nit_of}
 use Rattle.isdb_mmt.specs.Formats.Sdt.{sdt_body, sdt_of}
 use Rattle.isdb_mmt.specs.Formats.Mpt.{declared_length_of, mpt_assets, mpt_table, mpt_of}
-use Rattle.isdb_mmt.specs.Formats.Message.{division_of, pa_tables, section_table, content_of_lem, table_at, tables_from}
+use Rattle.isdb_mmt.specs.Formats.Message.{division_of, pa_tables, section_table, content_of, table_at, tables_from}
 use Rattle.isdb_mmt.specs.Decoder.Packet.{Bytes, media_of, clear, readable, classify}
 use Rattle.isdb_mmt.specs.Decoder.Maps.{find, put, or_else, is_some}
 use Rattle.isdb_mmt.specs.Decoder.Objects.{Asset, Rec, fresh, gap, lost_by, grown, continued, effect_of, after_unit, object_of, unit_effect, after_units, delivered_by, new_mpu, jumped, mpu_after, range_after, malformed_payload, after_headers, asset_after, tagged, passes, media_gives}
 use Rattle.isdb_mmt.specs.Decoder.Reassembly.{idle, part_before, joined_on, part_after, whole_of, reassembly_after, message_completed, orphan, oversize, tables_of, tables_of_all, messages_of, cut_of, cut_of_all}
 use Rattle.isdb_mmt.specs.Decoder.Kept.{body_read, section_of, other_version, keep_if, keep, keep_all_of, zeros, table_counted, section_increments, table_by_id, table_read, table_increments, mpt_after, mpt_after_all, stored, stored_all, counted_all}
 use Rattle.isdb_mmt.specs.Decoder.GivenTables.{tables_given}
-use Rattle.isdb_mmt.specs.Decoder.Model.{State, Control, opened, idle_control, asset_of_lem, control_of, packet_counted, message_counted, reassembly_counted, time_after, pushed, gives}
+use Rattle.isdb_mmt.specs.Decoder.Model.{State, Control, opened, idle_control, asset_of, control_of, packet_counted, message_counted, reassembly_counted, time_after, pushed, gives}
 use Rattle.isdb_mmt.specs.Books.Book.{book, nothing, entered_all, entered, reception_log, log_entries, units_received, follower, drop_counted, in_order_of, missing, continued_by, delivered_of}
 use Rattle.isdb_mmt.specs.Decoder.Needs.{Needs, needs, units_need, reassembly_needs, table_area_of, tables_need}
 use Rattle.isdb_mmt.specs.declared.maybe.MaybeU32.TheVariants.{None as no_u32}
@@ -110,18 +110,18 @@ joined_in s c =
     joined s.counters.orphan_fragments s.counters.message_malformed c.reassembly.number (joining_in c.reassembly.partial) c.mpt
 
 unfoldable pub told : Ask → Told
-unfolding bytes_of be feed feed_byte crc_of packet_type compressed_of fec_type_of payload_type_of bits_of entry entries extension_at after_fixed mmtp_of is_tlv_si section_at sections_from sections_of length_width_of step_at split_from split_of stream_identifier descriptor_of descriptors_of fragment_type_of indicator payload_header unit_in unit_at unit_step units_from units_of follows lost_from long_section_of entry_at entries_from entries_told nit_body nit_of sdt_body sdt_of declared_length_of mpt_assets mpt_table mpt_of division_of pa_tables section_table content_of_lem table_at tables_from media_of classify find put or_else is_some fresh gap lost_by grown continued effect_of after_unit object_of unit_effect after_units delivered_by clear readable new_mpu jumped mpu_after range_after malformed_payload after_headers asset_after tagged passes media_gives idle part_before joined_on part_after whole_of reassembly_after message_completed orphan oversize tables_of tables_of_all messages_of cut_of cut_of_all body_read section_of other_version keep_if keep keep_all_of zeros table_counted section_increments table_by_id table_read table_increments mpt_after mpt_after_all stored stored_all counted_all opened idle_control asset_of_lem control_of packet_counted message_counted reassembly_counted tables_given time_after pushed gives book nothing entered_all entered reception_log log_entries units_received follower drop_counted in_order_of missing continued_by delivered_of needs units_need reassembly_needs table_area_of tables_need push_all give_all held_bytes
+unfolding bytes_of be feed feed_byte crc_of packet_type compressed_of fec_type_of payload_type_of bits_of entry entries extension_at after_fixed mmtp_of is_tlv_si section_at sections_from sections_of length_width_of step_at split_from split_of stream_identifier descriptor_of descriptors_of fragment_type_of indicator payload_header unit_in unit_at unit_step units_from units_of follows lost_from long_section_of entry_at entries_from entries_told nit_body nit_of sdt_body sdt_of declared_length_of mpt_assets mpt_table mpt_of division_of pa_tables section_table content_of table_at tables_from media_of classify find put or_else is_some fresh gap lost_by grown continued effect_of after_unit object_of unit_effect after_units delivered_by clear readable new_mpu jumped mpu_after range_after malformed_payload after_headers asset_after tagged passes media_gives idle part_before joined_on part_after whole_of reassembly_after message_completed orphan oversize tables_of tables_of_all messages_of cut_of cut_of_all body_read section_of other_version keep_if keep keep_all_of zeros table_counted section_increments table_by_id table_read table_increments mpt_after mpt_after_all stored stored_all counted_all opened idle_control asset_of control_of packet_counted message_counted reassembly_counted tables_given time_after pushed gives book nothing entered_all entered reception_log log_entries units_received follower drop_counted in_order_of missing continued_by delivered_of needs units_need reassembly_needs table_area_of tables_need push_all give_all held_bytes
 told (width_of t) = width (length_width_of t)
 told (decoded_of s) = decoded (descriptors_of s)
 told (bodies_of s) = bodies (map (λ r. part_of s r.body) (split_of s).found)
 told (read_as b) = ip (compressed_of b)
 told (needed f p) = asks (needs (push_all (opened false) (packets_of f)) (classify p.0 p.1))
-told (left f) = leaves (left_of false f (asset_of_lem id (push_all (opened false) (packets_of f))))
+told (left f) = leaves (left_of false f (asset_of id (push_all (opened false) (packets_of f))))
 told (booked f) = books (book id (packets_of f)).delivered (book id (packets_of f)).dropped (book id (packets_of f)).held
 told (passed f) = given (map (λ r. r.mfu.bytes) (give_all (opened true) (packets_of f)))
 told (handed pass f) = records (give_all (opened pass) (packets_of f))
 told (mpu_of f) =
-    mpu (asset_of_lem id (push_all (opened false) (packets_of f))).mpu (asset_of_lem id (push_all (opened false) (packets_of f))).range
+    mpu (asset_of id (push_all (opened false) (packets_of f))).mpu (asset_of id (push_all (opened false) (packets_of f))).range
 told (ip_errors_of f) = errors (push_all (opened false) (packets_of f)).counters.ip_errors
 told (sections f) =
     tables (push_all (opened false) (packets_of f)).counters.version_changes (push_all (opened false) (packets_of f)).counters.malformed
@@ -195,7 +195,7 @@ header =
 -- a record of the id, MPU 7, with or without an MFU header
 abbrev pub record_of : Bool → MaybeMfu → Bytes → Rec
 record_of hidden h d =
-    record { id = id; scrambled = hidden; mfu = record { mpu = 7; rap = false; mfu = h; item_id_of = no_u32; bytes = d } }
+    record { id = id; scrambled = hidden; mfu = record { mpu = 7; rap = false; mfu = h; item_id = no_u32; bytes = d } }
 
 -- nothing scrambled, one MPU: packets, lost, malformed, objects, dropped, held
 abbrev pub clearly : ℕ → ℕ → ℕ → List Bytes → ℕ → Option Bytes → Told
@@ -206,7 +206,7 @@ clearly p l m os d h =
 -- of a media packet: new media ids, the longest object, records, data bytes
 abbrev pub media_needs : ℕ → ℕ → ℕ → ℕ → Needs
 media_needs i o r d =
-    record { media_ids_of = i; control_ids_of = 0; sections = 0; object = o; message = 0; table = 0; records = r; data_bytes = d }
+    record { media_ids = i; control_ids = 0; sections = 0; object = o; message = 0; table = 0; records = r; data_bytes = d }
 
 abbrev cases : List (Case Ask Told)
 cases =

@@ -70,12 +70,12 @@ pa_message n ts = 0x00 ∷ 0x00 ∷ 0x00 ∷ 0x00 ∷ 0x00 ∷ 0x00 ∷ (n + 1) 
 -- of a message packet: new control ids, the longest message, the longest table
 abbrev pub message_needs : ℕ → ℕ → ℕ → Needs
 message_needs i m t =
-    record { media_ids_of = 0; control_ids_of = i; sections = 0; object = 0; message = m; table = t; records = 0; data_bytes = 0 }
+    record { media_ids = 0; control_ids = i; sections = 0; object = 0; message = m; table = t; records = 0; data_bytes = 0 }
 
 -- of a control signal: new keys, the longest section
 abbrev pub section_needs : ℕ → ℕ → Needs
 section_needs k t =
-    record { media_ids_of = 0; control_ids_of = 0; sections = k; object = 0; message = 0; table = t; records = 0; data_bytes = 0 }
+    record { media_ids = 0; control_ids = 0; sections = k; object = 0; message = 0; table = t; records = 0; data_bytes = 0 }
 
 abbrev cases : List (Case Ask Told)
 cases =

@@ -10,11 +10,11 @@ use Rattle.isdb_mmt.specs.Decoder.Objects.{Rec}
 use Rattle.isdb_mmt.specs.Memory.Layout.{table_ids, used_place, latest_place, time_place, counters_place, media_places, held_place, stats_place, control_places, control_size, section_places, section_size, state_size}
 use Rattle.isdb_mmt.specs.Memory.Lent.{part, over, places_from, names_from, among, distinct, found_from, place_for_name, every, indexed}
 use Rattle.isdb_mmt.specs.Memory.Limits.{in_range, places_in_range, areas_in_range, packets_in_range, lengths_for, long_enough, asked}
-use Rattle.isdb_mmt.specs.Memory.Session.{Session, limits_of, used_of, latest_of, time_of, counters_of, held_object_of_lem, stats_of, media_place_of, control_place_of, section_place_of}
+use Rattle.isdb_mmt.specs.Memory.Session.{Session, limits_of, used_of, latest_of, time_of, counters_of, held_object_at, stats_of, media_place_of, control_place_of, section_place_of}
 use Rattle.isdb_mmt.specs.Memory.Check.{media_sound, control_sound, used_sound, latest_sound, counters_sound, media_in, controls_in, sections_in, head_sound, places_sound, names_sound, sound_in, sound}
-use Rattle.isdb_mmt.specs.Memory.View.{mfu_of, asset_of_place, control_state_of_lem, view_by, view}
+use Rattle.isdb_mmt.specs.Memory.View.{mfu_of, asset_of_place, control_state_in, view_by, view}
 use Rattle.isdb_mmt.specs.Memory.Opening.{lent, opened_state, opened_session}
-use Rattle.isdb_mmt.specs.Memory.PlacesOf.{place_for_of_lem, control_for, latest_for}
+use Rattle.isdb_mmt.specs.Memory.PlacesOf.{place_for_asset, control_for, latest_for}
 use Rattle.isdb_mmt.specs.Pushes.MediaPush.{media_place_for, asset_next, media_leaves}
 use Rattle.isdb_mmt.specs.Pushes.Leaves.{section_rows, kept_over, control_leaves, message_in, control_place_for, message_leaves, packet_leaves}
 use Rattle.isdb_mmt.specs.Pushes.Push.{Input, packet_of, has_places, has_areas, has_outputs, asks_of, asks_later, asks, leaves_of, reply_of, leaves_all}
@@ -103,7 +103,7 @@ abbrev halted_as : Ran → Told
 halted_as r = halted r.halt r.run.progress r.run.out r.run.lines
 
 unfoldable pub told : Ask → Told
-unfolding told_of_feeds ipv4_of package_at_of delivery_size delivery_at_of deliveries_whole plt_deliveries plt_table plt_of tot_fields tot_of over places_from names_from among distinct found_from place_for_name every indexed in_range places_in_range areas_in_range packets_in_range lengths_for long_enough asked limits_of used_of latest_of time_of counters_of held_object_of_lem stats_of media_place_of control_place_of section_place_of media_sound control_sound used_sound latest_sound counters_sound media_in controls_in sections_in head_sound places_sound names_sound sound_in sound mfu_of asset_of_place control_state_of_lem view_by view opened_state opened_session place_for_of_lem control_for latest_for media_place_for asset_next media_leaves section_rows kept_over control_leaves message_in control_place_for message_leaves packet_leaves has_places has_areas has_outputs asks_of asks_later asks bytes_of put_be leaves_of reply_of cut_at recording_from recording_of pushed_each leaves_all rows_from data_from read_row read_rows
+unfolding told_of_feeds ipv4_of package_at_of delivery_size delivery_at_of deliveries_whole plt_deliveries plt_table plt_of tot_fields tot_of over places_from names_from among distinct found_from place_for_name every indexed in_range places_in_range areas_in_range packets_in_range lengths_for long_enough asked limits_of used_of latest_of time_of counters_of held_object_at stats_of media_place_of control_place_of section_place_of media_sound control_sound used_sound latest_sound counters_sound media_in controls_in sections_in head_sound places_sound names_sound sound_in sound mfu_of asset_of_place control_state_in view_by view opened_state opened_session place_for_asset control_for latest_for media_place_for asset_next media_leaves section_rows kept_over control_leaves message_in control_place_for message_leaves packet_leaves has_places has_areas has_outputs asks_of asks_later asks bytes_of put_be leaves_of reply_of cut_at recording_from recording_of pushed_each leaves_all rows_from data_from read_row read_rows
 told (rows_of rs) = bytes (rows_from 0 rs)
 told (records_of n rows given) = records (read_rows n rows given)
 told (pushed_to s x) = number (asks s x)
@@ -157,7 +157,7 @@ full =
     record {
       id = 0xF100;
       scrambled = true;
-      mfu = record { mpu = 7; rap = true; mfu = some_mfu header; item_id_of = some_u32 0x11121314; bytes = ab };
+      mfu = record { mpu = 7; rap = true; mfu = some_mfu header; item_id = some_u32 0x11121314; bytes = ab };
     }
 
 abbrev pub bare : Rec
@@ -165,7 +165,7 @@ bare =
     record {
       id = 0xF101;
       scrambled = false;
-      mfu = record { mpu = 8; rap = false; mfu = no_mfu; item_id_of = no_u32; bytes = 0xCC ∷ 0xDD ∷ 0xEE ∷ [] };
+      mfu = record { mpu = 8; rap = false; mfu = no_mfu; item_id = no_u32; bytes = 0xCC ∷ 0xDD ∷ 0xEE ∷ [] };
     }
 
 -- a number of four bytes, and of eight, below 256

@@ -6,13 +6,13 @@ use Rattle.isdb_mmt.specs.Decoder.Packet.{Bytes}
 use Rattle.isdb_mmt.specs.Formats.Part.{part_at}
 use Rattle.isdb_mmt.specs.Formats.Location.{sized, location_of}
 use Rattle.isdb_mmt.specs.Decoder.Kept.{parses_as}
-use Rattle.isdb_mmt.specs.Formats.Mpt.{asset_fields, asset_at_of, service_id_of_lem}
+use Rattle.isdb_mmt.specs.Formats.Mpt.{asset_fields, asset_at_of, service_id_of}
 use Rattle.isdb_mmt.specs.Memory.Layout.{table_ids, state_size}
 use Rattle.isdb_mmt.specs.Memory.Session.{Session}
 use Rattle.isdb_mmt.specs.Memory.Opening.{lent, opened_session}
 use Rattle.isdb_mmt.specs.Pushes.Push.{leaves_all}
 use Rattle.isdb_mmt.specs.Answers.Readings.{media_found, control_found, section_found, counters_read, time_read, count_read, least_from, ascending_from, next_media_read, next_control_read, next_key_read, media_read, held_read, control_read, section_read, mpt_read, plt_read, tot_read, first_carried, asset_among, asset_read, TableTold, refused, nothing, these, told_by}
-use Rattle.isdb_mmt.specs.Theorems.Calls.{Reading, counters, time, count, next_media_of, next_control_of, next_key_of, media_of, held, control_of, plt, tot, section, asset_of_lem, reading_number}
+use Rattle.isdb_mmt.specs.Theorems.Calls.{Reading, counters, time, count, next_media_of, next_control_of, next_key_of, media_of, held, control_of, plt, tot, section, asset_of, reading_number}
 use Rattle.isdb_mmt.specs.Examples.Cases.{complete_of, head_of, compressed, payload, ab}
 use Rattle.isdb_mmt.specs.Examples.ControlCases.{fragment, first_part, nit1, nit_next, mpt, table_message}
 use Rattle.isdb_mmt.specs.Examples.PushCases.{input, only, ntp, plt as plt_bytes, tot as tot_bytes, told as told_of_pushes}
@@ -98,7 +98,7 @@ pub data Told : Type 0 where
   asset : AssetReading → Told
 
 unfoldable pub told : Ask → Told
-unfolding told_of_pushes sized location_of asset_fields asset_at_of service_id_of_lem parses_as media_found control_found section_found counters_read time_read count_read least_from ascending_from next_media_read next_control_read next_key_read media_read held_read control_read section_read mpt_read plt_read tot_read first_carried asset_among asset_read reading_number
+unfolding told_of_pushes sized location_of asset_fields asset_at_of service_id_of parses_as media_found control_found section_found counters_read time_read count_read least_from ascending_from next_media_read next_control_read next_key_read media_read held_read control_read section_read mpt_read plt_read tot_read first_carried asset_among asset_read reading_number
 told (number_of s r) = number (reading_number s r)
 told (counters_in s) = feed (counters_read s)
 told (time_in s) = timed (time_read s)
@@ -194,7 +194,7 @@ cases =
     ∷ (number_of blank plt ⇒ number 5)
     ∷ (number_of blank tot ⇒ number 5)
     ∷ (number_of blank (section 0) ⇒ number 5)
-    ∷ (number_of blank (asset_of_lem 0) ⇒ number 5)
+    ∷ (number_of blank (asset_of 0) ⇒ number 5)
     ∷ (number_of (after []) counters ⇒ number 0)
     -- counted
     ∷ (counters_in nits ⇒ feed (the_counters (only_counted 2 2)))
@@ -260,7 +260,7 @@ cases =
           };
     })))
     ∷ (asset_in mpts 0xF101 ⇒ asset no_asset)
-    ∷ (number_of (damaged mpts) (asset_of_lem 0xF100) ⇒ number 5)
+    ∷ (number_of (damaged mpts) (asset_of 0xF100) ⇒ number 5)
     ∷ []
 
 pub table_of_readings : Holds told cases

@@ -58,7 +58,7 @@ pub mpt_whole : mpt_value mpt_bytes ≡ some (record {
     assets = 1;
     start = 11;
   };
-  package_id_of = 0x00 ∷ 0x65 ∷ [];
+  package_id = 0x00 ∷ 0x65 ∷ [];
   descriptors = record { found = []; whole = true };
   assets = record {
     asset = record {
@@ -71,7 +71,7 @@ pub mpt_whole : mpt_value mpt_bytes ≡ some (record {
       locations_start = 25;
       descriptors = part_at 31 43;
     };
-    asset_id_of = 0x41 ∷ 0x31 ∷ [];
+    asset_id = 0x41 ∷ 0x31 ∷ [];
     locations = record { location = Url (part_at 2 2); url = 0x61 ∷ 0x62 ∷ [] } ∷ [];
     descriptors = record {
       found =
@@ -79,19 +79,19 @@ pub mpt_whole : mpt_value mpt_bytes ≡ some (record {
           ∷ record {
             tag = 0x0001;
             body = time_body;
-            value = mpu_timestamp (record { sequence_number = 7; presentation_time_of = 0xE800000080000000 } ∷ []);
+            value = mpu_timestamp (record { sequence_number = 7; presentation_time = 0xE800000080000000 } ∷ []);
           }
           ∷ record {
             tag = 0x8026;
             body = extended_body;
             value = extended (record {
               timescale = some_u32 1000;
-              default_pts_offset_of = no_u16;
+              default_pts_offset = no_u16;
               mpus = record {
                 sequence_number = 7;
-                leap_indicator_of = 0;
-                decoding_time_offset_of = 10;
-                access_units_of = record { dts_pts_offset = 20; pts_offset = some_u16 30 } ∷ [];
+                leap_indicator = 0;
+                decoding_time_offset = 10;
+                access_units = record { dts_pts_offset = 20; pts_offset = some_u16 30 } ∷ [];
               } ∷ [];
             });
           }

@@ -26,8 +26,8 @@ division_of d =
     else Last
 
 -- the first byte: division index 2 bits, reserved 4, length extension flag 1, aggregation flag 1
-abbrev pub fragment_of_lem : ℕ → Fragment
-fragment_of_lem flags =
+abbrev pub fragment_of : ℕ → Fragment
+fragment_of flags =
     record { division = division_of (flags / 64); long_length = flags / 2 % 2 =? 1; aggregated = flags % 2 =? 1 }
 
 abbrev pub prefix_width : Bool → ℕ
@@ -61,8 +61,8 @@ section_table m =
     else one_table_of (part_at 5 (be 2 m 3))
 
 -- a message, by its id (Table 4-6)
-unfoldable pub content_of_lem : List ℕ → Content
-content_of_lem m =
+unfoldable pub content_of : List ℕ → Content
+content_of m =
     if length m <? 2 then bad_message
     else if be 2 m 0 =? pa_message_id then pa_tables m
     else if be 2 m 0 <? m2_section_message_id then Nothing

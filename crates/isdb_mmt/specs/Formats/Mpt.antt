@@ -142,8 +142,8 @@ unfoldable pub mpt_of : List ℕ → MptParsed
 mpt_of s = mpt_in s (declared_length_of s)
 
 -- 7.3.3.1: the service id is the low 16 bits of the package id
-unfoldable pub service_id_of_lem : List ℕ → Part → MaybeU16
-service_id_of_lem s id =
+unfoldable pub service_id_of : List ℕ → Part → MaybeU16
+service_id_of s id =
     if id.length <? 2 then no_u16
     else some_u16 (be 2 (part_of s id) (id.length - 2))
 
@@ -175,5 +175,5 @@ abbrev pub tag_in : Found → MaybeU16
 tag_in not_found = no_u16
 tag_in (found d body) = tag_of d
 
-unfoldable pub component_tag_of_lem : List ℕ → MaybeU16
-component_tag_of_lem s = tag_in (first_of stream_identifier_tag s 0)
+unfoldable pub component_tag_of : List ℕ → MaybeU16
+component_tag_of s = tag_in (first_of stream_identifier_tag s 0)

@@ -23,8 +23,8 @@ length12 s at = be 2 s at % 4096
 
 -- table id 8 bits, syntax indicator 1, reserved 3, section length 12, table id extension 16, reserved 2, version 5, current
 -- next indicator 1, section number 8, last section number 8, then a body of `n` bytes
-abbrev pub header_of_lem : List ℕ → ℕ → SectionHeader
-header_of_lem s n =
+abbrev pub header_of : List ℕ → ℕ → SectionHeader
+header_of s n =
     record {
       table_id = slice_index s 0;
       extension = be 2 s 3;
@@ -43,7 +43,7 @@ long_section_of s =
     else if length12 s 1 <? 9 then Err Truncated
     else if length s <? length12 s 1 + 3 then Err Truncated
     else if crc_of (take (length12 s 1 + 3) s) ≠? 0 then Err Crc
-    else Ok (header_of_lem s (length12 s 1 - 9))
+    else Ok (header_of s (length12 s 1 - 9))
 
 -- what a table's body is read as, or that there is no section
 abbrev pub in_section : {R : Type 0} → (SectionError → R) → (SectionHeader → List ℕ → R) → List ℕ → LongSection → R

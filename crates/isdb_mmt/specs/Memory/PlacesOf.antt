@@ -28,9 +28,9 @@ abbrev pub first_in : Option (ℕ × ℕ) → ℕ
 first_in none = 0
 first_in (some r) = r.0
 
-unfoldable pub place_for_of_lem : ℕ → Asset → Media
+unfoldable pub place_for_asset : ℕ → Asset → Media
 unfolding is_some or_else
-place_for_of_lem id a =
+place_for_asset id a =
     record {
       packet_id = id;
       seen = is_some a.number;

@@ -114,8 +114,8 @@ counters_fields c =
     ∷ []
 
 -- a media place
-unfoldable pub held_object_of_lem : List ℕ → Object
-held_object_of_lem p =
+unfoldable pub held_object_at : List ℕ → Object
+held_object_at p =
     record {
       mpu_sequence_number = be 4 p object_place;
       rap = flag p (object_place + 4);
@@ -148,7 +148,7 @@ stats_of p =
     }
 
 unfoldable pub media_place_of : List ℕ → Media
-unfolding held_object_of_lem stats_of
+unfolding held_object_at stats_of
 media_place_of p =
     record {
       packet_id = be 4 p 0;
@@ -158,7 +158,7 @@ media_place_of p =
       mpu = be 4 p 10;
       first_mpu = be 4 p 14;
       held = flag p held_place;
-      object = held_object_of_lem p;
+      object = held_object_at p;
       stats = stats_of p;
     }
 

@@ -41,7 +41,7 @@ mfu_of o b =
       mpu = o.mpu_sequence_number;
       rap = o.rap;
       mfu = header_given o.timed o.header;
-      item_id_of = item_given o.item o.item_id;
+      item_id = item_given o.item o.item_id;
       bytes = b;
     }
 
@@ -58,8 +58,8 @@ asset_of_place m b =
     }
 
 -- a control place: the message that is being joined, and the MPT
-unfoldable pub control_state_of_lem : Control → Bytes → Bytes → ControlState
-control_state_of_lem c message mpt =
+unfoldable pub control_state_in : Control → Bytes → Bytes → ControlState
+control_state_in c message mpt =
     record {
       reassembly =
           record {
@@ -80,14 +80,14 @@ asset_entry l s i m = (m.packet_id, asset_of_place m (part (i * l.mfu_area) m.ob
 abbrev pub control_entry : Limits → Session → ℕ → Control → ℕ × ControlState
 control_entry l s i c = (
   c.packet_id,
-  control_state_of_lem c (part (i * l.message_area) c.length s.messages) (kept_table_at l s (l.sections + i) c.mpt_length),
+  control_state_in c (part (i * l.message_area) c.length s.messages) (kept_table_at l s (l.sections + i) c.mpt_length),
 )
 
 abbrev pub section_entry : Limits → Session → ℕ → KeptSection → ℕ × Kept
 section_entry l s i x = (x.key, record { version = x.version; bytes = kept_table_at l s i x.length })
 
 unfoldable pub view_by : Limits → Session → State
-unfolding indexed asset_of_place control_state_of_lem
+unfolding indexed asset_of_place control_state_in
 view_by l s =
     record {
       passing = l.pass_scrambled;

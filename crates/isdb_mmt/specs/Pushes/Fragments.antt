@@ -6,7 +6,7 @@ use Rattle.isdb_tlv.specs.Guards.{◌<?◌}
 use Rattle.std.specs.Prelude.{if◌then◌else◌}
 use Rattle.isdb_mmt.specs.Decoder.Packet.{Bytes}
 use Rattle.isdb_mmt.specs.Decoder.Maps.{is_some, one}
-use Rattle.isdb_mmt.specs.Formats.Message.{fragment_of_lem}
+use Rattle.isdb_mmt.specs.Formats.Message.{fragment_of}
 use Rattle.isdb_mmt.specs.Decoder.Reassembly.{PartialMessage, most_message}
 use Rattle.isdb_mmt.specs.Decoder.Kept.{with_packet_counts}
 use Rattle.isdb_mmt.specs.Decoder.Needs.{partial_length}
@@ -47,7 +47,7 @@ by_division middle c n b = continued false c n b
 by_division last c n b = continued true c n b
 
 abbrev pub flags_in : Bytes → Fragment
-flags_in b = fragment_of_lem (slice_index b 0)
+flags_in b = fragment_of (slice_index b 0)
 
 unfoldable pub fragment_outcome : Control → ℕ → Bytes → FragmentOutcome
 fragment_outcome c n b = if length b <? 2 then Short else by_division (flags_in b).division c n b

@@ -16,7 +16,7 @@ unit_rec id mpu rap q u =
     record {
       id = id;
       scrambled = false;
-      mfu = record { mpu = mpu; rap = rap; mfu = u.mfu; item_id_of = u.item_id; bytes = part_of q u.«data» };
+      mfu = record { mpu = mpu; rap = rap; mfu = u.mfu; item_id = u.item_id; bytes = part_of q u.«data» };
     }
 
 unfoldable pub unit_recs : ℕ → ℕ → Bool → Bytes → Option (List DataUnit) → List Rec
@@ -27,9 +27,9 @@ unit_recs id mpu rap q (some us) = map (unit_rec id mpu rap q) us
 pub record Outputs (q : Bytes) (timed aggregated : Bool) (id mpu : ℕ) (rap : Bool) (rows given : Bytes) : Type 0 where
   pub long : length q ≤ 65537
   pub whole : is_some (units_of q timed aggregated) ≡ true
-  pub rows_fit_of : row_size * length (unit_recs id mpu rap q (units_of q timed aggregated)) ≤ length rows
+  pub rows_fit : row_size * length (unit_recs id mpu rap q (units_of q timed aggregated)) ≤ length rows
   pub data_fit : data_of (unit_recs id mpu rap q (units_of q timed aggregated)) ≤ length given
 
 pub record Gave (q : Bytes) (timed aggregated : Bool) (id mpu : ℕ) (rap : Bool) (rows given rows' given' : Bytes) : Type 0 where
-  pub rows_are_of : rows' ≡ over 0 (rows_from 0 (unit_recs id mpu rap q (units_of q timed aggregated))) rows
+  pub rows_are : rows' ≡ over 0 (rows_from 0 (unit_recs id mpu rap q (units_of q timed aggregated))) rows
   pub data_are : given' ≡ over 0 (data_from (unit_recs id mpu rap q (units_of q timed aggregated))) given

@@ -125,7 +125,7 @@ pub record OneFits (a b rows given : Bytes) : Type 0 where
 
 pub record OnePut (id : ℕ) (scrambled : Bool) (o : Object) (a b rows given rows' given' : Bytes) : Type 0 where
   pub row_is : rows' ≡ over 0 (written (row_fields id scrambled o 0)) rows
-  pub data_is_of : given' ≡ over 0 (a ++ b) given
+  pub data_is : given' ≡ over 0 (a ++ b) given
 
 -- the data of units, one behind the other
 unfoldable pub data_in : Bytes → List DataUnit → Bytes
@@ -157,7 +157,7 @@ pub record CanCommit (at : ℕ) (pass : Bool) (p : Media) (r : MediaOutcome) (h 
   pub low : at ≤ 1073741824
   pub held : p.held ≡ true → at + p.object.length ≤ length objects
   pub room : at + r.units.longest ≤ length objects
-  pub rows_fit_of : row_size * length (gives_from at pass p h b objects) ≤ length rows
+  pub rows_fit : row_size * length (gives_from at pass p h b objects) ≤ length rows
   pub data_fit : data_of (gives_from at pass p h b objects) ≤ length given
 
 -- of a payload with the header x, whose units are taken

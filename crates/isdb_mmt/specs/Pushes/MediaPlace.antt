@@ -135,7 +135,7 @@ pub record StatsWithin (n : ℕ) (s : AssetStats) : Type 0 where
   pub lost : s.packets_lost ≤ n
   pub scrambled : s.scrambled_packets ≤ n
   pub mfus : s.mfus ≤ n
-  pub scrambled_mfus_of : s.scrambled_mfus ≤ n
+  pub scrambled_mfus : s.scrambled_mfus ≤ n
   pub dropped : s.mfus_dropped ≤ n
   pub mpus : s.mpus ≤ n
   pub jumps : s.mpu_sequence_jumps ≤ n

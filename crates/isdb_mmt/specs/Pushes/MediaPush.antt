@@ -7,7 +7,7 @@ use Rattle.std.specs.Prelude.{if◌then◌else◌}
 use Rattle.isdb_tlv.specs.Fields.{field, written}
 use Rattle.isdb_mmt.specs.Decoder.Packet.{Bytes, MpuPacket, media}
 use Rattle.isdb_mmt.specs.Decoder.Objects.{Mfu, Asset, asset_after}
-use Rattle.isdb_mmt.specs.Decoder.Model.{asset_of_lem, gives}
+use Rattle.isdb_mmt.specs.Decoder.Model.{asset_of, gives}
 use Rattle.isdb_mmt.specs.Decoder.Needs.{Needs, needs}
 use Rattle.isdb_mmt.specs.Memory.Lent.{over, names_from, place_for_name}
 use Rattle.isdb_mmt.specs.Memory.Layout.{used_place, counters_place, media_places, media_size}
@@ -15,7 +15,7 @@ use Rattle.isdb_mmt.specs.Memory.Session.{Session, limits_of, used_of, used_fiel
 use Rattle.isdb_mmt.specs.Memory.View.{view}
 use Rattle.isdb_mmt.specs.Memory.Opening.{lent}
 use Rattle.isdb_mmt.specs.Pushes.Records.{row_size, rows_from, data_from}
-unfoldable pub use Rattle.isdb_mmt.specs.Memory.PlacesOf.{no_object, held_for, first_in, place_for_of_lem}
+unfoldable pub use Rattle.isdb_mmt.specs.Memory.PlacesOf.{no_object, held_for, first_in, place_for_asset}
 use Rattle.isdb_mmt.specs.declared.decoder.place.PlaceFor.{PlaceFor}
 use Rattle.isdb_mmt.specs.declared.decoder.place.PlaceFor.TheVariants.{Own, Free, NoneFree}
 use Rattle.isdb_mmt.specs.declared.decoder.head.Used.{Used}
@@ -28,7 +28,7 @@ held_over at none l = l
 held_over at (some h) l = over at h.bytes l
 
 abbrev pub with_place : ℕ → ℕ → Asset → List ℕ → List ℕ
-with_place i id a l = over (media_places + media_size * i) (written (media_fields (place_for_of_lem id a))) l
+with_place i id a l = over (media_places + media_size * i) (written (media_fields (place_for_asset id a))) l
 
 abbrev pub one_more_of : Used → Used
 one_more_of u = record { media_ids = u.media_ids + 1; control_ids = u.control_ids; sections = u.sections }
@@ -53,7 +53,7 @@ leaves_at s id a (Free i) =
 leaves_at s id a NoneFree = s
 
 unfoldable pub asset_next : Session → MpuPacket → Asset
-asset_next s m = asset_after (asset_of_lem m.id (view s)) m
+asset_next s m = asset_after (asset_of m.id (view s)) m
 
 unfoldable pub media_leaves : Session → MpuPacket → Session
 media_leaves s m = leaves_at s m.id (asset_next s m) (media_place_for s.state m.id)
@@ -62,7 +62,7 @@ media_leaves s m = leaves_at s m.id (asset_next s m) (media_place_for s.state m.
 
 abbrev pub asks_for : Limits → Used → ℕ → ℕ → Needs → ℕ
 asks_for l u rows given n =
-    if l.media_ids <? u.media_ids + n.media_ids_of then 8
+    if l.media_ids <? u.media_ids + n.media_ids then 8
     else if l.mfu_area <? n.object then 9
     else if rows <? row_size * n.records then 10
     else if given <? n.data_bytes then 10

@@ -5,7 +5,7 @@ use Rattle.isdb_tlv.specs.Si.{sections_from}
 use Rattle.isdb_tlv.specs.declared.si.Section.{Section}
 use Rattle.isdb_mmt.specs.Formats.Part.{part_at as part_for, part_of}
 use Rattle.isdb_mmt.specs.Decoder.Packet.{Bytes}
-use Rattle.isdb_mmt.specs.Formats.Message.{content_of_lem, aggregated_from, tables_from}
+use Rattle.isdb_mmt.specs.Formats.Message.{content_of, aggregated_from, tables_from}
 use Rattle.isdb_mmt.specs.Decoder.Reassembly.{PartialMessage, parts_of, tables_of_all, messages_of}
 use Rattle.isdb_mmt.specs.Memory.Lent.{part}
 use Rattle.isdb_mmt.specs.declared.part.Part.{Part}
@@ -35,7 +35,7 @@ placed_in from m (Tables body at) =
     map (placed (from + body.start) (part_of m body)) (tables_from (part_of m body) at).found
 
 unfoldable pub placed_of : ℕ → Bytes → List Placed
-placed_of from m = placed_in from m (content_of_lem m)
+placed_of from m = placed_in from m (content_of m)
 
 unfoldable pub placed_of_all : Bytes → List Part → List Placed
 placed_of_all b [] = []

@@ -41,8 +41,8 @@ most_bytes = 65535
 -- questions 8, 9 and 10: a place for each id and key, an area for each object, message and table, room for records and data
 unfoldable pub has_places : Limits → Used → Needs → Bool
 has_places l u n =
-    if not (u.media_ids + n.media_ids_of ≤? l.media_ids) then false
-    else if not (u.control_ids + n.control_ids_of ≤? l.control_ids) then false
+    if not (u.media_ids + n.media_ids ≤? l.media_ids) then false
+    else if not (u.control_ids + n.control_ids ≤? l.control_ids) then false
     else u.sections + n.sections ≤? l.sections
 
 unfoldable pub has_areas : Limits → Needs → Bool
@@ -78,8 +78,8 @@ asks s x = if not (sound s) then 5 else asks_later s x
 
 -- the questions answered yes, fact by fact
 pub record Fits (s : Session) (rows out : ℕ) (p : Packet) : Type 0 where
-  pub media : (used_of s.state).media_ids + (needs (view s) p).media_ids_of ≤ (limits_of s.state).media_ids
-  pub controls : (used_of s.state).control_ids + (needs (view s) p).control_ids_of ≤ (limits_of s.state).control_ids
+  pub media : (used_of s.state).media_ids + (needs (view s) p).media_ids ≤ (limits_of s.state).media_ids
+  pub controls : (used_of s.state).control_ids + (needs (view s) p).control_ids ≤ (limits_of s.state).control_ids
   pub sections : (used_of s.state).sections + (needs (view s) p).sections ≤ (limits_of s.state).sections
   pub object : (needs (view s) p).object ≤ (limits_of s.state).mfu_area
   pub message : (needs (view s) p).message ≤ (limits_of s.state).message_area
@@ -108,7 +108,7 @@ pub record PacketPushed (s : Session) (rows out : Bytes) (p : Packet) (r records
   pub nothing : (r ≢ 0) → (records ≡ 0) × (bytes ≡ 0)
   -- taken
   pub session : r ≡ 0 → s' ≡ packet_leaves s p
-  pub rows_are_of : r ≡ 0 → rows' ≡ over 0 (rows_from 0 (gives (view s) p)) rows
+  pub rows_are : r ≡ 0 → rows' ≡ over 0 (rows_from 0 (gives (view s) p)) rows
   pub data_are : r ≡ 0 → out' ≡ over 0 (data_from (gives (view s) p)) out
   pub counts : r ≡ 0 → (records ≡ (needs (view s) p).records) × (bytes ≡ (needs (view s) p).data_bytes)
 
@@ -125,7 +125,7 @@ pub record Pushed (s : Session) (x : Input) (r records bytes : ℕ) (s' : Sessio
   pub kept : (r ≢ 0) → (rows' ≡ x.rows) × (out' ≡ x.out)
   pub nothing : (r ≢ 0) → (records ≡ 0) × (bytes ≡ 0)
   pub session : r ≡ 0 → s' ≡ packet_leaves s (packet_of x)
-  pub rows_are_of : r ≡ 0 → rows' ≡ over 0 (rows_from 0 (gives (view s) (packet_of x))) x.rows
+  pub rows_are : r ≡ 0 → rows' ≡ over 0 (rows_from 0 (gives (view s) (packet_of x))) x.rows
   pub data_are : r ≡ 0 → out' ≡ over 0 (data_from (gives (view s) (packet_of x))) x.out
   pub counts : r ≡ 0 → (records ≡ length (gives (view s) (packet_of x))) × (bytes ≡ (needs (view s) (packet_of x)).data_bytes)
   pub state : r ≡ 0 → view s' ≡ pushed (view s) (packet_of x)

@@ -34,7 +34,7 @@ pub record PushedBehind (s : Session) (x : Input) (first : ℕ) (rows : Bytes) (
   pub number : a.number ≡ asks s x
   pub records : a.records ≡ (reply_of s x).records
   pub bytes : a.bytes ≡ (reply_of s x).bytes
-  pub rows_are_of : rows' ≡ take first rows ++ (reply_of s x).rows
+  pub rows_are : rows' ≡ take first rows ++ (reply_of s x).rows
   pub data_are : out' ≡ take start out ++ (reply_of s x).out
 
 -- what is left of the outputs and of the lines
@@ -74,7 +74,7 @@ pub record AtTurn (known : Bool) (input : Bytes) (c : Run) : Type 0 where
   pub rows : row_size * c.progress.records ≤ length c.rows
   pub out : c.progress.bytes ≤ length c.out
   pub lines : line_size * c.progress.packets ≤ length c.lines
-  pub rows_long_of : length c.rows < count_of_usize
+  pub rows_long : length c.rows < count_of_usize
   pub out_long : length c.out < count_of_usize
   pub lines_long : length c.lines < count_of_usize
   pub inside : c.progress.at ≤ length input

@@ -21,8 +21,8 @@ object_for f =
       rap = f.rap;
       timed = has_header f.mfu;
       header = header_or f.mfu;
-      item = has_u32 f.item_id_of;
-      item_id = number_u32 f.item_id_of;
+      item = has_u32 f.item_id;
+      item_id = number_u32 f.item_id;
       length = length f.bytes;
     }
 
@@ -99,7 +99,7 @@ read_row given p =
                   priority = be 1 p 20;
                   dependency_counter = be 1 p 21;
                 });
-            item_id_of = item_given (bit_of (be 1 p 2) 8) (be 4 p 24);
+            item_id = item_given (bit_of (be 1 p 2) 8) (be 4 p 24);
             bytes = part (be 4 p 28) (be 4 p 32) given;
           };
     }

@@ -121,6 +121,6 @@ place_for_at i (suc k) = Free i
 
 pub record CanPushAt (s : Session) (x : MessagePacket) (y : ReceivedFragment) (i k : ℕ) (ix log mine : List ℕ) : Type 0 where
   pub packet : CanPushWhole s x y
-  pub place_for_of : y.place_for ≡ place_for_at i k
+  pub place_for : y.place_for ≡ place_for_at i k
   pub few : k ≤ 1
   pub copies : CopiesLent ix log mine

@@ -133,7 +133,7 @@ pub record LocationRead (p : SentLocation) (r : List ℕ) : Type 0 where
 
 -- 7.2.3.2: the header of a section of the extended form; reserved bits as the sender likes
 pub record Header : Type 0 where
-  pub table_id_of : ℕ
+  pub table_id : ℕ
   pub reserved : ℕ
   pub extension : ℕ
   pub reserved2 : ℕ
@@ -146,7 +146,7 @@ pub record Header : Type 0 where
 -- section number, last section number; the length counts what stands behind it, the CRC included
 abbrev pub section_header_fields : Header → ℕ → List Field
 section_header_fields h n =
-    field 1 h.table_id_of
+    field 1 h.table_id
     ∷ field 2 (packed (bits 1 1 ∷ bits 3 h.reserved ∷ bits 12 (n + 9) ∷ []))
     ∷ field 2 h.extension
     ∷ field 1 (packed (bits 2 h.reserved2 ∷ bits 5 h.version ∷ bits 1 h.current ∷ []))
@@ -162,7 +162,7 @@ unfoldable pub section_sent : Header → List ℕ → List ℕ
 section_sent h body = with_crc (written (section_header_fields h (length body)) ++ body)
 
 pub record HeaderConforming (h : Header) : Type 0 where
-  pub table_id_of : h.table_id_of < 2 ^ 8
+  pub table_id : h.table_id < 2 ^ 8
   pub reserved : h.reserved < 2 ^ 3
   pub extension : h.extension < 2 ^ 16
   pub reserved2 : h.reserved2 < 2 ^ 2
@@ -175,7 +175,7 @@ pub record HeaderConforming (h : Header) : Type 0 where
 abbrev pub header_seen : Header → ℕ → SectionHeader
 header_seen h n =
     record {
-      table_id = h.table_id_of;
+      table_id = h.table_id;
       extension = h.extension;
       version = h.version;
       current = h.current =? 1;

@@ -25,36 +25,36 @@ rows_sent sends (x ∷ xs) = sends x ++ rows_sent sends xs
 -- 7.4.3.5, MPU timestamp: entries of an MPU sequence number, 32 bits, and a presentation time, 64
 pub record SentTime : Type 0 where
   pub sequence_number : ℕ
-  pub presentation_time_of : ℕ
+  pub presentation_time : ℕ
 
 abbrev pub time_fields : SentTime → List Field
-time_fields t = field 4 t.sequence_number ∷ field 8 t.presentation_time_of ∷ []
+time_fields t = field 4 t.sequence_number ∷ field 8 t.presentation_time ∷ []
 
 abbrev pub time_sent : SentTime → List ℕ
 time_sent t = written (time_fields t)
 
 abbrev pub TimeConforming : SentTime → Type 0
-TimeConforming t = (t.sequence_number < 2 ^ 32) × (t.presentation_time_of < 2 ^ 64)
+TimeConforming t = (t.sequence_number < 2 ^ 32) × (t.presentation_time < 2 ^ 64)
 
 abbrev pub time_seen : SentTime → MpuTime
-time_seen t = record { sequence_number = t.sequence_number; presentation_time_of = t.presentation_time_of }
+time_seen t = record { sequence_number = t.sequence_number; presentation_time = t.presentation_time }
 
 -- 7.4.3.16, MH-service list: entries of a service id, 16 bits, and a service type, 8
 pub record SentListed : Type 0 where
-  pub service_id_of_lem : ℕ
-  pub service_type_of : ℕ
+  pub service_id : ℕ
+  pub service_type : ℕ
 
 abbrev pub listed_fields : SentListed → List Field
-listed_fields x = field 2 x.service_id_of_lem ∷ field 1 x.service_type_of ∷ []
+listed_fields x = field 2 x.service_id ∷ field 1 x.service_type ∷ []
 
 abbrev pub listed_sent : SentListed → List ℕ
 listed_sent x = written (listed_fields x)
 
 abbrev pub ListedConforming : SentListed → Type 0
-ListedConforming x = (x.service_id_of_lem < 2 ^ 16) × (x.service_type_of < 2 ^ 8)
+ListedConforming x = (x.service_id < 2 ^ 16) × (x.service_type < 2 ^ 8)
 
 abbrev pub listed_seen : SentListed → Listed
-listed_seen x = record { service_id_of_lem = x.service_id_of_lem; service_type_of = x.service_type_of }
+listed_seen x = record { service_id = x.service_id; service_type = x.service_type }
 
 -- 7.4.3.21, MH-content: entries of two levels of genre, 4 bits each, and a byte of the broadcaster's
 pub record SentGenre : Type 0 where
@@ -124,13 +124,13 @@ offset_fields own = []
 
 -- an access unit; its PTS offset is sent where each has its own
 pub record SentAccessUnit : Type 0 where
-  pub dts_pts_offset_of : ℕ
-  pub pts_offset_of : ℕ
+  pub dts_pts_offset : ℕ
+  pub pts_offset : ℕ
 
 abbrev pub access_unit_fields : PtsOffsets → SentAccessUnit → List Field
-access_unit_fields unsaid u = field 2 u.dts_pts_offset_of ∷ []
-access_unit_fields (same d) u = field 2 u.dts_pts_offset_of ∷ []
-access_unit_fields own u = field 2 u.dts_pts_offset_of ∷ field 2 u.pts_offset_of ∷ []
+access_unit_fields unsaid u = field 2 u.dts_pts_offset ∷ []
+access_unit_fields (same d) u = field 2 u.dts_pts_offset ∷ []
+access_unit_fields own u = field 2 u.dts_pts_offset ∷ field 2 u.pts_offset ∷ []
 
 abbrev pub access_unit_sent : PtsOffsets → SentAccessUnit → List ℕ
 access_unit_sent o u = written (access_unit_fields o u)
@@ -138,16 +138,16 @@ access_unit_sent o u = written (access_unit_fields o u)
 -- an MPU: sequence number 32 bits, leap indicator 2, reserved 6, decoding time offset 16, number of access units 8, those
 pub record SentMpu : Type 0 where
   pub sequence_number : ℕ
-  pub leap_indicator_of : ℕ
+  pub leap_indicator : ℕ
   pub reserved : ℕ
-  pub decoding_time_offset_of : ℕ
+  pub decoding_time_offset : ℕ
   pub units : List SentAccessUnit
 
 abbrev pub mpu_fields : SentMpu → List Field
 mpu_fields m =
     field 4 m.sequence_number
-    ∷ field 1 (packed (bits 2 m.leap_indicator_of ∷ bits 6 m.reserved ∷ []))
-    ∷ field 2 m.decoding_time_offset_of
+    ∷ field 1 (packed (bits 2 m.leap_indicator ∷ bits 6 m.reserved ∷ []))
+    ∷ field 2 m.decoding_time_offset
     ∷ field 1 (length m.units)
     ∷ []
 
@@ -156,9 +156,9 @@ mpu_sent o m = written (mpu_fields m) ++ rows_sent (access_unit_sent o) m.units
 
 pub record MpuConforming (o : PtsOffsets) (m : SentMpu) : Type 0 where
   pub sequence_number : m.sequence_number < 2 ^ 32
-  pub leap_indicator_of : m.leap_indicator_of < 2 ^ 2
+  pub leap_indicator : m.leap_indicator < 2 ^ 2
   pub reserved : m.reserved < 2 ^ 6
-  pub decoding_time_offset_of : m.decoding_time_offset_of < 2 ^ 16
+  pub decoding_time_offset : m.decoding_time_offset < 2 ^ 16
   pub few : length m.units < 2 ^ 8
   pub units : All (λ u. Fit (access_unit_fields o u)) m.units
 
@@ -202,24 +202,24 @@ offset_seen (same d) = some_u16 d
 offset_seen own = no_u16
 
 abbrev pub access_unit_seen : PtsOffsets → SentAccessUnit → AccessUnit
-access_unit_seen unsaid u = record { dts_pts_offset = u.dts_pts_offset_of; pts_offset = no_u16 }
-access_unit_seen (same d) u = record { dts_pts_offset = u.dts_pts_offset_of; pts_offset = some_u16 d }
-access_unit_seen own u = record { dts_pts_offset = u.dts_pts_offset_of; pts_offset = some_u16 u.pts_offset_of }
+access_unit_seen unsaid u = record { dts_pts_offset = u.dts_pts_offset; pts_offset = no_u16 }
+access_unit_seen (same d) u = record { dts_pts_offset = u.dts_pts_offset; pts_offset = some_u16 d }
+access_unit_seen own u = record { dts_pts_offset = u.dts_pts_offset; pts_offset = some_u16 u.pts_offset }
 
 abbrev pub mpu_seen_of : PtsOffsets → SentMpu → WholeMpu
 mpu_seen_of o m =
     record {
       sequence_number = m.sequence_number;
-      leap_indicator_of = m.leap_indicator_of;
-      decoding_time_offset_of = m.decoding_time_offset_of;
-      access_units_of = map (access_unit_seen o) m.units;
+      leap_indicator = m.leap_indicator;
+      decoding_time_offset = m.decoding_time_offset;
+      access_units = map (access_unit_seen o) m.units;
     }
 
 abbrev pub extended_seen : SentExtended → WholeExtended
 extended_seen e =
     record {
       timescale = timescale_seen e.timescale;
-      default_pts_offset_of = offset_seen e.offsets;
+      default_pts_offset = offset_seen e.offsets;
       mpus = map (mpu_seen_of e.offsets) e.mpus;
     }
 
@@ -238,7 +238,7 @@ pub data SentBody : Type 0 where
   -- 7.4.3.17, MH-short event: three characters of the language, name, text
   event_texts : ℕ → ℕ → ℕ → List ℕ → List ℕ → SentBody
   -- 7.4.3.20, MH-stream identifier: component tag
-  component_tag_of_lem : ℕ → SentBody
+  component_tag_of : ℕ → SentBody
   -- 7.4.3.21
   genres : List SentGenre → SentBody
   -- 7.4.3.27, MH-broadcaster name
@@ -257,7 +257,7 @@ tag_of (scrambling layer reserved system private) = 0x8005
 tag_of (hevc_video x) = 0x800A
 tag_of (services_listed xs) = 0x800D
 tag_of (event_texts a b c name text) = 0xF001
-tag_of (component_tag_of_lem c) = 0x8011
+tag_of (component_tag_of c) = 0x8011
 tag_of (genres xs) = 0x8012
 tag_of (broadcaster_called name) = 0x8018
 tag_of (service_called t provider name) = 0x8019
@@ -284,7 +284,7 @@ body_sent (hevc_video x) = written (hevc_fields x) ++ x.behind
 body_sent (services_listed xs) = rows_sent listed_sent xs
 -- a length of 8 bits before the name, of 16 before the text
 body_sent (event_texts a b c name text) = written (event_fields a b c name) ++ (name ++ (written (field 2 (length text) ∷ []) ++ text))
-body_sent (component_tag_of_lem c) = written (field 2 c ∷ [])
+body_sent (component_tag_of c) = written (field 2 c ∷ [])
 body_sent (genres xs) = rows_sent genre_sent xs
 body_sent (broadcaster_called name) = name
 -- a length of 8 bits before each name
@@ -302,7 +302,7 @@ BodyConforming (hevc_video x) = HevcConforming x
 BodyConforming (services_listed xs) = All ListedConforming xs
 BodyConforming (event_texts a b c name text) =
     (a < 2 ^ 8) × (b < 2 ^ 8) × (c < 2 ^ 8) × (length name < 2 ^ 8) × (length text < 2 ^ 16)
-BodyConforming (component_tag_of_lem c) = c < 2 ^ 16
+BodyConforming (component_tag_of c) = c < 2 ^ 16
 BodyConforming (genres xs) = All GenreConforming xs
 BodyConforming (broadcaster_called name) = Unit {0}
 BodyConforming (service_called t provider name) = (t < 2 ^ 8) × (length provider < 2 ^ 8) × (length name < 2 ^ 8)
@@ -321,7 +321,7 @@ value_seen (scrambling layer reserved system private) = scrambler layer system
 value_seen (hevc_video x) = hevc x.profile (x.tier =? 1) x.level
 value_seen (services_listed xs) = service_list_of (map listed_seen xs)
 value_seen (event_texts a b c name text) = short_event_of (record { first = a; second = b; third = c }) name text
-value_seen (component_tag_of_lem c) = stream_identifier c
+value_seen (component_tag_of c) = stream_identifier c
 value_seen (genres xs) = content (map genre_seen xs)
 value_seen (broadcaster_called name) = broadcaster_name name
 value_seen (service_called t provider name) = service_names t provider name
@@ -372,10 +372,10 @@ LocationsTheorem = (a : List ℕ) (ps : List SentLocation) (r : List ℕ) → Al
 
 -- conforming descriptors, and their bytes, as they may stand in lines `descriptors HEX` of crates/cases/stdin
 abbrev pub unit_example : ℕ → ℕ → SentAccessUnit
-unit_example dts pts = record { dts_pts_offset_of = dts; pts_offset_of = pts }
+unit_example dts pts = record { dts_pts_offset = dts; pts_offset = pts }
 
 abbrev pub mpu_example : ℕ → List SentAccessUnit → SentMpu
-mpu_example q us = record { sequence_number = q; leap_indicator_of = 1; reserved = 0; decoding_time_offset_of = 100; units = us }
+mpu_example q us = record { sequence_number = q; leap_indicator = 1; reserved = 0; decoding_time_offset = 100; units = us }
 
 -- a location with a URL, as it may stand in a line `location HEX`
 abbrev pub url_example : SentLocation
@@ -383,7 +383,7 @@ url_example = url (0x61 ∷ 0x62 ∷ 0x63 ∷ [])
 
 abbrev pub examples : List SentBody
 examples =
-    mpu_times (record { sequence_number = 7; presentation_time_of = 0xE12345678000ABCD } ∷ record { sequence_number = 8; presentation_time_of = 0 } ∷ [])
+    mpu_times (record { sequence_number = 7; presentation_time = 0xE12345678000ABCD } ∷ record { sequence_number = 8; presentation_time = 0 } ∷ [])
     ∷ ca_system 5
     ∷ ca_system_at 5 (same_flow 0xF101) []
     ∷ ca_system_at 5 url_example []
@@ -398,9 +398,9 @@ examples =
       level = 0x99;
       behind = 0x0C ∷ [];
     })
-    ∷ services_listed (record { service_id_of_lem = 101; service_type_of = 1 } ∷ record { service_id_of_lem = 0x166; service_type_of = 2 } ∷ [])
+    ∷ services_listed (record { service_id = 101; service_type = 1 } ∷ record { service_id = 0x166; service_type = 2 } ∷ [])
     ∷ event_texts 0x6A 0x70 0x6E (0x41 ∷ 0x42 ∷ []) (0x78 ∷ 0x79 ∷ 0x7A ∷ [])
-    ∷ component_tag_of_lem 16
+    ∷ component_tag_of 16
     ∷ genres (record { level1 = 7; level2 = 1; user = 0xF0 } ∷ [])
     ∷ broadcaster_called (0x42 ∷ 0x53 ∷ 0x2D ∷ 0x4E ∷ 0x48 ∷ 0x4B ∷ [])
     ∷ service_called 1 (0x4E ∷ 0x48 ∷ 0x4B ∷ []) (0x42 ∷ 0x53 ∷ 0x34 ∷ 0x4B ∷ [])

@@ -39,29 +39,29 @@ pub record MptCarried (x : MptInPa) (m : Mmtp) (kind : ℕ) (b : Bytes) : Type 0
 abbrev pub MptFed : Type 0
 MptFed =
     (x : MptInPa) (m : Mmtp) (kind : ℕ) (b : Bytes) → MptCarried x m kind b → (s : State)
-    → (control_of m.packet_id_of (pushed s (classify kind b))).mpt ≡ some (mpt_sent x.mpt)
+    → (control_of m.packet_id (pushed s (classify kind b))).mpt ≡ some (mpt_sent x.mpt)
 
 -- the same of a push in lent memory that is not turned down
 abbrev pub MptPushed : Type 0
 MptPushed =
     (x : MptInPa) (m : Mmtp) (i : Input) → MptCarried x m i.kind i.bytes
     → (s s' : Session) (number records bytes : ℕ) (rows out : Bytes) → Pushed s i number records bytes s' rows out → number ≡ 0
-    → (control_of m.packet_id_of (view s')).mpt ≡ some (mpt_sent x.mpt)
+    → (control_of m.packet_id (view s')).mpt ≡ some (mpt_sent x.mpt)
 
 -- STD-B32 Part 3, 3.5: the same of the bytes of a whole TLV packet, its type the second and its data from the fifth on
 abbrev pub MptInTlv : Type 0
 MptInTlv =
     (x : MptInPa) (m : Mmtp) (t : Tlv) → TlvConforming t → MptCarried x m (kind_code t.kind) t.content → (s : State)
-    → (control_of m.packet_id_of (pushed s (classify (slice_index (tlv_sent t) 1) (drop 4 (tlv_sent t))))).mpt ≡ some (mpt_sent x.mpt)
+    → (control_of m.packet_id (pushed s (classify (slice_index (tlv_sent t) 1) (drop 4 (tlv_sent t))))).mpt ≡ some (mpt_sent x.mpt)
 
 -- STD-B60, Table 7-6: bytes that are read as the sender's MPT, with its package id, descriptors and assets
 pub record ReadAsSent (t : SentMpt) (b : Bytes) : Type 0 where
   pub mpt : Mpt
   pub parsed : (mpt_of b).mpt ≡ some_mpt mpt
-  pub table_id_of : mpt.table_id ≡ t.table_id_of
+  pub table_id : mpt.table_id ≡ t.table_id
   pub version : mpt.version ≡ t.version
   pub mode : mpt.mode ≡ t.mode
-  pub package_id_of : part_of b mpt.package_id ≡ t.package_id_of
+  pub package_id : part_of b mpt.package_id ≡ t.package_id
   pub descriptors : part_of b mpt.descriptors ≡ loop_sent t.descriptors
   pub assets : map (asset_seen b) (assets_from mpt.assets b mpt.start).found ≡ map asset_value t.assets
 
@@ -70,7 +70,7 @@ abbrev pub AssetsPushed : Type 0
 AssetsPushed =
     (x : MptInPa) (m : Mmtp) (i : Input) → MptCarried x m i.kind i.bytes
     → (s s' : Session) (number records bytes : ℕ) (rows out : Bytes) → Pushed s i number records bytes s' rows out → number ≡ 0
-    → (kept : Bytes) → (control_of m.packet_id_of (view s')).mpt ≡ some kept → ReadAsSent x.mpt kept
+    → (kept : Bytes) → (control_of m.packet_id (view s')).mpt ≡ some kept → ReadAsSent x.mpt kept
 
 -- a witness: the MPT of StdB60Kept in a header-compressed packet, context 1, number 0, header type 61h
 abbrev pub fed_mmtp : Mmtp
@@ -81,7 +81,7 @@ fed_mmtp =
       rap = 0;
       reserved2 = 0;
       kind = control_message;
-      packet_id_of = 0x8001;
+      packet_id = 0x8001;
       delivery_timestamp = 8;
       sequence_number = 1;
       packet_counter = none;
@@ -120,7 +120,7 @@ ObjectHanded =
     (o : SentObject) → ObjectConforming o → length (object_data o) ≤ 16777216
     → (l : Limits) (s : Session) → asked l (lengths_of s) ≡ 0 → Lent s
     → (xs : List Input) → AllBytes xs → AllTaken (opened_session l s) xs → AllCarried (object_packets o) (feed_of xs)
-    → handed_all (opened_session l s) xs ≡ record_of o.packet_id_of (object_seen o) ∷ []
+    → handed_all (opened_session l s) xs ≡ record_of o.packet_id (object_seen o) ∷ []
 
 -- the same of the records of its packet id, whatever else is pushed in between
 abbrev pub ObjectHandedAmong : Type 0
@@ -128,8 +128,8 @@ ObjectHandedAmong =
     (o : SentObject) → ObjectConforming o → length (object_data o) ≤ 16777216
     → (l : Limits) (s : Session) → asked l (lengths_of s) ≡ 0 → Lent s
     → (xs : List Input) → AllBytes xs → AllTaken (opened_session l s) xs
-    → id_packets o.packet_id_of (packets_of xs) ≡ map received (object_packets o)
-    → id_records o.packet_id_of (handed_all (opened_session l s) xs) ≡ record_of o.packet_id_of (object_seen o) ∷ []
+    → id_packets o.packet_id (packets_of xs) ≡ map received (object_packets o)
+    → id_records o.packet_id (handed_all (opened_session l s) xs) ≡ record_of o.packet_id (object_seen o) ∷ []
 
 -- and the MPT after every list of accepted pushes, the last of which carries it
 abbrev pub MptPushedLast : Type 0
@@ -137,4 +137,4 @@ MptPushedLast =
     (x : MptInPa) (m : Mmtp) (i : Input) → MptCarried x m i.kind i.bytes
     → (l : Limits) (s : Session) → asked l (lengths_of s) ≡ 0 → Lent s
     → (xs : List Input) → AllBytes (xs ++ (i ∷ [])) → AllTaken (opened_session l s) (xs ++ (i ∷ []))
-    → (control_of m.packet_id_of (view (leaves_all (opened_session l s) (xs ++ (i ∷ []))))).mpt ≡ some (mpt_sent x.mpt)
+    → (control_of m.packet_id (view (leaves_all (opened_session l s) (xs ++ (i ∷ []))))).mpt ≡ some (mpt_sent x.mpt)

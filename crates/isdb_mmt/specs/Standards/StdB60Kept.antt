@@ -24,7 +24,7 @@ pub record ContentPushed (c : SentContent) (id : ℕ) (xs : List MessagePacket) 
 
 -- an MPT as a table of a PA message
 abbrev pub mpt_as_table : SentMpt → ℕ → SentTable
-mpt_as_table t listed = record { id = t.table_id_of; version = t.version; content = mpt_rest t; listed = listed }
+mpt_as_table t listed = record { id = t.table_id; version = t.version; content = mpt_rest t; listed = listed }
 
 -- Table 4-8: the ids 11h to 20h are those of MPTs
 abbrev pub IsMptId : ℕ → Type 0
@@ -52,12 +52,12 @@ DividedPushed =
     → ContentPushed d.content d.id (divided_sent d)
 
 abbrev pub MptRecognized : Type 0
-MptRecognized = (t : SentMpt) → MptConforming t → IsMptId t.table_id_of → table_read (mpt_sent t) ≡ mpt_table true 0 (mpt_sent t)
+MptRecognized = (t : SentMpt) → MptConforming t → IsMptId t.table_id → table_read (mpt_sent t) ≡ mpt_table true 0 (mpt_sent t)
 
 -- an MPT that was sent is the one that is kept, byte by byte
 abbrev pub MptKept : Type 0
 MptKept =
-    (t : SentMpt) → MptConforming t → IsMptId t.table_id_of
+    (t : SentMpt) → MptConforming t → IsMptId t.table_id
     → (c : SentContent) → LastMpt t (content_tables c)
     → (id : ℕ) (xs : List MessagePacket) → ContentPushed c id xs
     → (s : State) → (control_of id (state_after s xs)).mpt ≡ some (mpt_sent t)
@@ -87,7 +87,7 @@ mpt_in_pa_sent x =
 pub record MptInPaConforming (x : MptInPa) : Type 0 where
   pub payload : ControlConforming (mpt_in_pa_sent x)
   pub mpt : MptConforming x.mpt
-  pub id : IsMptId x.mpt.table_id_of
+  pub id : IsMptId x.mpt.table_id
   pub others : All (λ u. 0x11 ≤ u.id → 0x20 < u.id) x.behind
 
 -- one push, and the MPT is kept
@@ -105,7 +105,7 @@ mpt_witness =
       extension = 0;
       version = 0;
       before = [];
-      mpt = record { table_id_of = 0x20; version = 1; reserved = 63; mode = 0; package_id_of = []; descriptors = []; assets = [] };
+      mpt = record { table_id = 0x20; version = 1; reserved = 63; mode = 0; package_id = []; descriptors = []; assets = [] };
       listed = 5;
       behind = record { id = 0x80; version = 1; content = 0x00 ∷ 0x00 ∷ []; listed = 2 } ∷ [];
     }

@@ -13,7 +13,7 @@ use Rattle.isdb_mmt.specs.Standards.StdB60Kept.{state_after, ContentPushed}
 
 -- a section that was sent, as it is kept: under its table id, table id extension and section number
 abbrev pub sent_key : Header → ℕ
-sent_key h = h.table_id_of * 2 ^ 24 + h.extension * 2 ^ 8 + h.number
+sent_key h = h.table_id * 2 ^ 24 + h.extension * 2 ^ 8 + h.number
 
 abbrev pub sent_section : Header → Bytes → Section
 sent_section h body =
@@ -33,14 +33,14 @@ Recognized h body = table_read (section_sent h body) ≡ a_section (sent_section
 -- Table 4-8: MH-EIT 8Bh to 9Bh, MH-SDT 9Fh and A0h, MH-BIT 9Dh; proved in proofs/StdB60KeptSections.antt
 abbrev pub EitRecognized : Type 0
 EitRecognized =
-    (t : SentEit) → EitConforming t → 0x8B ≤ t.header.table_id_of → t.header.table_id_of ≤ 0x9B → Recognized t.header (eit_body_sent t)
+    (t : SentEit) → EitConforming t → 0x8B ≤ t.header.table_id → t.header.table_id ≤ 0x9B → Recognized t.header (eit_body_sent t)
 
 abbrev pub SdtRecognized : Type 0
 SdtRecognized =
-    (t : SentSdt) → SdtConforming t → 0x9F ≤ t.header.table_id_of → t.header.table_id_of ≤ 0xA0 → Recognized t.header (sdt_body_sent t)
+    (t : SentSdt) → SdtConforming t → 0x9F ≤ t.header.table_id → t.header.table_id ≤ 0xA0 → Recognized t.header (sdt_body_sent t)
 
 abbrev pub BitRecognized : Type 0
-BitRecognized = (t : SentBit) → BitConforming t → t.header.table_id_of ≡ 0x9D → Recognized t.header (bit_body_sent t)
+BitRecognized = (t : SentBit) → BitConforming t → t.header.table_id ≡ 0x9D → Recognized t.header (bit_body_sent t)
 
 -- the one section of a content, of another version than the one that is kept under its key or where none is: it is kept, byte by
 -- byte
@@ -58,7 +58,7 @@ sdt_witness =
     record {
       header =
           record {
-            table_id_of = 0x9F;
+            table_id = 0x9F;
             reserved = 7;
             extension = 101;
             reserved2 = 3;
@@ -67,7 +67,7 @@ sdt_witness =
             number = 0;
             last = 0;
           };
-      original_network_id_of = 4;
+      original_network_id = 4;
       reserved = 255;
       services = [];
     }

@@ -8,7 +8,7 @@ use Rattle.isdb_tlv.specs.Fields.{Field, field, bits, packed, written}
 use Rattle.isdb_tlv.specs.Messages.{set_of, messages_of}
 use Rattle.isdb_tlv.specs.declared.mmtp.Message.{Message}
 use Rattle.isdb_mmt.specs.Standards.StdB60Sections.{All}
-use Rattle.isdb_mmt.specs.Formats.Message.{fragment_of_lem}
+use Rattle.isdb_mmt.specs.Formats.Message.{fragment_of}
 use Rattle.isdb_mmt.specs.Decoder.Packet.{Bytes, MessagePacket, message_packet}
 use Rattle.isdb_mmt.specs.Decoder.Reassembly.{PartialMessage, Reassembly, short, reassembly_after, message_completed, orphan, oversize}
 use Rattle.isdb_mmt.specs.Decoder.Reassembly.{TablesFound, tables_of, cut_of, cut_of_all}
@@ -233,7 +233,7 @@ joined_whole c n =
 
 -- whatever was being joined
 pub record ControlRead (p : SentControl) : Type 0 where
-  pub header : fragment_of_lem (slice_index (control_sent p) 0) ≡ record {
+  pub header : fragment_of (slice_index (control_sent p) 0) ≡ record {
     division = Undivided;
     long_length = p.content.extension =? 1;
     aggregated = aggregation_flag p.content.carried =? 1;

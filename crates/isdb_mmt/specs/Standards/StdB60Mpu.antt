@@ -93,7 +93,7 @@ pub record SentPayload : Type 0 where
   pub timed : ℕ
   pub division : Division
   pub counter : ℕ
-  pub mpu_sequence_number_of : ℕ
+  pub mpu_sequence_number : ℕ
   pub body : Body
 
 -- Table 6-1: fragment type, timed flag, fragmentation indicator, aggregation flag
@@ -107,7 +107,7 @@ header_fields p =
     field 2 (length (body_sent p.body) + 6)
     ∷ field 1 (packed (flag_bits p))
     ∷ field 1 p.counter
-    ∷ field 4 p.mpu_sequence_number_of
+    ∷ field 4 p.mpu_sequence_number
     ∷ []
 
 unfoldable pub payload_sent : SentPayload → List ℕ
@@ -129,7 +129,7 @@ BodyConforming timed (aggregated us) = (0 < length us) × All (UnitConforming ti
 pub record PayloadConforming (p : SentPayload) : Type 0 where
   pub timed : p.timed < 2
   pub counter : p.counter < 2 ^ 8
-  pub mpu_sequence_number_of : p.mpu_sequence_number_of < 2 ^ 32
+  pub mpu_sequence_number : p.mpu_sequence_number < 2 ^ 32
   pub body : BodyConforming p.timed p.body
   pub short : length (body_sent p.body) + 6 < 2 ^ 16
 
@@ -154,7 +154,7 @@ header_seen p =
       fragmentation = division_seen p.division;
       aggregated = aggregation_flag p.body =? 1;
       fragment_counter = p.counter;
-      mpu_sequence_number = p.mpu_sequence_number_of;
+      mpu_sequence_number = p.mpu_sequence_number;
     }
 
 abbrev pub mfu_seen : UnitHeader → MaybeMfu
@@ -173,7 +173,7 @@ item_seen (timed_header movie sample offset priority dependency) = no_u32
 item_seen (untimed_header item) = some_u32 item
 
 abbrev pub unit_seen : Division → SentUnit → PayloadUnit
-unit_seen d u = record { fragment = division_seen d; mfu = mfu_seen u.header; item_id_of = item_seen u.header; bytes = u.content }
+unit_seen d u = record { fragment = division_seen d; mfu = mfu_seen u.header; item_id = item_seen u.header; bytes = u.content }
 
 -- the units of a body; metadata have none
 abbrev pub units_in : Body → List SentUnit
@@ -226,13 +226,13 @@ timed_example movie b = record { header = timed_header movie 2 3 4 5; content = 
 abbrev pub examples : List SentPayload
 examples =
     -- a timed unit
-    record { timed = 1; division = complete; counter = 0; mpu_sequence_number_of = 7; body = one_unit_of (timed_example 1 (0xaa ∷ 0xbb ∷ [])) }
+    record { timed = 1; division = complete; counter = 0; mpu_sequence_number = 7; body = one_unit_of (timed_example 1 (0xaa ∷ 0xbb ∷ [])) }
     -- two that are aggregated
     ∷ record {
       timed = 1;
       division = complete;
       counter = 0;
-      mpu_sequence_number_of = 7;
+      mpu_sequence_number = 7;
       body = aggregated (timed_example 1 (0x01 ∷ []) ∷ timed_example 2 (0x02 ∷ 0x03 ∷ []) ∷ []);
     }
     -- the first part of an item
@@ -240,12 +240,12 @@ examples =
       timed = 0;
       division = head;
       counter = 1;
-      mpu_sequence_number_of = 7;
+      mpu_sequence_number = 7;
       body = one_unit_of (record { header = untimed_header 9; content = 0x01 ∷ [] });
     }
     -- MPU metadata, and movie fragment metadata
-    ∷ record { timed = 1; division = complete; counter = 0; mpu_sequence_number_of = 7; body = mpu_metadata (replicate 20 0x11) }
-    ∷ record { timed = 1; division = complete; counter = 0; mpu_sequence_number_of = 7; body = movie_fragment_metadata (replicate 20 0x11) }
+    ∷ record { timed = 1; division = complete; counter = 0; mpu_sequence_number = 7; body = mpu_metadata (replicate 20 0x11) }
+    ∷ record { timed = 1; division = complete; counter = 0; mpu_sequence_number = 7; body = movie_fragment_metadata (replicate 20 0x11) }
     ∷ []
 
 abbrev pub example_bytes : List (List ℕ)

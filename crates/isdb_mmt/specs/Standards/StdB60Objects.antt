@@ -15,7 +15,7 @@ use Rattle.isdb_tlv.specs.declared.ip.MaybeFlow.{MaybeFlow}
 use Rattle.isdb_tlv.specs.declared.ip.MaybeFlow.TheVariants.{None as no_flow_of, Some as some_flow}
 use Rattle.isdb_mmt.specs.Decoder.Packet.{Packet, ip_error, ntp, non_mmtp_of, media, message, control, other, mmtp_in}
 use Rattle.isdb_mmt.specs.Decoder.Objects.{Mfu, Asset, Rec}
-use Rattle.isdb_mmt.specs.Decoder.Model.{State, opened, asset_of_lem}
+use Rattle.isdb_mmt.specs.Decoder.Model.{State, opened, asset_of}
 use Rattle.isdb_mmt.specs.Books.Demand.{push_all, give_all, Feed, packets_of}
 use Rattle.isdb_mmt.specs.Standards.StdB60Mpu.{untimed_header, SentUnit, one_unit_of, Division, head, middle, last, SentPayload, payload_sent}
 use Rattle.isdb_mmt.specs.Standards.StdB60Mpu.{PayloadConforming, mfu_seen, item_seen}
@@ -28,17 +28,17 @@ pub record ObjectPart : Type 0 where
 
 -- an object in two parts or more, all of one MPU; `number` is the first packet's
 pub record SentObject : Type 0 where
-  pub packet_id_of : ℕ
+  pub packet_id : ℕ
   pub number : ℕ
   pub timed : ℕ
-  pub mpu_sequence_number_of : ℕ
+  pub mpu_sequence_number : ℕ
   pub first : ObjectPart
   pub middles : List ObjectPart
   pub final : ObjectPart
 
 abbrev pub part_payload : SentObject → Division → ObjectPart → SentPayload
 part_payload o d x =
-    record { timed = o.timed; division = d; counter = x.counter; mpu_sequence_number_of = o.mpu_sequence_number_of; body = one_unit_of x.unit }
+    record { timed = o.timed; division = d; counter = x.counter; mpu_sequence_number = o.mpu_sequence_number; body = one_unit_of x.unit }
 
 -- of the type of MPU payloads
 abbrev pub part_packet : SentObject → ℕ → Division → ObjectPart → Mmtp
@@ -49,7 +49,7 @@ part_packet o n d x =
       rap = x.frame.rap;
       reserved2 = x.frame.reserved2;
       kind = mpu;
-      packet_id_of = o.packet_id_of;
+      packet_id = o.packet_id;
       delivery_timestamp = x.frame.delivery_timestamp;
       sequence_number = n;
       packet_counter = x.frame.packet_counter;
@@ -101,17 +101,17 @@ Before (some l) n = next_number l ≡ n
 
 -- nothing of the object's packet id is held, and its first packet is the next one
 pub record Awaited (s : State) (o : SentObject) : Type 0 where
-  pub held : (asset_of_lem o.packet_id_of s).held ≡ none
-  pub number : Before (asset_of_lem o.packet_id_of s).number o.number
+  pub held : (asset_of o.packet_id s).held ≡ none
+  pub number : Before (asset_of o.packet_id s).number o.number
 
 -- the object with its whole data, and the fields of its first part
 abbrev pub object_seen : SentObject → Mfu
 object_seen o =
     record {
-      mpu = o.mpu_sequence_number_of;
+      mpu = o.mpu_sequence_number;
       rap = o.first.frame.rap =? 1;
       mfu = mfu_seen o.first.unit.header;
-      item_id_of = item_seen o.first.unit.header;
+      item_id = item_seen o.first.unit.header;
       bytes = object_data o;
     }
 
@@ -131,14 +131,14 @@ record_of i x = record { id = i; scrambled = false; mfu = x }
 -- from a state on, the packets give out one record, of the id `i`, and none of them counts as unreadable
 pub record Delivers (i : ℕ) (s : State) (ps : List Packet) (x : Mfu) : Type 0 where
   pub given : give_all s ps ≡ record_of i x ∷ []
-  pub asset : OneDelivered (length ps) (asset_of_lem i s) (asset_of_lem i (push_all s ps))
-  pub ip_errors_of : (push_all s ps).counters.ip_errors ≡ s.counters.ip_errors
-  pub non_mmtp_of : (push_all s ps).counters.non_mmtp ≡ s.counters.non_mmtp
+  pub asset : OneDelivered (length ps) (asset_of i s) (asset_of i (push_all s ps))
+  pub ip_errors : (push_all s ps).counters.ip_errors ≡ s.counters.ip_errors
+  pub non_mmtp : (push_all s ps).counters.non_mmtp ≡ s.counters.non_mmtp
 
 -- proved in proofs/StdB60Objects.antt; a decoder holds at most 16,777,216 bytes of an object
 abbrev pub ObjectTheorem : Type 0
 ObjectTheorem = (o : SentObject) → ObjectConforming o → length (object_data o) ≤ 16777216 → (s : State) → Awaited s o
-    → Delivers o.packet_id_of s (map received (object_packets o)) (object_seen o)
+    → Delivers o.packet_id s (map received (object_packets o)) (object_seen o)
 
 -- the media packets of an id, and the records of an id
 abbrev pub is_of : ℕ → Packet → Bool
@@ -161,9 +161,9 @@ id_records i (r ∷ rs) = if i =? r.id then r ∷ id_records i rs else id_record
 -- whatever packets, of any kind and of other ids, arrive in between
 abbrev pub AmongOthersTheorem : Type 0
 AmongOthersTheorem = (o : SentObject) → ObjectConforming o → length (object_data o) ≤ 16777216 → (s : State) → Awaited s o
-    → (ps : List Packet) → id_packets o.packet_id_of ps ≡ map received (object_packets o)
-    → (id_records o.packet_id_of (give_all s ps) ≡ record_of o.packet_id_of (object_seen o) ∷ [])
-    × OneDelivered (length (object_packets o)) (asset_of_lem o.packet_id_of s) (asset_of_lem o.packet_id_of (push_all s ps))
+    → (ps : List Packet) → id_packets o.packet_id ps ≡ map received (object_packets o)
+    → (id_records o.packet_id (give_all s ps) ≡ record_of o.packet_id (object_seen o) ∷ [])
+    × OneDelivered (length (object_packets o)) (asset_of o.packet_id s) (asset_of o.packet_id (push_all s ps))
 
 -- to a port other than NTP's
 abbrev pub NotNtp : MaybeFlow → Type 0
@@ -185,7 +185,7 @@ AllCarried (m ∷ ms) (x ∷ f) = Carried (mmtp_sent m) x × AllCarried ms f
 -- so a feed's bytes, as pushes are given them, deliver the object
 abbrev pub FeedTheorem : Type 0
 FeedTheorem = (o : SentObject) → ObjectConforming o → length (object_data o) ≤ 16777216 → (s : State) → Awaited s o
-    → (f : Feed) → AllCarried (object_packets o) f → Delivers o.packet_id_of s (packets_of f) (object_seen o)
+    → (f : Feed) → AllCarried (object_packets o) f → Delivers o.packet_id s (packets_of f) (object_seen o)
 
 -- an item in three parts, over the numbers 4,294,967,295, 0 and 1; the first packet has the RAP flag, the second a packet
 -- counter, the last scrambling information that says clear
@@ -197,7 +197,7 @@ example_frame rap counter extension =
       rap = rap;
       reserved2 = 0;
       kind = mpu;
-      packet_id_of = 0;
+      packet_id = 0;
       delivery_timestamp = 8;
       sequence_number = 0;
       packet_counter = counter;
@@ -212,10 +212,10 @@ example_part frame counter byte =
 abbrev pub example_object : SentObject
 example_object =
     record {
-      packet_id_of = 0xf110;
+      packet_id = 0xf110;
       number = 0xffffffff;
       timed = 0;
-      mpu_sequence_number_of = 7;
+      mpu_sequence_number = 7;
       first = example_part (example_frame 1 none no_extension) 1 0x01;
       middles = example_part (example_frame 0 (some 5) no_extension) 2 0x02 ∷ [];
       final = example_part (example_frame 0 none (multi_type [] (scrambling 0 not_scrambled 0 []))) 3 0x03;

@@ -30,7 +30,7 @@ bytes_sent x = section_sent x.header x.body
 
 -- the section length is at most 4,095
 pub record SectionConforming (x : SentSection) : Type 0 where
-  pub table : x.header.table_id_of ≡ table_code x.table
+  pub table : x.header.table_id ≡ table_code x.table
   pub header : HeaderConforming x.header
   pub short : length x.body + 9 < 2 ^ 12
 
@@ -82,17 +82,17 @@ abbrev pub examples : List SentSection
 examples =
     record {
       table = nit_actual;
-      header = record { table_id_of = 0x40; reserved = 7; extension = 4; reserved2 = 3; version = 3; current = 1; number = 0; last = 0 };
+      header = record { table_id = 0x40; reserved = 7; extension = 4; reserved2 = 3; version = 3; current = 1; number = 0; last = 0 };
       body = 0xF0 ∷ 0x00 ∷ 0xF0 ∷ 0x00 ∷ [];
     }
     ∷ record {
       table = nit_other;
-      header = record { table_id_of = 0x41; reserved = 7; extension = 7; reserved2 = 3; version = 31; current = 1; number = 0; last = 0 };
+      header = record { table_id = 0x41; reserved = 7; extension = 7; reserved2 = 3; version = 31; current = 1; number = 0; last = 0 };
       body = 0xF0 ∷ 0x00 ∷ 0xF0 ∷ 0x00 ∷ [];
     }
     ∷ record {
       table = amt;
-      header = record { table_id_of = 0xFE; reserved = 7; extension = 0; reserved2 = 3; version = 0; current = 1; number = 0; last = 0 };
+      header = record { table_id = 0xFE; reserved = 7; extension = 0; reserved2 = 3; version = 0; current = 1; number = 0; last = 0 };
       body = 0x00 ∷ 0x00 ∷ [];
     }
     ∷ []

@@ -38,40 +38,40 @@ pub record EntryConforming (e : Entry) : Type 0 where
 
 -- MH-EIT: an event. Start time and duration as their bits stand.
 pub record SentEvent : Type 0 where
-  pub event_id_of : ℕ
+  pub event_id : ℕ
   pub start : ℕ
   pub duration : ℕ
-  pub running_status_of : ℕ
-  pub free_ca_of : ℕ
+  pub running_status : ℕ
+  pub free_ca : ℕ
   pub descriptors : List Descriptor
 
 abbrev pub event_entry : SentEvent → Entry
 event_entry e =
     record {
-      fields = field 2 e.event_id_of ∷ field 5 e.start ∷ field 3 e.duration ∷ [];
-      upper = packed (bits 3 e.running_status_of ∷ bits 1 e.free_ca_of ∷ []);
+      fields = field 2 e.event_id ∷ field 5 e.start ∷ field 3 e.duration ∷ [];
+      upper = packed (bits 3 e.running_status ∷ bits 1 e.free_ca ∷ []);
       loop = loop_sent e.descriptors;
     }
 
 pub record EventConforming (e : SentEvent) : Type 0 where
-  pub event_id_of : e.event_id_of < 2 ^ 16
+  pub event_id : e.event_id < 2 ^ 16
   pub start : e.start < 2 ^ 40
   pub duration : e.duration < 2 ^ 24
-  pub running_status_of : e.running_status_of < 2 ^ 3
-  pub free_ca_of : e.free_ca_of < 2
+  pub running_status : e.running_status < 2 ^ 3
+  pub free_ca : e.free_ca < 2
   pub descriptors : LoopConforming e.descriptors
   pub loop : length (loop_sent e.descriptors) < 2 ^ 12
 
 pub record SentEit : Type 0 where
   pub header : Header
-  pub tlv_stream_id_of : ℕ
-  pub original_network_id_of : ℕ
+  pub tlv_stream_id : ℕ
+  pub original_network_id : ℕ
   pub segment_last : ℕ
-  pub last_table_id_of : ℕ
+  pub last_table_id : ℕ
   pub events : List SentEvent
 
 abbrev pub eit_fields : SentEit → List Field
-eit_fields t = field 2 t.tlv_stream_id_of ∷ field 2 t.original_network_id_of ∷ field 1 t.segment_last ∷ field 1 t.last_table_id_of ∷ []
+eit_fields t = field 2 t.tlv_stream_id ∷ field 2 t.original_network_id ∷ field 1 t.segment_last ∷ field 1 t.last_table_id ∷ []
 
 abbrev pub eit_body_sent : SentEit → List ℕ
 eit_body_sent t = written (eit_fields t) ++ entries_sent (map event_entry t.events)
@@ -88,42 +88,42 @@ pub record EitConforming (t : SentEit) : Type 0 where
 
 -- an event's values: its fields, and the bytes of its descriptors
 pub record EventValue : Type 0 where
-  pub event_id_of : ℕ
+  pub event_id : ℕ
   pub start : ℕ
   pub duration : ℕ
-  pub running_status_of : ℕ
-  pub free_ca_of : Bool
+  pub running_status : ℕ
+  pub free_ca : Bool
   pub loop : List ℕ
 
 abbrev pub event_seen : List ℕ → Event → EventValue
 event_seen s e =
     record {
-      event_id_of = e.event_id;
+      event_id = e.event_id;
       start = e.start;
       duration = e.duration;
-      running_status_of = e.running_status;
-      free_ca_of = e.free_ca;
+      running_status = e.running_status;
+      free_ca = e.free_ca;
       loop = part_of s e.descriptors;
     }
 
 abbrev pub event_value : SentEvent → EventValue
 event_value e =
     record {
-      event_id_of = e.event_id_of;
+      event_id = e.event_id;
       start = e.start;
       duration = e.duration;
-      running_status_of = e.running_status_of;
-      free_ca_of = e.free_ca_of =? 1;
+      running_status = e.running_status;
+      free_ca = e.free_ca =? 1;
       loop = loop_sent e.descriptors;
     }
 
 pub record EitRead (t : SentEit) : Type 0 where
   pub section : eit_of (section_sent t.header (eit_body_sent t)) ≡ record {
     result = eit_ok (header_seen t.header (length (eit_body_sent t))) (record {
-      tlv_stream_id = t.tlv_stream_id_of;
-      original_network_id = t.original_network_id_of;
+      tlv_stream_id = t.tlv_stream_id;
+      original_network_id = t.original_network_id;
       segment_last_section_number = t.segment_last;
-      last_table_id = t.last_table_id_of;
+      last_table_id = t.last_table_id;
       events = length t.events;
     });
     breaks = 0;
@@ -132,45 +132,45 @@ pub record EitRead (t : SentEit) : Type 0 where
 
 -- MH-SDT: a service
 pub record SentService : Type 0 where
-  pub service_id_of_lem : ℕ
+  pub service_id : ℕ
   pub reserved : ℕ
   pub user_defined_flags : ℕ
   pub schedule : ℕ
-  pub present_following_of : ℕ
-  pub running_status_of : ℕ
-  pub free_ca_of : ℕ
+  pub present_following : ℕ
+  pub running_status : ℕ
+  pub free_ca : ℕ
   pub descriptors : List Descriptor
 
 abbrev pub service_entry : SentService → Entry
 service_entry e =
     record {
       fields =
-          field 2 e.service_id_of_lem
-          ∷ field 1 (packed (bits 3 e.reserved ∷ bits 3 e.user_defined_flags ∷ bits 1 e.schedule ∷ bits 1 e.present_following_of ∷ []))
+          field 2 e.service_id
+          ∷ field 1 (packed (bits 3 e.reserved ∷ bits 3 e.user_defined_flags ∷ bits 1 e.schedule ∷ bits 1 e.present_following ∷ []))
           ∷ [];
-      upper = packed (bits 3 e.running_status_of ∷ bits 1 e.free_ca_of ∷ []);
+      upper = packed (bits 3 e.running_status ∷ bits 1 e.free_ca ∷ []);
       loop = loop_sent e.descriptors;
     }
 
 pub record ServiceConforming (e : SentService) : Type 0 where
-  pub service_id_of_lem : e.service_id_of_lem < 2 ^ 16
+  pub service_id : e.service_id < 2 ^ 16
   pub reserved : e.reserved < 2 ^ 3
   pub user_defined_flags : e.user_defined_flags < 2 ^ 3
   pub schedule : e.schedule < 2
-  pub present_following_of : e.present_following_of < 2
-  pub running_status_of : e.running_status_of < 2 ^ 3
-  pub free_ca_of : e.free_ca_of < 2
+  pub present_following : e.present_following < 2
+  pub running_status : e.running_status < 2 ^ 3
+  pub free_ca : e.free_ca < 2
   pub descriptors : LoopConforming e.descriptors
   pub loop : length (loop_sent e.descriptors) < 2 ^ 12
 
 pub record SentSdt : Type 0 where
   pub header : Header
-  pub original_network_id_of : ℕ
+  pub original_network_id : ℕ
   pub reserved : ℕ
   pub services : List SentService
 
 abbrev pub sdt_fields : SentSdt → List Field
-sdt_fields t = field 2 t.original_network_id_of ∷ field 1 t.reserved ∷ []
+sdt_fields t = field 2 t.original_network_id ∷ field 1 t.reserved ∷ []
 
 abbrev pub sdt_body_sent : SentSdt → List ℕ
 sdt_body_sent t = written (sdt_fields t) ++ entries_sent (map service_entry t.services)
@@ -182,57 +182,57 @@ pub record SdtConforming (t : SentSdt) : Type 0 where
   pub short : length (sdt_body_sent t) + 9 < 2 ^ 12
 
 pub record ServiceValue : Type 0 where
-  pub service_id_of_lem : ℕ
+  pub service_id : ℕ
   pub user_defined_flags : ℕ
   pub schedule : Bool
-  pub present_following_of : Bool
-  pub running_status_of : ℕ
-  pub free_ca_of : Bool
+  pub present_following : Bool
+  pub running_status : ℕ
+  pub free_ca : Bool
   pub loop : List ℕ
 
 abbrev pub service_seen : List ℕ → SdtService → ServiceValue
 service_seen s e =
     record {
-      service_id_of_lem = e.service_id;
+      service_id = e.service_id;
       user_defined_flags = e.eit_user_defined_flags;
       schedule = e.eit_schedule;
-      present_following_of = e.eit_present_following;
-      running_status_of = e.running_status;
-      free_ca_of = e.free_ca;
+      present_following = e.eit_present_following;
+      running_status = e.running_status;
+      free_ca = e.free_ca;
       loop = part_of s e.descriptors;
     }
 
 abbrev pub service_value : SentService → ServiceValue
 service_value e =
     record {
-      service_id_of_lem = e.service_id_of_lem;
+      service_id = e.service_id;
       user_defined_flags = e.user_defined_flags;
       schedule = e.schedule =? 1;
-      present_following_of = e.present_following_of =? 1;
-      running_status_of = e.running_status_of;
-      free_ca_of = e.free_ca_of =? 1;
+      present_following = e.present_following =? 1;
+      running_status = e.running_status;
+      free_ca = e.free_ca =? 1;
       loop = loop_sent e.descriptors;
     }
 
 pub record SdtRead (t : SentSdt) : Type 0 where
   pub section : sdt_of (section_sent t.header (sdt_body_sent t)) ≡ record {
-    result = sdt_ok (header_seen t.header (length (sdt_body_sent t))) (record { original_network_id = t.original_network_id_of; services = length t.services });
+    result = sdt_ok (header_seen t.header (length (sdt_body_sent t))) (record { original_network_id = t.original_network_id; services = length t.services });
     breaks = 0;
   }
   pub services : map (service_seen (sdt_body_sent t)) (services_of (sdt_body_sent t)) ≡ map service_value t.services
 
 -- MH-BIT: a broadcaster
 pub record SentBroadcaster : Type 0 where
-  pub broadcaster_id_of : ℕ
+  pub broadcaster_id : ℕ
   pub reserved : ℕ
   pub descriptors : List Descriptor
 
 abbrev pub broadcaster_entry : SentBroadcaster → Entry
 broadcaster_entry e =
-    record { fields = field 1 e.broadcaster_id_of ∷ []; upper = e.reserved; loop = loop_sent e.descriptors }
+    record { fields = field 1 e.broadcaster_id ∷ []; upper = e.reserved; loop = loop_sent e.descriptors }
 
 pub record BroadcasterConforming (e : SentBroadcaster) : Type 0 where
-  pub broadcaster_id_of : e.broadcaster_id_of < 2 ^ 8
+  pub broadcaster_id : e.broadcaster_id < 2 ^ 8
   pub reserved : e.reserved < 2 ^ 4
   pub descriptors : LoopConforming e.descriptors
   pub loop : length (loop_sent e.descriptors) < 2 ^ 12
@@ -260,14 +260,14 @@ pub record BitConforming (t : SentBit) : Type 0 where
   pub short : length (bit_body_sent t) + 9 < 2 ^ 12
 
 pub record BroadcasterValue : Type 0 where
-  pub broadcaster_id_of : ℕ
+  pub broadcaster_id : ℕ
   pub loop : List ℕ
 
 abbrev pub broadcaster_seen : List ℕ → Broadcaster → BroadcasterValue
-broadcaster_seen s e = record { broadcaster_id_of = e.broadcaster_id; loop = part_of s e.descriptors }
+broadcaster_seen s e = record { broadcaster_id = e.broadcaster_id; loop = part_of s e.descriptors }
 
 abbrev pub broadcaster_value : SentBroadcaster → BroadcasterValue
-broadcaster_value e = record { broadcaster_id_of = e.broadcaster_id_of; loop = loop_sent e.descriptors }
+broadcaster_value e = record { broadcaster_id = e.broadcaster_id; loop = loop_sent e.descriptors }
 
 pub record BitRead (t : SentBit) : Type 0 where
   pub section : bit_of (section_sent t.header (bit_body_sent t)) ≡ record {
@@ -283,18 +283,18 @@ pub record BitRead (t : SentBit) : Type 0 where
 
 -- TLV-NIT: TLV-SI descriptors (5.3) go as the bytes of their loop; a stream
 pub record SentStream : Type 0 where
-  pub tlv_stream_id_of : ℕ
-  pub original_network_id_of : ℕ
+  pub tlv_stream_id : ℕ
+  pub original_network_id : ℕ
   pub reserved : ℕ
   pub loop : List ℕ
 
 abbrev pub stream_entry : SentStream → Entry
 stream_entry e =
-    record { fields = field 2 e.tlv_stream_id_of ∷ field 2 e.original_network_id_of ∷ []; upper = e.reserved; loop = e.loop }
+    record { fields = field 2 e.tlv_stream_id ∷ field 2 e.original_network_id ∷ []; upper = e.reserved; loop = e.loop }
 
 pub record StreamConforming (e : SentStream) : Type 0 where
-  pub tlv_stream_id_of : e.tlv_stream_id_of < 2 ^ 16
-  pub original_network_id_of : e.original_network_id_of < 2 ^ 16
+  pub tlv_stream_id : e.tlv_stream_id < 2 ^ 16
+  pub original_network_id : e.original_network_id < 2 ^ 16
   pub reserved : e.reserved < 2 ^ 4
   pub loop : length e.loop < 2 ^ 12
 
@@ -324,7 +324,7 @@ abbrev pub stream_seen : List ℕ → NitStream → ℕ × (ℕ × List ℕ)
 stream_seen s e = (e.tlv_stream_id, (e.original_network_id, part_of s e.descriptors))
 
 abbrev pub stream_value : SentStream → ℕ × (ℕ × List ℕ)
-stream_value e = (e.tlv_stream_id_of, (e.original_network_id_of, e.loop))
+stream_value e = (e.tlv_stream_id, (e.original_network_id, e.loop))
 
 pub record NitRead (t : SentNit) : Type 0 where
   pub section : nit_of (section_sent t.header (nit_body_sent t)) ≡ nit_ok (header_seen t.header (length (nit_body_sent t))) (record {

@@ -37,7 +37,7 @@ is_ipv6 (flow4 s sm d dm) = 0
 is_ipv6 (flow6 sh sl sm dh dl dm) = 1
 
 pub record SentFlow : Type 0 where
-  pub service_id_of_lem : ℕ
+  pub service_id : ℕ
   pub reserved : ℕ
   pub flow : Flow
   -- bytes behind the addresses in the service's loop
@@ -50,7 +50,7 @@ flow_loop x = written (flow_fields x.flow) ++ x.private
 -- service id 16 bits, IP version 1, reserved 5, length of the loop 10, the loop
 abbrev pub flow_sent : SentFlow → List ℕ
 flow_sent x =
-    written (field 2 x.service_id_of_lem ∷ field 2 (packed (bits 1 (is_ipv6 x.flow) ∷ bits 5 x.reserved ∷ bits 10 (length (flow_loop x)) ∷ [])) ∷ [])
+    written (field 2 x.service_id ∷ field 2 (packed (bits 1 (is_ipv6 x.flow) ∷ bits 5 x.reserved ∷ bits 10 (length (flow_loop x)) ∷ [])) ∷ [])
     ++ flow_loop x
 
 abbrev pub flows_sent : List SentFlow → List ℕ
@@ -58,16 +58,16 @@ flows_sent [] = []
 flows_sent (x ∷ l) = flow_sent x ++ flows_sent l
 
 pub record FlowConforming (x : SentFlow) : Type 0 where
-  pub service_id_of_lem : x.service_id_of_lem < 2 ^ 16
+  pub service_id : x.service_id < 2 ^ 16
   pub reserved : x.reserved < 2 ^ 5
   pub flow : Fit (flow_fields x.flow)
   pub short : length (flow_loop x) < 2 ^ 10
 
 abbrev pub flow_seen : SentFlow → Flow → AmtService
 flow_seen x (flow4 s sm d dm) =
-    record { service_id = x.service_id_of_lem; src = V4 s; src_mask = sm; dst = V4 d; dst_mask = dm }
+    record { service_id = x.service_id; src = V4 s; src_mask = sm; dst = V4 d; dst_mask = dm }
 flow_seen x (flow6 sh sl sm dh dl dm) =
-    record { service_id = x.service_id_of_lem; src = V6 sh sl; src_mask = sm; dst = V6 dh dl; dst_mask = dm }
+    record { service_id = x.service_id; src = V6 sh sl; src_mask = sm; dst = V6 dh dl; dst_mask = dm }
 
 pub record SentAmt : Type 0 where
   pub header : Header
@@ -92,7 +92,7 @@ pub record AmtRead (t : SentAmt) : Type 0 where
 
 -- MH-TOT: a section of the short form with a CRC
 pub record SentTot : Type 0 where
-  pub table_id_of : ℕ
+  pub table_id : ℕ
   pub reserved : ℕ
   pub jst : ℕ
   pub reserved2 : ℕ
@@ -100,7 +100,7 @@ pub record SentTot : Type 0 where
 
 abbrev pub tot_fields : SentTot → List Field
 tot_fields t =
-    field 1 t.table_id_of
+    field 1 t.table_id
     ∷ field 2 (packed (bits 4 t.reserved ∷ bits 12 (length (loop_sent t.descriptors) + 11) ∷ []))
     ∷ field 5 t.jst
     ∷ field 2 (packed (bits 4 t.reserved2 ∷ bits 12 (length (loop_sent t.descriptors)) ∷ []))
@@ -110,7 +110,7 @@ unfoldable pub tot_sent : SentTot → List ℕ
 tot_sent t = with_crc (written (tot_fields t) ++ loop_sent t.descriptors)
 
 pub record TotConforming (t : SentTot) : Type 0 where
-  pub table_id_of : t.table_id_of < 2 ^ 8
+  pub table_id : t.table_id < 2 ^ 8
   pub reserved : t.reserved < 2 ^ 4
   pub jst : t.jst < 2 ^ 40
   pub reserved2 : t.reserved2 < 2 ^ 4
@@ -130,28 +130,28 @@ locations_sent [] = []
 locations_sent (p ∷ ps) = location_sent p ++ locations_sent ps
 
 pub record SentAsset : Type 0 where
-  pub identifier_type_of : ℕ
+  pub identifier_type : ℕ
   pub id_scheme : ℕ
-  pub asset_id_of : List ℕ
-  pub asset_type_of : ℕ
+  pub asset_id : List ℕ
+  pub asset_type : ℕ
   pub reserved : ℕ
-  pub clock_relation_of : ℕ
+  pub clock_relation : ℕ
   pub locations : List SentLocation
   pub descriptors : List Descriptor
 
 abbrev pub asset_head : SentAsset → List Field
-asset_head a = field 1 a.identifier_type_of ∷ field 4 a.id_scheme ∷ field 1 (length a.asset_id_of) ∷ []
+asset_head a = field 1 a.identifier_type ∷ field 4 a.id_scheme ∷ field 1 (length a.asset_id) ∷ []
 
 abbrev pub asset_middle : SentAsset → List Field
 asset_middle a =
-    field 4 a.asset_type_of
-    ∷ field 1 (packed (bits 7 a.reserved ∷ bits 1 a.clock_relation_of ∷ []))
+    field 4 a.asset_type
+    ∷ field 1 (packed (bits 7 a.reserved ∷ bits 1 a.clock_relation ∷ []))
     ∷ field 1 (length a.locations)
     ∷ []
 
 abbrev pub asset_sent : SentAsset → List ℕ
 asset_sent a =
-    written (asset_head a) ++ a.asset_id_of ++ written (asset_middle a) ++ locations_sent a.locations
+    written (asset_head a) ++ a.asset_id ++ written (asset_middle a) ++ locations_sent a.locations
     ++ written (field 2 (length (loop_sent a.descriptors)) ∷ []) ++ loop_sent a.descriptors
 
 abbrev pub assets_sent : List SentAsset → List ℕ
@@ -159,12 +159,12 @@ assets_sent [] = []
 assets_sent (a ∷ l) = asset_sent a ++ assets_sent l
 
 pub record AssetConforming (a : SentAsset) : Type 0 where
-  pub identifier_type_of : a.identifier_type_of < 2 ^ 8
+  pub identifier_type : a.identifier_type < 2 ^ 8
   pub id_scheme : a.id_scheme < 2 ^ 32
-  pub asset_id_of : length a.asset_id_of < 2 ^ 8
-  pub asset_type_of : a.asset_type_of < 2 ^ 32
+  pub asset_id : length a.asset_id < 2 ^ 8
+  pub asset_type : a.asset_type < 2 ^ 32
   pub reserved : a.reserved < 2 ^ 7
-  pub clock_relation_of : a.clock_relation_of < 2
+  pub clock_relation : a.clock_relation < 2
   pub places : All LocationConforming a.locations
   pub locations : length a.locations < 2 ^ 8
   pub descriptors : LoopConforming a.descriptors
@@ -172,22 +172,22 @@ pub record AssetConforming (a : SentAsset) : Type 0 where
 
 -- an asset's values: its fields, its locations, and the bytes of its id and its descriptors
 pub record AssetValue : Type 0 where
-  pub identifier_type_of : ℕ
+  pub identifier_type : ℕ
   pub id_scheme : ℕ
-  pub asset_id_of : List ℕ
-  pub asset_type_of : ℕ
-  pub clock_relation_of : Bool
+  pub asset_id : List ℕ
+  pub asset_type : ℕ
+  pub clock_relation : Bool
   pub locations : List Location
   pub loop : List ℕ
 
 abbrev pub asset_seen : List ℕ → Asset → AssetValue
 asset_seen s a =
     record {
-      identifier_type_of = a.identifier_type;
+      identifier_type = a.identifier_type;
       id_scheme = a.asset_id_scheme;
-      asset_id_of = part_of s a.asset_id;
-      asset_type_of = a.asset_type;
-      clock_relation_of = a.clock_relation;
+      asset_id = part_of s a.asset_id;
+      asset_type = a.asset_type;
+      clock_relation = a.clock_relation;
       locations = locations_of a.locations s a.locations_start;
       loop = part_of s a.descriptors;
     }
@@ -195,28 +195,28 @@ asset_seen s a =
 abbrev pub asset_value : SentAsset → AssetValue
 asset_value a =
     record {
-      identifier_type_of = a.identifier_type_of;
+      identifier_type = a.identifier_type;
       id_scheme = a.id_scheme;
-      asset_id_of = a.asset_id_of;
-      asset_type_of = a.asset_type_of;
-      clock_relation_of = a.clock_relation_of =? 1;
+      asset_id = a.asset_id;
+      asset_type = a.asset_type;
+      clock_relation = a.clock_relation =? 1;
       locations = map location_seen a.locations;
       loop = loop_sent a.descriptors;
     }
 
 pub record SentMpt : Type 0 where
-  pub table_id_of : ℕ
+  pub table_id : ℕ
   pub version : ℕ
   pub reserved : ℕ
   pub mode : ℕ
-  pub package_id_of : List ℕ
+  pub package_id : List ℕ
   pub descriptors : List Descriptor
   pub assets : List SentAsset
 
 -- what stands behind the table's length
 abbrev pub mpt_rest : SentMpt → List ℕ
 mpt_rest t =
-    written (field 1 (packed (bits 6 t.reserved ∷ bits 2 t.mode ∷ [])) ∷ field 1 (length t.package_id_of) ∷ []) ++ t.package_id_of
+    written (field 1 (packed (bits 6 t.reserved ∷ bits 2 t.mode ∷ [])) ∷ field 1 (length t.package_id) ∷ []) ++ t.package_id
     ++ written (field 2 (length (loop_sent t.descriptors)) ∷ []) ++ loop_sent t.descriptors
     ++ written (field 1 (length t.assets) ∷ []) ++ assets_sent t.assets
 
@@ -224,14 +224,14 @@ abbrev pub table_head : ℕ → ℕ → ℕ → List Field
 table_head id version n = field 1 id ∷ field 1 version ∷ field 2 n ∷ []
 
 unfoldable pub mpt_sent : SentMpt → List ℕ
-mpt_sent t = written (table_head t.table_id_of t.version (length (mpt_rest t))) ++ mpt_rest t
+mpt_sent t = written (table_head t.table_id t.version (length (mpt_rest t))) ++ mpt_rest t
 
 pub record MptConforming (t : SentMpt) : Type 0 where
-  pub table_id_of : t.table_id_of < 2 ^ 8
+  pub table_id : t.table_id < 2 ^ 8
   pub version : t.version < 2 ^ 8
   pub reserved : t.reserved < 2 ^ 6
   pub mode : t.mode < 2 ^ 2
-  pub package_id_of : length t.package_id_of < 2 ^ 8
+  pub package_id : length t.package_id < 2 ^ 8
   pub descriptors : LoopConforming t.descriptors
   pub assets : All AssetConforming t.assets
   pub few : length t.assets < 2 ^ 8
@@ -239,7 +239,7 @@ pub record MptConforming (t : SentMpt) : Type 0 where
 
 -- where the descriptors and the assets start
 abbrev pub mpt_loop_start : SentMpt → ℕ
-mpt_loop_start t = length t.package_id_of + 8
+mpt_loop_start t = length t.package_id + 8
 
 abbrev pub mpt_assets_start : SentMpt → ℕ
 mpt_assets_start t = mpt_loop_start t + length (loop_sent t.descriptors) + 1
@@ -247,41 +247,41 @@ mpt_assets_start t = mpt_loop_start t + length (loop_sent t.descriptors) + 1
 pub record MptRead (t : SentMpt) : Type 0 where
   pub table : mpt_of (mpt_sent t) ≡ record {
     mpt = some_mpt (record {
-      table_id = t.table_id_of;
+      table_id = t.table_id;
       version = t.version;
       mode = t.mode;
-      package_id = part_at 6 (length t.package_id_of);
+      package_id = part_at 6 (length t.package_id);
       descriptors = part_at (mpt_loop_start t) (length (loop_sent t.descriptors));
       assets = length t.assets;
       start = mpt_assets_start t;
     });
     breaks = 0;
   }
-  pub package_id_of : part_of (mpt_sent t) (part_at 6 (length t.package_id_of)) ≡ t.package_id_of
+  pub package_id : part_of (mpt_sent t) (part_at 6 (length t.package_id)) ≡ t.package_id
   pub descriptors : part_of (mpt_sent t) (part_at (mpt_loop_start t) (length (loop_sent t.descriptors))) ≡ loop_sent t.descriptors
   pub assets : map (asset_seen (mpt_sent t)) (assets_from (length t.assets) (mpt_sent t) (mpt_assets_start t)).found ≡ map asset_value t.assets
 
 -- PLT: a package, and an IP delivery
 pub record SentPackage : Type 0 where
-  pub package_id_of : List ℕ
+  pub package_id : List ℕ
   pub location : SentLocation
 
 abbrev pub package_sent : SentPackage → List ℕ
-package_sent p = written (field 1 (length p.package_id_of) ∷ []) ++ p.package_id_of ++ location_sent p.location
+package_sent p = written (field 1 (length p.package_id) ∷ []) ++ p.package_id ++ location_sent p.location
 
 abbrev pub packages_sent : List SentPackage → List ℕ
 packages_sent [] = []
 packages_sent (p ∷ l) = package_sent p ++ packages_sent l
 
 pub record PackageConforming (p : SentPackage) : Type 0 where
-  pub package_id_of : length p.package_id_of < 2 ^ 8
+  pub package_id : length p.package_id < 2 ^ 8
   pub location : LocationConforming p.location
 
 abbrev pub package_seen : List ℕ → Package → List ℕ × Location
 package_seen s p = (part_of s p.package_id, p.location)
 
 abbrev pub package_value : SentPackage → List ℕ × Location
-package_value p = (p.package_id_of, location_seen p.location)
+package_value p = (p.package_id, location_seen p.location)
 
 -- the location of an IP delivery: IPv4 or IPv6 addresses and port, or a URL
 pub data Delivery : Type 0 where
@@ -327,7 +327,7 @@ abbrev pub delivery_value : SentDelivery → IpDelivery
 delivery_value x = record { transport_file_id = x.file_id; location_type = delivery_type x.place }
 
 pub record SentPlt : Type 0 where
-  pub table_id_of : ℕ
+  pub table_id : ℕ
   pub version : ℕ
   pub packages : List SentPackage
   pub deliveries : List SentDelivery
@@ -338,10 +338,10 @@ plt_rest t =
     ++ (written (field 1 (length t.deliveries) ∷ []) ++ deliveries_sent t.deliveries)
 
 unfoldable pub plt_sent : SentPlt → List ℕ
-plt_sent t = written (table_head t.table_id_of t.version (length (plt_rest t))) ++ plt_rest t
+plt_sent t = written (table_head t.table_id t.version (length (plt_rest t))) ++ plt_rest t
 
 pub record PltConforming (t : SentPlt) : Type 0 where
-  pub table_id_of : t.table_id_of < 2 ^ 8
+  pub table_id : t.table_id < 2 ^ 8
   pub version : t.version < 2 ^ 8
   pub packages : All PackageConforming t.packages
   pub few_packages : length t.packages < 2 ^ 8

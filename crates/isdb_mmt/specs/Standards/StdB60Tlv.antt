@@ -128,7 +128,7 @@ TlvLoopTheorem = (ds : List SentTlv) → All TlvConforming ds → tlvs_in (rows_
 abbrev pub examples : List SentTlv
 examples =
     network (0x42 ∷ 0x53 ∷ [])
-    ∷ services (record { service_id_of_lem = 101; service_type_of = 1 } ∷ record { service_id_of_lem = 102; service_type_of = 2 } ∷ [])
+    ∷ services (record { service_id = 101; service_type = 1 } ∷ record { service_id = 102; service_type = 2 } ∷ [])
     -- 11.72748 GHz, 110.0 degrees east
     ∷ satellite (record {
       frequency = 1172748;

@@ -84,7 +84,7 @@ pub data Reading : Type 0 where
   plt : Reading
   tot : Reading
   section : ℕ → Reading
-  asset_of_lem : ℕ → Reading
+  asset_of : ℕ → Reading
 
 -- the number that it answers, 0 where it is not turned down
 unfoldable pub reading_number : Session → Reading → ℕ
@@ -101,7 +101,7 @@ reading_number s (mpt id) = table_number (mpt_read s id)
 reading_number s plt = table_number (plt_read s)
 reading_number s tot = table_number (tot_read s)
 reading_number s (section k) = table_number (section_read s k)
-reading_number s (asset_of_lem p) = asset_number (asset_read s p)
+reading_number s (asset_of p) = asset_number (asset_read s p)
 
 -- a push with its packet's bytes and output buffers of any size, or a reading
 pub data Call : Type 0 where

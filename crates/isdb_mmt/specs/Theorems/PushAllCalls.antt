@@ -92,7 +92,7 @@ refusal (Refused n) = n ∷ []
 -- the session, and all that is handed out, are those of the pushes `cs`, whose replies are `es`
 pub record PushesGive (s : Session) (b : Batch) (cs : List Call) (es : List (Input × Reply)) (a : Pushes) (s' : Session) (rows' out' lines' : Bytes) : Type 0 where
   pub session : s' ≡ after decoder s cs
-  pub rows_are_of : rows' ≡ all_rows b.rows es
+  pub rows_are : rows' ≡ all_rows b.rows es
   pub data_are : out' ≡ all_data b.out es
   pub lines_are : lines' ≡ all_lines 0 b.lines es
   pub packets : a.progress.packets ≡ length (accepted es)

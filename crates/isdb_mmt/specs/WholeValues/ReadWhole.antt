@@ -3,7 +3,7 @@ use Rattle.std.specs.Prelude.{◌≡◌, ℕ, true}
 use Rattle.isdb_mmt.specs.Formats.Part.{part_of}
 use Rattle.isdb_mmt.specs.Decoder.Maps.{is_some}
 use Rattle.isdb_mmt.specs.Memory.Session.{Session}
-use Rattle.isdb_mmt.specs.Answers.Readings.{table_id_of_lem, section_read, mpt_read, plt_read, tot_read}
+use Rattle.isdb_mmt.specs.Answers.Readings.{table_id_of_key, section_read, mpt_read, plt_read, tot_read}
 use Rattle.isdb_mmt.specs.WholeValues.Whole.{mpt_value, plt_value}
 use Rattle.isdb_mmt.specs.WholeValues.WholeSections.{tot_value}
 use Rattle.isdb_mmt.specs.WholeValues.WholeLists.{section_whole}
@@ -15,4 +15,4 @@ pub record ReadTheorem : Type 0 where
   pub plt : (s : Session) (p : Part) → plt_read s ≡ the_bytes p → is_some (plt_value (part_of s.tables p)) ≡ true
   pub tot : (s : Session) (p : Part) → tot_read s ≡ the_bytes p → is_some (tot_value (part_of s.tables p)) ≡ true
   -- as the table that the key's id names
-  pub section : (s : Session) (k : ℕ) (p : Part) → section_read s k ≡ the_bytes p → section_whole (table_id_of_lem k) (part_of s.tables p) ≡ true
+  pub section : (s : Session) (k : ℕ) (p : Part) → section_read s k ≡ the_bytes p → section_whole (table_id_of_key k) (part_of s.tables p) ≡ true

@@ -27,7 +27,7 @@ use Rattle.isdb_mmt.specs.declared.table.plt.MaybePlt.TheVariants.{None as no_pl
 -- MPT: its package id and descriptors; of each asset its id, locations and descriptors
 pub record WholeAsset : Type 0 where
   pub asset : Asset
-  pub asset_id_of : List ℕ
+  pub asset_id : List ℕ
   pub locations : List WholeLocation
   pub descriptors : Found WholeDescriptor
 
@@ -35,7 +35,7 @@ abbrev pub whole_asset : List ℕ → Asset → WholeAsset
 whole_asset s a =
     record {
       asset = a;
-      asset_id_of = part_of s a.asset_id;
+      asset_id = part_of s a.asset_id;
       locations = (counted (location_seen s) a.locations a.locations_start).found;
       descriptors = loop_in (part_of s a.descriptors);
     }
@@ -49,7 +49,7 @@ asset_seen s at = asset_told s (asset_at_of s at)
 
 pub record WholeMpt : Type 0 where
   pub mpt : Mpt
-  pub package_id_of : List ℕ
+  pub package_id : List ℕ
   pub descriptors : Found WholeDescriptor
   pub assets : List WholeAsset
 
@@ -57,7 +57,7 @@ abbrev pub whole_mpt : List ℕ → Mpt → WholeMpt
 whole_mpt s t =
     record {
       mpt = t;
-      package_id_of = part_of s t.package_id;
+      package_id = part_of s t.package_id;
       descriptors = loop_in (part_of s t.descriptors);
       assets = (counted (asset_seen s) t.assets t.start).found;
     }
@@ -71,13 +71,13 @@ mpt_value s = mpt_told (declared_table s) (mpt_of s).mpt
 
 -- PLT: each package by its id and its location; the deliveries
 pub record WholePackage : Type 0 where
-  pub package_id_of : List ℕ
+  pub package_id : List ℕ
   pub location : WholeLocation
 
 abbrev pub whole_package : List ℕ → Package → WholePackage
 whole_package s p =
     record {
-      package_id_of = part_of s p.package_id;
+      package_id = part_of s p.package_id;
       location = whole_location (drop p.location_start s) p.location;
     }
 

@@ -63,11 +63,11 @@ location_seen s at = location_told s at (location_of (drop at s))
 -- 7.4.3.5: an entry of an MPU timestamp
 pub record MpuTime : Type 0 where
   pub sequence_number : ℕ
-  pub presentation_time_of : ℕ
+  pub presentation_time : ℕ
 
 abbrev pub timestamp_told : TimestampStep → Stood MpuTime
 timestamp_told no_timestamp = at_end
-timestamp_told (Timestamp q t next) = element (record { sequence_number = q; presentation_time_of = t }) next
+timestamp_told (Timestamp q t next) = element (record { sequence_number = q; presentation_time = t }) next
 
 abbrev pub timestamp_seen : List ℕ → ℕ → Stood MpuTime
 timestamp_seen s at = timestamp_told (timestamp_at s at)
@@ -88,9 +88,9 @@ units_in s e n = (counted (unit_seen s e) n 0).found
 
 pub record WholeMpu : Type 0 where
   pub sequence_number : ℕ
-  pub leap_indicator_of : ℕ
-  pub decoding_time_offset_of : ℕ
-  pub access_units_of : List AccessUnit
+  pub leap_indicator : ℕ
+  pub decoding_time_offset : ℕ
+  pub access_units : List AccessUnit
 
 abbrev pub mpu_told : List ℕ → Extended → MpuStep → Stood WholeMpu
 mpu_told s e no_mpu = at_end
@@ -98,9 +98,9 @@ mpu_told s e broken_mpu = malformed
 mpu_told s e (Mpu q l d n units next) =
     element (record {
       sequence_number = q;
-      leap_indicator_of = l;
-      decoding_time_offset_of = d;
-      access_units_of = units_in (part_of s units) e n;
+      leap_indicator = l;
+      decoding_time_offset = d;
+      access_units = units_in (part_of s units) e n;
     }) next
 
 abbrev pub mpu_seen_of : List ℕ → Extended → ℕ → Stood WholeMpu
@@ -108,25 +108,25 @@ mpu_seen_of s e at = mpu_told s e (mpu_at s e.own_pts_offset at)
 
 pub record WholeExtended : Type 0 where
   pub timescale : MaybeU32
-  pub default_pts_offset_of : MaybeU16
+  pub default_pts_offset : MaybeU16
   pub mpus : List WholeMpu
 
 abbrev pub whole_extended : List ℕ → Extended → WholeExtended
 whole_extended s e =
     record {
       timescale = e.timescale;
-      default_pts_offset_of = e.default_pts_offset;
+      default_pts_offset = e.default_pts_offset;
       mpus = (to_end (mpu_seen_of s e) (length s) e.start).found;
     }
 
 -- 7.4.3.16: an entry of a service list
 pub record Listed : Type 0 where
-  pub service_id_of_lem : ℕ
-  pub service_type_of : ℕ
+  pub service_id : ℕ
+  pub service_type : ℕ
 
 abbrev pub service_told : ServiceStep → Stood Listed
 service_told no_service = at_end
-service_told (service i t next) = element (record { service_id_of_lem = i; service_type_of = t }) next
+service_told (service i t next) = element (record { service_id = i; service_type = t }) next
 
 abbrev pub service_seen : List ℕ → ℕ → Stood Listed
 service_seen s at = service_told (service_at s at)

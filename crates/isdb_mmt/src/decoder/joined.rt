@@ -3,7 +3,7 @@
 ghost use Rattle.std.specs.Prelude.{◌≡◌, ◌+◌, ◌-◌, ◌*◌, ◌≤◌, ◌++◌, length, slice_index};
 ghost use Rattle.isdb_tlv.specs.Bytes.{be};
 ghost use Rattle.isdb_mmt.specs.Memory.Layout.{most_message_area};
-ghost use Rattle.isdb_mmt.specs.Formats.Message.{prefix_width, aggregated_at, body_part, section_table, pa_tables, content_of_lem, table_at};
+ghost use Rattle.isdb_mmt.specs.Formats.Message.{prefix_width, aggregated_at, body_part, section_table, pa_tables, content_of, table_at};
 ghost use Rattle.isdb_mmt.specs.Pushes.Placed.{behind as behind_in};
 
 use crate::message::{Content, MessageStep, TableStep};
@@ -153,7 +153,7 @@ fn pa_tables(a: &[u8], b: &[u8]) -> Content
 // What a message holds.
 pub(crate) fn content_of(a: &[u8], b: &[u8]) -> Content
     requires { length (a.now ++ b.now) ≤ most_message_area }
-    ensures { result ≡ content_of_lem (a.now ++ b.now) }
+    ensures { result ≡ content_of (a.now ++ b.now) }
 {
     if size(a, b) < 2 {
         return Content::Malformed;

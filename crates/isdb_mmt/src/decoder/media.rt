@@ -4,7 +4,7 @@ ghost use Rattle.std.specs.Prelude.{◌≡◌, ◌+◌, ◌*◌, ◌<◌, ◌≤
 ghost use Rattle.isdb_tlv.specs.Fields.{written, puts};
 ghost use Rattle.isdb_mmt.specs.Memory.Lent.{over};
 ghost use Rattle.isdb_mmt.specs.Memory.Layout.{most_media_ids, media_places, media_size, object_place, state_size};
-ghost use Rattle.isdb_mmt.specs.Memory.Session.{number_fields, held_object_of_lem, object_fields, media_place_of, media_fields, media_at};
+ghost use Rattle.isdb_mmt.specs.Memory.Session.{number_fields, held_object_at, object_fields, media_place_of, media_fields, media_at};
 
 use crate::decoder::counts;
 use crate::decoder::counts::AssetStats;
@@ -42,7 +42,7 @@ pub(crate) struct Media {
 }
 
 fn object_of(p: &[u8]) -> Object
-    ensures { result ≡ held_object_of_lem p.now }
+    ensures { result ≡ held_object_at p.now }
 {
     let header = MfuHeader {
         movie_fragment_sequence_number: bytes::get_u32(p, OBJECT + 6),

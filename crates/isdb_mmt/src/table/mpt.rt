@@ -2,7 +2,7 @@
 // Translated from table.rs of isdb-rs (Apache-2.0, see NOTICE) and changed.
 ghost use Rattle.std.specs.Prelude.{◌≡◌, ◌+◌, ◌≤◌, length, drop};
 ghost use Rattle.isdb_mmt.specs.Formats.Location.{location_of};
-ghost use Rattle.isdb_mmt.specs.Formats.Mpt.{declared_length_of, locations_end, asset_fields, asset_at_of, assets_told, mpt_parsed, mpt_assets, mpt_table, mpt_of, service_id_of_lem, first_packet_id, locations_of, component_tag_of_lem};
+ghost use Rattle.isdb_mmt.specs.Formats.Mpt.{declared_length_of, locations_end, asset_fields, asset_at_of, assets_told, mpt_parsed, mpt_assets, mpt_table, mpt_of, service_id_of, first_packet_id, locations_of, component_tag_of};
 
 use crate::desc::{Descriptor, Found, tag};
 use crate::location::{Located, Location};
@@ -256,7 +256,7 @@ pub fn parse(b: &[u8]) -> MptParsed
 impl Mpt {
     // The low 16 bits of the package id, of the table t.
     pub fn service_id(self, t: &[u8]) -> MaybeU16
-        ensures { result ≡ service_id_of_lem t.now self.package_id }
+        ensures { result ≡ service_id_of t.now self.package_id }
     {
         let id = self.package_id;
         let length = id.length;
@@ -293,7 +293,7 @@ impl Asset {
 
 // The component tag that a descriptor loop tells, by its first stream identifier descriptor.
 pub fn component_tag(descriptors: &[u8]) -> MaybeU16
-    ensures { result ≡ component_tag_of_lem descriptors.now }
+    ensures { result ≡ component_tag_of descriptors.now }
 {
     match desc::first_of(descriptors, tag::STREAM_IDENTIFIER) {
         Found::None => MaybeU16::None,

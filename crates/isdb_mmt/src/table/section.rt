@@ -3,7 +3,7 @@
 // Translated from table.rs of isdb-rs (Apache-2.0, see NOTICE) and changed.
 ghost use Rattle.std.specs.Prelude.{◌≡◌};
 ghost use Rattle.isdb_mmt.specs.Formats.Desc.{broken as broken_loop_of};
-ghost use Rattle.isdb_mmt.specs.Formats.Section.{header_of_lem, long_section_of, entry_at, entries_told, entries_from};
+ghost use Rattle.isdb_mmt.specs.Formats.Section.{header_of, long_section_of, entry_at, entries_told, entries_from};
 
 use crate::desc;
 use crate::part::Part;
@@ -42,7 +42,7 @@ pub enum LongSection {
 
 // The header of a section whose body has n bytes.
 fn header_of(b: &[u8], n: usize) -> SectionHeader
-    ensures { result ≡ header_of_lem b.now n }
+    ensures { result ≡ header_of b.now n }
 {
     let flags = bytes::get_u8(b, 5);
     SectionHeader {

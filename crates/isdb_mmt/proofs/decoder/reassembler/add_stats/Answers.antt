@@ -4,7 +4,7 @@ use Rattle.std.proofs.Common.{refl}
 use Rattle.isdb_mmt.proofs.decoder.reassembler.add_stats.Goals as goal
 
 pub overflow_add-result-5 : goal.overflow_add-result-5
-overflow_add-result-5 c = let h = c.requires in sum_fits _ _ h.0.scrambled_mfus_of h.1.scrambled_mfus_of
+overflow_add-result-5 c = let h = c.requires in sum_fits _ _ h.0.scrambled_mfus h.1.scrambled_mfus
 
 pub overflow_add-result-6 : goal.overflow_add-result-6
 overflow_add-result-6 c = let h = c.requires in sum_fits _ _ h.0.dropped h.1.dropped
