@@ -1,227 +1,167 @@
 // What each reading finds.
-use crate::print::{bytes_field, field, flag_field, hex_byte, hex_field, hex_number, say};
-use isdb_tlv::ip::{Address, Datagram, Flow, IpError, IpResult, MaybeContext, MaybeFlow};
-use isdb_tlv::mmtp::{
-    Header, MaybeControl, Message, MessageCount, MessageStep, Packet, Parsed, TableIds,
-};
-use isdb_tlv::si::{MaybeSection, Section};
+use crate::print::{Hex, OrNone};
+use crate::walk::Walk;
+use crate::{tables, units};
+use isdb_tlv::ip::{Address, Datagram, Flow, IpError};
+use isdb_tlv::mmtp::{Header, Message, MessageStep, Packet};
+use isdb_tlv::si::Section;
 use isdb_tlv::tlv::PacketType;
+use isdb_tlv::{bytes, crc, ip, mmtp, si};
+use std::fmt::{Display, Formatter, Write};
+use std::{fmt, io};
 
-pub fn answer(rt: HostRuntime, word: &[u8], b: &[u8]) {
-    if word == b"crc".as_slice() {
-        return hex_field(rt, b"crc", isdb_tlv::crc::crc32(b) as u64, 8);
+pub fn answer(rt: &impl Print, word: &[u8], b: &[u8]) -> io::Result<()> {
+    match word {
+        b"crc" => print!(rt; " crc {:08x}", crc::crc32(b)),
+        b"tlv" => packet_type(rt, PacketType::from(bytes::get_u8(b, 0))),
+        b"ipv4" => datagram(rt, ip::ipv4(b), b),
+        b"ipv6" => datagram(rt, ip::ipv6(b), b),
+        b"compressed" => datagram(rt, ip::compressed(b), b),
+        b"wire" => wire(rt, ip::wire_check(b).letter()),
+        b"mmtp" => packet(rt, mmtp::parse(b), b),
+        b"messages" => messages(rt, b),
+        b"sections" => sections(rt, b),
+        b"units" => units::payload(rt, b),
+        b"control" => units::control(rt, b),
+        b"lost" => units::lost(rt, bytes::get_u32(b, 0), bytes::get_u32(b, 4)),
+        _ => table(rt, word, b),
     }
-    if word == b"tlv".as_slice() {
-        return packet_type(rt, PacketType::from_byte(isdb_tlv::bytes::get_u8(b, 0)));
-    }
-    if word == b"ipv4".as_slice() {
-        return datagram(rt, isdb_tlv::ip::ipv4(b), b);
-    }
-    if word == b"ipv6".as_slice() {
-        return datagram(rt, isdb_tlv::ip::ipv6(b), b);
-    }
-    if word == b"compressed".as_slice() {
-        return datagram(rt, isdb_tlv::ip::compressed(b), b);
-    }
-    if word == b"wire".as_slice() {
-        return wire(rt, isdb_tlv::ip::wire_check(b).letter());
-    }
-    more(rt, word, b)
 }
 
-fn more(rt: HostRuntime, word: &[u8], b: &[u8]) {
-    if word == b"mmtp".as_slice() {
-        return mmtp(rt, isdb_tlv::mmtp::parse(b), b);
+fn table(rt: &impl Print, word: &[u8], b: &[u8]) -> io::Result<()> {
+    match word {
+        b"location" => tables::located(rt, b),
+        b"descriptors" => tables::descriptor_loop(rt, b),
+        b"mpt" => tables::mpt_table(rt, b),
+        b"plt" => tables::plt_table(rt, b),
+        b"eit" => tables::eit_section(rt, b),
+        b"sdt" => tables::sdt_section(rt, b),
+        b"tot" => tables::tot_section(rt, b),
+        b"bit" => tables::bit_section(rt, b),
+        b"nit" => tables::nit_section(rt, b),
+        b"amt" => tables::amt_section(rt, b),
+        b"ntp" => tables::ntp_time(rt, bytes::get_u64(b, 0)),
+        _ => print!(rt; " no such reading"),
     }
-    if word == b"messages".as_slice() {
-        return messages(rt, b);
-    }
-    if word == b"sections".as_slice() {
-        return sections(rt, b);
-    }
-    crate::units::answer(rt, word, b)
 }
 
-fn packet_type(rt: HostRuntime, t: PacketType) {
+fn packet_type(rt: &impl Print, t: PacketType) -> io::Result<()> {
     match t {
-        PacketType::Ipv4 => say(rt, b" ipv4"),
-        PacketType::Ipv6 => say(rt, b" ipv6"),
-        PacketType::Compressed => say(rt, b" compressed"),
-        PacketType::Control => say(rt, b" control"),
-        PacketType::Null => say(rt, b" null"),
-        PacketType::Other(v) => field(rt, b"other", v as u64),
+        PacketType::Ipv4 => print!(rt; " ipv4"),
+        PacketType::Ipv6 => print!(rt; " ipv6"),
+        PacketType::Compressed => print!(rt; " compressed"),
+        PacketType::Control => print!(rt; " control"),
+        PacketType::Null => print!(rt; " null"),
+        PacketType::Other(v) => print!(rt; " other {v}"),
     }
 }
 
-fn wire(rt: HostRuntime, letter: u8) {
+fn wire(rt: &impl Print, letter: u8) -> io::Result<()> {
     if letter == 0 {
-        return say(rt, b" good");
+        return print!(rt; " good");
     }
-    say(rt, b" ");
-    say(rt, &[letter]);
+    print!(rt; " {}", letter as char)
 }
 
-fn datagram(rt: HostRuntime, r: IpResult, b: &[u8]) {
+fn datagram(rt: &impl Print, r: Result<Datagram, IpError>, b: &[u8]) -> io::Result<()> {
     match r {
-        IpResult::Ok(d) => found(rt, d, b),
-        IpResult::Err(e) => ip_error(rt, e),
+        Ok(d) => found(rt, d, b),
+        Err(IpError::Truncated) => print!(rt; " truncated"),
+        Err(IpError::NotUdp(p)) => print!(rt; " not_udp {p}"),
+        Err(IpError::HeaderType(t)) => print!(rt; " header_type {t}"),
+        Err(IpError::Version(v)) => print!(rt; " version {v}"),
     }
 }
 
-fn ip_error(rt: HostRuntime, e: IpError) {
-    match e {
-        IpError::Truncated => say(rt, b" truncated"),
-        IpError::NotUdp(p) => field(rt, b"not_udp", p as u64),
-        IpError::HeaderType(t) => field(rt, b"header_type", t as u64),
-        IpError::Version(v) => field(rt, b"version", v as u64),
+fn found(rt: &impl Print, d: Datagram, b: &[u8]) -> io::Result<()> {
+    print!(rt; " context {}", OrNone(d.context))?;
+    match d.flow {
+        None => print!(rt; " flow none")?,
+        Some(f) => ends(rt, f)?,
     }
+    print!(rt; " payload {}", Hex(d.payload(b)))
 }
 
-fn found(rt: HostRuntime, d: Datagram, b: &[u8]) {
-    let context = d.context;
-    let flow = d.flow;
-    context_of(rt, context);
-    flow_of(rt, flow);
-    bytes_field(rt, b"payload", d.payload(b));
+fn ends(rt: &impl Print, f: Flow) -> io::Result<()> {
+    let src = HexAddress(f.src);
+    let dst = HexAddress(f.dst);
+    print!(rt; " src {src} dst {dst} sport {} dport {}", f.sport, f.dport)
 }
 
-fn context_of(rt: HostRuntime, c: MaybeContext) {
-    match c {
-        MaybeContext::None => say(rt, b" context none"),
-        MaybeContext::Some(c) => field(rt, b"context", c as u64),
-    }
-}
+// An address in hexadecimal digits.
+#[derive(Clone, Copy)]
+pub struct HexAddress(pub Address);
 
-fn flow_of(rt: HostRuntime, f: MaybeFlow) {
-    match f {
-        MaybeFlow::None => say(rt, b" flow none"),
-        MaybeFlow::Some(f) => ends(rt, f),
-    }
-}
-
-fn ends(rt: HostRuntime, f: Flow) {
-    let src = f.src;
-    let dst = f.dst;
-    address(rt, b"src", src);
-    address(rt, b"dst", dst);
-    field(rt, b"sport", f.sport as u64);
-    field(rt, b"dport", f.dport as u64);
-}
-
-fn address(rt: HostRuntime, name: &[u8], a: Address) {
-    match a {
-        Address::V4(n) => hex_field(rt, name, n as u64, 8),
-        Address::V6(high, low) => {
-            hex_field(rt, name, high, 16);
-            hex_number(rt, low, 16);
+impl Display for HexAddress {
+    fn fmt<W: Write>(&self, f: &mut Formatter<W>) -> fmt::Result {
+        match self.0 {
+            Address::V4(n) => write!(f, "{n:08x}"),
+            Address::V6(high, low) => write!(f, "{high:016x}{low:016x}"),
         }
     }
 }
 
-fn mmtp(rt: HostRuntime, r: Parsed, b: &[u8]) {
-    match r {
-        Parsed::None => say(rt, b" none"),
-        Parsed::Some(p) => packet(rt, p, b),
+fn packet(rt: &impl Print, r: Option<Packet>, b: &[u8]) -> io::Result<()> {
+    let Some(p) = r else {
+        return print!(rt; " none");
+    };
+    header(rt, p.header)?;
+    print!(rt; " payload {}", Hex(p.payload(b)))
+}
+
+fn header(rt: &impl Print, h: Header) -> io::Result<()> {
+    print!(rt;
+        " fec {} rap {} type {}",
+        u8::from(h.fec_type),
+        h.rap as u8,
+        u8::from(h.payload_type)
+    )?;
+    print!(rt; " id {} sequence {}", h.packet_id, h.sequence)?;
+    print!(rt;
+        " scrambled {} control {}",
+        h.scramble_info as u8,
+        OrNone(h.scramble_control)
+    )
+}
+
+fn messages(rt: &impl Print, b: &[u8]) -> io::Result<()> {
+    let Some(n) = mmtp::messages(b) else {
+        return print!(rt; " refused");
+    };
+    print!(rt; " messages {n}")?;
+    let step = |at| match mmtp::next_message(b, at) {
+        MessageStep::Found(m, next) => Some((m, next)),
+        _ => None,
+    };
+    for m in Walk::new(2, n, step) {
+        message(rt, m)?;
     }
+    Ok(())
 }
 
-fn packet(rt: HostRuntime, p: Packet, b: &[u8]) {
-    let h = p.header;
-    header(rt, h);
-    bytes_field(rt, b"payload", p.payload(b));
-}
-
-fn header(rt: HostRuntime, h: Header) {
-    let fec_type = h.fec_type;
-    let payload_type = h.payload_type;
-    let control = h.scramble_control;
-    field(rt, b"fec", fec_type.code() as u64);
-    flag_field(rt, b"rap", h.rap);
-    field(rt, b"type", payload_type.code() as u64);
-    field(rt, b"id", h.packet_id as u64);
-    field(rt, b"sequence", h.sequence as u64);
-    flag_field(rt, b"scrambled", h.scramble_info);
-    scrambling(rt, control);
-}
-
-fn scrambling(rt: HostRuntime, c: MaybeControl) {
-    match c {
-        MaybeControl::None => say(rt, b" control none"),
-        MaybeControl::Some(c) => field(rt, b"control", c as u64),
+fn message(rt: &impl Print, m: Message) -> io::Result<()> {
+    print!(rt; " id {:04x} tables", m.id)?;
+    let tables = m.tables;
+    for id in (0..=255u8).filter(|id| tables.contains(*id)) {
+        print!(rt; " {id:02x}")?;
     }
-}
-
-fn messages(rt: HostRuntime, b: &[u8]) {
-    match isdb_tlv::mmtp::messages(b) {
-        MessageCount::Refused => say(rt, b" refused"),
-        MessageCount::Count(n) => {
-            field(rt, b"messages", n as u64);
-            each_message(rt, b, n);
-        }
-    }
-}
-
-fn each_message(rt: HostRuntime, b: &[u8], n: usize) {
-    let mut at: usize = 2;
-    let mut left = n;
-    while 0 < left {
-        match isdb_tlv::mmtp::next_message(b, at) {
-            MessageStep::Found(m, next) => {
-                one_message(rt, m);
-                at = next;
-            }
-            MessageStep::End => return,
-            MessageStep::Refused => return,
-        }
-        left -= 1;
-    }
-}
-
-fn one_message(rt: HostRuntime, m: Message) {
-    hex_field(rt, b"id", m.id as u64, 4);
-    say(rt, b" tables");
-    table_ids(rt, m.tables);
-}
-
-fn table_ids(rt: HostRuntime, t: TableIds) {
-    let mut id: u8 = 0;
-    let mut left: u16 = 256;
-    while 0 < left {
-        if t.contains(id) {
-            say(rt, b" ");
-            hex_byte(rt, id);
-        }
-        id = std::num::wrapping_add_u8(id, 1);
-        left -= 1;
-    }
-}
-
-fn sections(rt: HostRuntime, b: &[u8]) {
-    if let MaybeSection::None = isdb_tlv::si::next_section(b, 0) {
-        return say(rt, b" none");
-    }
-    each_section(rt, b)
+    Ok(())
 }
 
 // There are fewer sections than bytes.
-fn each_section(rt: HostRuntime, b: &[u8]) {
-    let mut at: usize = 0;
-    let mut left = b.len();
-    while 0 < left {
-        match isdb_tlv::si::next_section(b, at) {
-            MaybeSection::None => return,
-            MaybeSection::Some(s) => at = section(rt, s, b),
-        }
-        left -= 1;
+fn sections(rt: &impl Print, b: &[u8]) -> io::Result<()> {
+    if si::next_section(b, 0).is_none() {
+        return print!(rt; " none");
     }
+    let step = |at| si::next_section(b, at).map(|s| (s, s.offset.wrapping_add(s.size)));
+    for s in Walk::new(0, b.len(), step) {
+        section(rt, s, b)?;
+    }
+    Ok(())
 }
 
-// Writes a section and answers the place behind it.
-fn section(rt: HostRuntime, s: Section, b: &[u8]) -> usize {
-    field(rt, b"at", s.offset as u64);
-    hex_field(rt, b"table", s.table_id as u64, 2);
-    field(rt, b"extension", s.extension as u64);
-    field(rt, b"version", s.version as u64);
-    bytes_field(rt, b"bytes", s.bytes(b));
-    std::num::wrapping_add_usize(s.offset, s.size)
+fn section(rt: &impl Print, s: Section, b: &[u8]) -> io::Result<()> {
+    print!(rt; " at {} table {:02x}", s.offset, s.table_id)?;
+    print!(rt; " extension {} version {}", s.extension, s.version)?;
+    print!(rt; " bytes {}", Hex(s.bytes(b)))
 }

@@ -6,74 +6,48 @@ mod answer;
 mod descriptors;
 mod print;
 mod tables;
-mod text;
 mod units;
+mod walk;
 
 use isdb_text::digits;
-use isdb_text::digits::Decoded;
-
-// Answers the cases that standard input holds; input that fills the window may go on behind it.
-fn answer_input(rt: HostRuntime, window: &mut [u8; 524288]) {
-    let n = stdio::read_full(rt, window);
-    if n == 524288 {
-        return print::say(
-            rt,
-            b"# the input is too long: it must have fewer than 524288 bytes, and none of it is answered\n",
-        );
-    }
-    run(rt, &window[..n]);
-}
+use isdb_text::digits::DecodeError;
+use std::io;
 
 fn main(rt: HostRuntime) {
     let mut buf = [0u8; 524288];
-    answer_input(rt, &mut buf);
+    // An output that takes no more ends the answers.
+    let _ = answer_input(rt, &mut buf);
 }
 
-// Each line up to the last line end.
-fn run(rt: HostRuntime, input: &[u8]) {
-    let mut at: usize = 0;
-    while at < input.len() {
-        let end = text::find(input, at, b'\n');
-        case(rt, bytes_from(input, at, end));
-        at = end + 1;
+// Answers the cases that standard input holds; input that fills the window may go on behind it.
+fn answer_input(rt: HostRuntime, window: &mut [u8; 524288]) -> io::Result<()> {
+    let n = stdio::read_full(&mut rt.stdin(), window);
+    if n == 524288 {
+        print!(rt; "# the input is too long: it must have fewer than 524288 bytes,")?;
+        return println!(rt; " and none of it is answered");
     }
-}
-
-fn bytes_from(b: &[u8], at: usize, end: usize) -> &[u8] {
-    if at <= end {
-        isdb_tlv::bytes::part(b, at, end - at)
-    } else {
-        isdb_tlv::bytes::part(b, 0, 0)
+    for line in window[..n].split_inclusive(|x| *x == b'\n') {
+        case(&rt, line.strip_suffix(b"\n").unwrap_or(line))?;
     }
-}
-
-// Whether a line is written as it stands.
-fn is_text(line: &[u8]) -> bool {
-    if line.len() == 0 {
-        return true;
-    }
-    isdb_tlv::bytes::get_u8(line, 0) == b'#'
+    Ok(())
 }
 
 // One case: an empty line, and one that starts with '#', is written as it stands.
-fn case(rt: HostRuntime, line: &[u8]) {
-    print::say(rt, line);
-    if is_text(line) {
-        print::say(rt, b"\n");
-        return;
+fn case(rt: &impl Print, line: &[u8]) -> io::Result<()> {
+    rt.write_all(line)?;
+    if let None | Some(b'#') = line.first() {
+        return println!(rt);
     }
-    let space = text::find(line, 0, b' ');
+    let mut parts = line.splitn(2, |x| *x == b' ');
+    let word = parts.next().unwrap_or(line);
+    let text = parts.next().unwrap_or(&[]);
+    print!(rt; " ->")?;
     let mut data = [0u8; 65536];
-    let text = isdb_tlv::bytes::rest(isdb_tlv::bytes::rest(line, space), 1);
-    print::say(rt, b" ->");
     match digits::decode(&mut data, text) {
-        Decoded::Bytes(n) => {
-            let word = isdb_tlv::bytes::part(line, 0, space);
-            answer::answer(rt, word, isdb_tlv::bytes::part(&data, 0, n));
-        }
-        Decoded::Foreign(at) => print::field(rt, b"error: no hexadecimal digit, at", at as u64),
-        Decoded::Odd => print::say(rt, b" error: an odd number of digits"),
-        Decoded::TooLong => print::say(rt, b" error: more than 65536 bytes"),
+        Ok(n) => answer::answer(rt, word, isdb_tlv::bytes::part(&data, 0, n))?,
+        Err(DecodeError::Foreign(at)) => print!(rt; " error: no hexadecimal digit, at {at}")?,
+        Err(DecodeError::Odd) => print!(rt; " error: an odd number of digits")?,
+        Err(DecodeError::TooLong) => print!(rt; " error: more than 65536 bytes")?,
     }
-    print::say(rt, b"\n");
+    println!(rt)
 }

@@ -104,7 +104,7 @@ pub crc_check : crc_of (bytes_of 9 0x313233343536373839) ≡ 0x0376E6E7
 unfolding bytes_of feed feed_byte crc_of
 crc_check = refl
 
--- PacketType::from_byte
+-- PacketType::from
 -- wrong: Other 0x04 => Compressed (the last that is named)
 -- wrong: Other 0x04 => Null (a packet that says nothing)
 pub from_byte : packet_type 0x04 ≡ Other 0x04

@@ -1,41 +1,34 @@
 -- Locations, descriptors, timestamps.
-use Rattle.std.specs.Prelude.{◌≡◌, refl, true, false, [], ◌∷◌}
+use Rattle.std.specs.Prelude.{◌≡◌, refl, true, false, [], ◌∷◌, None, Some}
 use Rattle.std.specs.Float.{binary64}
 use Rattle.std.specs.Float.Ieee.{of_int, sub, div, to_bits}
 use Rattle.isdb_tlv.specs.Fields.{bytes_of}
 use Rattle.isdb_tlv.specs.Bytes.{be}
-use Rattle.isdb_mmt.specs.Decoder.Maps.{is_some}
 use Rattle.isdb_mmt.specs.Formats.Part.{part_at}
 use Rattle.isdb_mmt.specs.Formats.Location.{sized, url_of, location_of, packet_id_of}
 use Rattle.isdb_mmt.specs.Formats.Ntp.{ntp_to_unix_of}
 use Rattle.isdb_mmt.specs.Formats.Timestamp.{timestamp_at, mpu_at, mpus_from, mpus_whole, extended_of, unit_step}
 use Rattle.isdb_mmt.specs.Formats.Desc.{length_width_of, step_at, split_from, split_of, counted, stream_identifier, descriptor_of, is_other_of, first_of, service_at, genre_at}
-use Rattle.isdb_mmt.specs.declared.maybe.MaybeU16.TheVariants.{None as no_u16, Some as some_u16}
-use Rattle.isdb_mmt.specs.declared.maybe.MaybeU32.TheVariants.{None as no_u32}
 use Rattle.isdb_mmt.specs.declared.location.Location.TheVariants.{Mpeg2Ts, Url}
-use Rattle.isdb_mmt.specs.declared.location.Located.TheVariants.{Some as located}
 use Rattle.isdb_mmt.specs.declared.timestamp.TimestampStep.TheVariants.{Timestamp}
 use Rattle.isdb_mmt.specs.declared.timestamp.Extended.{Extended}
-use Rattle.isdb_mmt.specs.declared.timestamp.MaybeExtended.TheVariants.{None as not_extended}
 use Rattle.isdb_mmt.specs.declared.timestamp.MpuStep.TheVariants.{Mpu}
-use Rattle.isdb_mmt.specs.declared.timestamp.AccessUnitStep.TheVariants.{Unit as unit}
 use Rattle.isdb_mmt.specs.declared.desc.Step.TheVariants.{Raw}
 use Rattle.isdb_mmt.specs.declared.desc.Descriptor.TheVariants.{StreamIdentifier, ServiceList, Other}
-use Rattle.isdb_mmt.specs.declared.desc.Found.TheVariants.{Some as found}
 use Rattle.isdb_mmt.specs.declared.desc.ServiceStep.TheVariants.{Service as service}
 use Rattle.isdb_mmt.specs.declared.desc.GenreStep.TheVariants.{End as no_genre}
 
 -- Location::parse: a URL's place counts from the location's first byte
 -- wrong: part_at 2 3 => part_at 0 3 (from the URL's own)
 -- wrong: 5 => 6 (with the byte behind it)
-pub location_parse : location_of (bytes_of 6 0x0503616263EE) ≡ located (Url (part_at 2 3)) 5
+pub location_parse : location_of (bytes_of 6 0x0503616263EE) ≡ Some (Url (part_at 2 3), 5)
 unfolding bytes_of sized url_of location_of
 location_parse = refl
 
 -- Location::packet_id: an MPEG-2 TS packet has none
--- wrong: no_u16 => some_u16 0x1FFF (its PID)
--- wrong: no_u16 => some_u16 4 (its network id)
-pub location_packet_id : packet_id_of (Mpeg2Ts 4 5 0x1FFF) ≡ no_u16
+-- wrong: None => Some 0x1FFF (its PID)
+-- wrong: None => Some 4 (its network id)
+pub location_packet_id : packet_id_of (Mpeg2Ts 4 5 0x1FFF) ≡ None
 location_packet_id = refl
 
 -- desc::length_width: a tag of 7000h
@@ -56,7 +49,7 @@ desc_next = refl
 -- wrong: count = 1 => count = 2 (the broken one too)
 -- wrong: broken = true => broken = false (a break taken for the end)
 pub decode_all : counted (split_of (bytes_of 8 0x8011020010801109)) ≡ record { count = 1; broken = true }
-unfolding bytes_of be length_width_of step_at split_from split_of counted is_some
+unfolding bytes_of be length_width_of step_at split_from split_of counted
 decode_all = refl
 
 -- Descriptor::decode: a body too short for its structure
@@ -77,9 +70,9 @@ pub is_other_body : is_other_of (Other 0x8011 (part_at 0 1)) ≡ true
 is_other_body = refl
 
 -- desc::first_of: the first that could be decoded
--- wrong: found (StreamIdentifier 16) (part_at 7 2) => not_found (the first of the tag could not)
+-- wrong: Some (StreamIdentifier 16, part_at 7 2) => None (the first of the tag could not)
 -- wrong: part_at 7 2 => part_at 3 2 (the first's place)
-pub first_of_lem : first_of 0x8011 (bytes_of 9 0x801101008011020010) 0 ≡ found (StreamIdentifier 16) (part_at 7 2)
+pub first_of_lem : first_of 0x8011 (bytes_of 9 0x801101008011020010) 0 ≡ Some (StreamIdentifier 16, part_at 7 2)
 unfolding bytes_of be length_width_of step_at split_from stream_identifier descriptor_of first_of
 first_of_lem = refl
 
@@ -112,20 +105,20 @@ unfolding bytes_of be mpu_at
 next_mpu = refl
 
 -- timestamp::parse_extended: a default PTS offset, and an MPU that is not there in full
--- wrong: not_extended => extended (record { timescale = no_u32; default_pts_offset = some_u16 16; own_pts_offset = false; start = 3 }) (its head alone)
--- wrong: not_extended => extended (record { timescale = some_u32 0; default_pts_offset = no_u16; own_pts_offset = false; start = 1 }) (the flags misread)
-pub parse_extended : extended_of (bytes_of 12 0x020010000000074000640100) ≡ not_extended
-unfolding bytes_of be mpu_at mpus_from mpus_whole extended_of is_some
+-- wrong: None => Some (record { timescale = None; default_pts_offset = Some 16; own_pts_offset = false; start = 3 }) (its head alone)
+-- wrong: None => Some (record { timescale = Some 0; default_pts_offset = None; own_pts_offset = false; start = 1 }) (the flags misread)
+pub parse_extended : extended_of (bytes_of 12 0x020010000000074000640100) ≡ None
+unfolding bytes_of be mpu_at mpus_from mpus_whole extended_of
 parse_extended = refl
 
 -- a default PTS offset of 16
 abbrev by_default : Extended
-by_default = record { timescale = no_u32; default_pts_offset = some_u16 16; own_pts_offset = false; start = 3 }
+by_default = record { timescale = None; default_pts_offset = Some 16; own_pts_offset = false; start = 3 }
 
 -- timestamp::next_access_unit: the default PTS offset where none is its own
--- wrong: some_u16 16 => no_u16 (no default)
--- wrong: }) 4 => }) 6 (as if it had one of its own)
-pub next_access_unit : unit_step (bytes_of 4 0x00010002) by_default 2 ≡ unit (record { dts_pts_offset = 2; pts_offset = some_u16 16 }) 4
+-- wrong: Some 16 => None (no default)
+-- wrong: }, 4) => }, 6) (as if it had one of its own)
+pub next_access_unit : unit_step (bytes_of 4 0x00010002) by_default 2 ≡ Some (record { dts_pts_offset = 2; pts_offset = Some 16 }, 4)
 unfolding bytes_of be unit_step
 next_access_unit = refl
 

@@ -1,6 +1,5 @@
 -- Feeds: what pushing them leaves and gives, by the model.
-use Rattle.std.specs.Prelude.{ℕ, ◌≡◌, refl, false, List, [], ◌∷◌, ◌++◌, map, length}
-use Rattle.std.proofs.Math.Option.{none, some}
+use Rattle.std.specs.Prelude.{ℕ, ◌≡◌, refl, false, List, [], ◌∷◌, ◌++◌, map, length, None, Some}
 use Rattle.isdb_tlv.specs.Fields.{bytes_of}
 use Rattle.isdb_mmt.specs.Decoder.Objects.{Mfu, continued, grown, effect_of}
 use Rattle.isdb_mmt.specs.Decoder.Model.{opened}
@@ -10,30 +9,30 @@ use Rattle.isdb_mmt.specs.Examples.ControlCases.{fragment, mpt_message, message_
 use Rattle.isdb_mmt.specs.declared.mpu.FragmentationIndicator.TheVariants.{Middle, Last}
 
 -- behind 4,294,967,295 comes 0: a head there and its last at 0 are one object
--- wrong: clearly 2 0 0 ((ab ++ cd) ∷ []) 0 none => clearly 2 1048576 0 [] 1 none (no wrap)
+-- wrong: clearly 2 0 0 ((ab ++ cd) ∷ []) 0 None => clearly 2 1048576 0 [] 1 None (no wrap)
 -- wrong: ((ab ++ cd) ∷ []) => (cd ∷ []) (the last unit alone)
-pub wrap : told (left (head_of 4294967295 ab ∷ last_of 0 cd ∷ [])) ≡ clearly 2 0 0 ((ab ++ cd) ∷ []) 0 none
+pub wrap : told (left (head_of 4294967295 ab ∷ last_of 0 cd ∷ [])) ≡ clearly 2 0 0 ((ab ++ cd) ∷ []) 0 None
 unfolding told
 wrap = refl
 
 -- the same number again is a gap
--- wrong: clearly 2 1048576 0 [] 1 none => clearly 2 0 0 ((ab ++ cd) ∷ []) 0 none (no gap)
--- wrong: 1 none => 0 (some ab) (what is held stays)
-pub repeated : told (left (head_of 5 ab ∷ last_of 5 cd ∷ [])) ≡ clearly 2 1048576 0 [] 1 none
+-- wrong: clearly 2 1048576 0 [] 1 None => clearly 2 0 0 ((ab ++ cd) ∷ []) 0 None (no gap)
+-- wrong: 1 None => 0 (Some ab) (what is held stays)
+pub repeated : told (left (head_of 5 ab ∷ last_of 5 cd ∷ [])) ≡ clearly 2 1048576 0 [] 1 None
 unfolding told
 repeated = refl
 
 -- a head drops a held object, and the drop is counted
--- wrong: 1 (some cd) => 0 (some cd) (not counted)
--- wrong: (some cd) => (some (ab ++ cd)) (the second taken for more of the first)
-pub head_drops : told (left (head_of 5 ab ∷ head_of 6 cd ∷ [])) ≡ clearly 2 0 0 [] 1 (some cd)
+-- wrong: 1 (Some cd) => 0 (Some cd) (not counted)
+-- wrong: (Some cd) => (Some (ab ++ cd)) (the second taken for more of the first)
+pub head_drops : told (left (head_of 5 ab ∷ head_of 6 cd ∷ [])) ≡ clearly 2 0 0 [] 1 (Some cd)
 unfolding told
 head_drops = refl
 
 -- an unreadable payload leaves what is held
--- wrong: ((ab ++ cd) ∷ []) 0 none => [] 1 none (dropped)
+-- wrong: ((ab ++ cd) ∷ []) 0 None => [] 1 None (dropped)
 -- wrong: clearly 3 0 1 => clearly 3 0 0 (not counted)
-pub unreadable_passes : told (left (head_of 5 ab ∷ unreadable 6 ∷ last_of 7 cd ∷ [])) ≡ clearly 3 0 1 ((ab ++ cd) ∷ []) 0 none
+pub unreadable_passes : told (left (head_of 5 ab ∷ unreadable 6 ∷ last_of 7 cd ∷ [])) ≡ clearly 3 0 1 ((ab ++ cd) ∷ []) 0 None
 unfolding told
 unreadable_passes = refl
 
@@ -46,13 +45,13 @@ scrambled_passed = refl
 
 -- an object of 16,777,216 bytes is held
 -- wrong: .drops ≡ 0 => .drops ≡ 1 (one byte fewer)
-pub object_most : (h u : Mfu) → length h.bytes ≡ 16777210 → length u.bytes ≡ 6 → (effect_of Middle (some h) u).drops ≡ 0
+pub object_most : (h u : Mfu) → length h.bytes ≡ 16777210 → length u.bytes ≡ 6 → (effect_of Middle (Some h) u).drops ≡ 0
 unfolding effect_of continued grown
 object_most h u p q = rw (p, q) refl
 
 -- an object of 16,777,217 bytes is dropped
 -- wrong: .drops ≡ 1 => .drops ≡ 0 (one byte more)
-pub object_above : (h u : Mfu) → length h.bytes ≡ 16777210 → length u.bytes ≡ 7 → (effect_of Last (some h) u).drops ≡ 1
+pub object_above : (h u : Mfu) → length h.bytes ≡ 16777210 → length u.bytes ≡ 7 → (effect_of Last (Some h) u).drops ≡ 1
 unfolding effect_of continued grown
 object_above h u p q = rw (p, q) refl
 

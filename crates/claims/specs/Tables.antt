@@ -1,10 +1,9 @@
 -- Sections and tables.
-use Rattle.std.specs.Prelude.{ℕ, ◌≡◌, refl, true, false, List, [], ◌∷◌, drop}
+use Rattle.std.specs.Prelude.{ℕ, ◌≡◌, refl, true, false, List, [], ◌∷◌, drop, Err, None, Ok, Some}
 use Rattle.isdb_tlv.specs.Fields.{bytes_of}
 use Rattle.isdb_tlv.specs.Bytes.{be}
 use Rattle.isdb_tlv.specs.Crc.{feed, feed_byte, crc_of}
 use Rattle.isdb_tlv.specs.declared.ip.Address.TheVariants.{V4}
-use Rattle.isdb_mmt.specs.Decoder.Maps.{is_some}
 use Rattle.isdb_mmt.specs.Formats.Part.{part_at}
 use Rattle.isdb_mmt.specs.Formats.Location.{sized, location_of}
 use Rattle.isdb_mmt.specs.Formats.Desc.{length_width_of, step_at, split_from, split_of, broken, stream_identifier, service_text, short_event_of, descriptor_of, first_of}
@@ -17,35 +16,16 @@ use Rattle.isdb_mmt.specs.Formats.Amt.{service_at, services_whole, amt_body, amt
 use Rattle.isdb_mmt.specs.Formats.Tot.{tot_fields, tot_of}
 use Rattle.isdb_mmt.specs.Formats.Mpt.{declared_length_of, asset_fields, asset_at_of, mpt_assets, mpt_table, mpt_of, service_id_of, first_packet_id, locations_of, component_tag_of}
 use Rattle.isdb_mmt.specs.Formats.Plt.{package_at_of, delivery_size, delivery_at_of, deliveries_whole, plt_deliveries, plt_table, plt_of}
-use Rattle.isdb_mmt.specs.declared.maybe.MaybeU16.TheVariants.{Some as some_u16}
-use Rattle.isdb_mmt.specs.declared.maybe.MaybeU64.TheVariants.{Some as some_u64}
 use Rattle.isdb_mmt.specs.declared.location.Location.TheVariants.{SameFlow}
-use Rattle.isdb_mmt.specs.declared.location.Located.TheVariants.{Some as located}
 use Rattle.isdb_mmt.specs.declared.desc.Descriptor.TheVariants.{Service, ShortEvent}
-use Rattle.isdb_mmt.specs.declared.desc.Found.TheVariants.{Some as found}
 use Rattle.isdb_mmt.specs.declared.table.section.SectionHeader.{SectionHeader}
 use Rattle.isdb_mmt.specs.declared.table.section.SectionError.TheVariants.{Truncated, Malformed}
-use Rattle.isdb_mmt.specs.declared.table.section.LongSection.TheVariants.{Ok, Err}
 use Rattle.isdb_mmt.specs.declared.table.section.EntryStep.TheVariants.{Entry as entry}
-use Rattle.isdb_mmt.specs.declared.table.eit.EitResult.TheVariants.{Ok as eit_ok, Err as no_eit}
 use Rattle.isdb_mmt.specs.declared.table.eit.EventStep.TheVariants.{Event as event}
-use Rattle.isdb_mmt.specs.declared.table.sdt.SdtResult.TheVariants.{Ok as sdt_ok, Err as no_sdt}
 use Rattle.isdb_mmt.specs.declared.table.sdt.SdtStep.TheVariants.{Service as service}
-use Rattle.isdb_mmt.specs.declared.table.bit.BitResult.TheVariants.{Ok as bit_ok, Err as no_bit}
 use Rattle.isdb_mmt.specs.declared.table.bit.BroadcasterStep.TheVariants.{Broadcaster as broadcaster}
-use Rattle.isdb_mmt.specs.declared.table.nit.NitResult.TheVariants.{Ok as nit_ok, Err as no_nit}
 use Rattle.isdb_mmt.specs.declared.table.nit.StreamStep.TheVariants.{Stream as stream}
 use Rattle.isdb_mmt.specs.declared.table.nit.TlvStep.TheVariants.{End as no_descriptor}
-use Rattle.isdb_mmt.specs.declared.table.nit.MaybePart.TheVariants.{None as no_part, Some as some_part}
-use Rattle.isdb_mmt.specs.declared.table.amt.AmtResult.TheVariants.{Ok as amt_ok, Err as no_amt}
-use Rattle.isdb_mmt.specs.declared.table.amt.AmtStep.TheVariants.{Service as flow}
-use Rattle.isdb_mmt.specs.declared.table.tot.TotResult.TheVariants.{Ok as tot_ok}
-use Rattle.isdb_mmt.specs.declared.maybe.MaybeUsize.TheVariants.{Some as At}
-use Rattle.isdb_mmt.specs.declared.table.mpt.AssetStep.TheVariants.{Asset as asset}
-use Rattle.isdb_mmt.specs.declared.table.mpt.MaybeMpt.TheVariants.{None as no_mpt}
-use Rattle.isdb_mmt.specs.declared.table.plt.PackageStep.TheVariants.{Package as package'}
-use Rattle.isdb_mmt.specs.declared.table.plt.DeliveryStep.TheVariants.{Malformed as broken_delivery}
-use Rattle.isdb_mmt.specs.declared.table.plt.MaybePlt.TheVariants.{Some as some_plt}
 
 -- table id, extension, version, section 0 of 0, a body of so many bytes
 abbrev header : ℕ → ℕ → ℕ → ℕ → SectionHeader
@@ -77,20 +57,20 @@ next_entry = refl
 -- wrong: 1 => 0 (a break taken for the end)
 -- wrong: 1 => 3 (the bytes left over)
 pub broken_loop : broken (bytes_of 3 0x801109) ≡ 1
-unfolding bytes_of be length_width_of step_at split_from split_of is_some
+unfolding bytes_of be length_width_of step_at split_from split_of
 broken_loop = refl
 
 -- section::read_entries: two entries, the second with a broken loop, and a byte left over
 -- wrong: count = 2 => count = 3 (the byte too)
 -- wrong: breaks = 1; whole = false => breaks = 0; whole = false (no breaks of what fails)
 pub read_entries : entries_told (entries_from (bytes_of 10 0x01F00002F00380110903) 1 0) ≡ record { count = 2; breaks = 1; whole = false }
-unfolding bytes_of be length_width_of step_at split_from split_of entry_at entries_from entries_told is_some
+unfolding bytes_of be length_width_of step_at split_from split_of entry_at entries_from entries_told
 read_entries = refl
 
 -- eit::read: five bytes
--- wrong: no_eit Malformed => no_eit Truncated (the section too short)
--- wrong: no_eit Malformed => eit_ok (header 0x8B 101 7 5) (record { tlv_stream_id = 11; original_network_id = 4; segment_last_section_number = 0; last_table_id = 0; events = 0 }) (the missing byte read as 0)
-pub eit_read : eit_body (header 0x8B 101 7 5) (bytes_of 5 0x000B000400) ≡ record { result = no_eit Malformed; breaks = 0 }
+-- wrong: Err Malformed => Err Truncated (the section too short)
+-- wrong: Err Malformed => Ok (header 0x8B 101 7 5, record { tlv_stream_id = 11; original_network_id = 4; segment_last_section_number = 0; last_table_id = 0; events = 0 }) (the missing byte read as 0)
+pub eit_read : eit_body (header 0x8B 101 7 5) (bytes_of 5 0x000B000400) ≡ record { result = Err Malformed; breaks = 0 }
 unfolding bytes_of be eit_body
 eit_read = refl
 
@@ -103,10 +83,10 @@ eit_section = bytes_of 48 0x8BF02D0065CF0000000B0004004E0001E3B91234560130009003
 -- wrong: breaks = 2 => breaks = 1 (once for a table)
 pub eit_parse : eit_of eit_section
     ≡ record {
-      result = eit_ok (header 0x8B 101 7 36) (record { tlv_stream_id = 11; original_network_id = 4; segment_last_section_number = 0; last_table_id = 78; events = 2 });
+      result = Ok (header 0x8B 101 7 36, record { tlv_stream_id = 11; original_network_id = 4; segment_last_section_number = 0; last_table_id = 78; events = 2 });
       breaks = 2;
     }
-unfolding bytes_of be feed feed_byte crc_of length_width_of step_at split_from split_of long_section_of entry_at entries_from eit_body eit_of is_some
+unfolding bytes_of be feed feed_byte crc_of length_width_of step_at split_from split_of long_section_of entry_at entries_from eit_body eit_of
 eit_parse = refl
 
 -- eit::next_event
@@ -118,25 +98,25 @@ unfolding bytes_of be entry_at event_step
 next_event = refl
 
 -- eit::short_event: the first that could be decoded
--- wrong: (part_at 11 15) => (part_at 4 3) (the first)
+-- wrong: part_at 11 15) => part_at 4 3) (the first)
 -- wrong: first = 0x6A; second = 0x70; third = 0x6E => first = 0x6E; second = 0x70; third = 0x6A (backwards)
 pub short_event : first_of 0xF001 (bytes_of 26 0xF00100036A706EF001000F6A706E05546F64617900046E657773) 0
-    ≡ found (ShortEvent (record { first = 0x6A; second = 0x70; third = 0x6E }) (part_at 4 5) (part_at 11 4)) (part_at 11 15)
+    ≡ Some (ShortEvent (record { first = 0x6A; second = 0x70; third = 0x6E }) (part_at 4 5) (part_at 11 4), part_at 11 15)
 unfolding bytes_of be length_width_of step_at split_from short_event_of descriptor_of first_of
 short_event = refl
 
 -- sdt::read: one byte
--- wrong: no_sdt Malformed => no_sdt Crc (a bad section)
--- wrong: no_sdt Malformed => sdt_ok (header 0x9F 11 2 1) (record { original_network_id = 0; services = 0 }) (the missing byte read as 0)
-pub sdt_read : sdt_body (header 0x9F 11 2 1) (0x00 ∷ []) ≡ record { result = no_sdt Malformed; breaks = 0 }
+-- wrong: Err Malformed => Err Crc (a bad section)
+-- wrong: Err Malformed => Ok (header 0x9F 11 2 1, record { original_network_id = 0; services = 0 }) (the missing byte read as 0)
+pub sdt_read : sdt_body (header 0x9F 11 2 1) (0x00 ∷ []) ≡ record { result = Err Malformed; breaks = 0 }
 unfolding sdt_body
 sdt_read = refl
 
 -- sdt::parse: the reserved byte may be missing where no service follows
--- wrong: sdt_ok (header 0x9F 11 2 2) (record { original_network_id = 4; services = 0 }) => no_sdt Malformed (it must be there)
+-- wrong: Ok (header 0x9F 11 2 2, record { original_network_id = 4; services = 0 }) => Err Malformed (it must be there)
 -- wrong: services = 0 => services = 1 (the missing byte taken for a service)
 pub sdt_parse : sdt_of (bytes_of 14 0x9FF00B000BC5000000046D0AFAEC)
-    ≡ record { result = sdt_ok (header 0x9F 11 2 2) (record { original_network_id = 4; services = 0 }); breaks = 0 }
+    ≡ record { result = Ok (header 0x9F 11 2 2, record { original_network_id = 4; services = 0 }); breaks = 0 }
 unfolding bytes_of be feed feed_byte crc_of long_section_of entry_at entries_from sdt_body sdt_of
 sdt_parse = refl
 
@@ -149,16 +129,16 @@ unfolding bytes_of be entry_at service_step
 sdt_service = refl
 
 -- sdt::service_descriptor: the first that could be decoded
--- wrong: (part_at 7 10) => (part_at 3 1) (the first)
+-- wrong: part_at 7 10) => part_at 3 1) (the first)
 -- wrong: (part_at 2 3) (part_at 6 4) => (part_at 6 4) (part_at 2 3) (name and provider exchanged)
-pub service_descriptor : first_of 0x8019 (bytes_of 17 0x8019010180190A01034E484B044253344B) 0 ≡ found (Service 1 (part_at 2 3) (part_at 6 4)) (part_at 7 10)
+pub service_descriptor : first_of 0x8019 (bytes_of 17 0x8019010180190A01034E484B044253344B) 0 ≡ Some (Service 1 (part_at 2 3) (part_at 6 4), part_at 7 10)
 unfolding bytes_of be length_width_of step_at split_from service_text descriptor_of first_of
 service_descriptor = refl
 
 -- bit::read: a first loop longer than the body
--- wrong: no_bit Malformed; breaks = 0 => no_bit Malformed; breaks = 1 (the loop counts as broken)
--- wrong: no_bit Malformed => no_bit Truncated (the section too short)
-pub bit_read : bit_body (header 0x9D 4 1 2) (bytes_of 2 0xF001) ≡ record { result = no_bit Malformed; breaks = 0 }
+-- wrong: Err Malformed; breaks = 0 => Err Malformed; breaks = 1 (the loop counts as broken)
+-- wrong: Err Malformed => Err Truncated (the section too short)
+pub bit_read : bit_body (header 0x9D 4 1 2) (bytes_of 2 0xF001) ≡ record { result = Err Malformed; breaks = 0 }
 unfolding bytes_of be bit_body
 bit_read = refl
 
@@ -167,10 +147,10 @@ bit_read = refl
 -- wrong: broadcast_view_propriety = true => broadcast_view_propriety = false (the bit before it)
 pub bit_parse : bit_of (bytes_of 23 0x9DF0140004C30000F00380110901F00380110988268BE4)
     ≡ record {
-      result = bit_ok (header 0x9D 4 1 11) (record { broadcast_view_propriety = true; descriptors = part_at 2 3; broadcasters = 1 });
+      result = Ok (header 0x9D 4 1 11, record { broadcast_view_propriety = true; descriptors = part_at 2 3; broadcasters = 1 });
       breaks = 2;
     }
-unfolding bytes_of be feed feed_byte crc_of length_width_of step_at split_from split_of long_section_of entry_at entries_from bit_body bit_of is_some
+unfolding bytes_of be feed feed_byte crc_of length_width_of step_at split_from split_of long_section_of entry_at entries_from bit_body bit_of
 bit_parse = refl
 
 -- bit::next_broadcaster
@@ -181,17 +161,17 @@ unfolding bytes_of be entry_at broadcaster_step
 next_broadcaster = refl
 
 -- nit::read: a loop of streams that does not end with a stream
--- wrong: no_nit Malformed => nit_ok (header 0x40 4 3 5) (record { descriptors = part_at 2 0; loop_part = part_at 4 1; streams = 0 }) (the rest passed over)
--- wrong: no_nit Malformed => no_nit Truncated (the section too short)
-pub nit_read : nit_body (header 0x40 4 3 5) (bytes_of 5 0xF000F00100) ≡ no_nit Malformed
+-- wrong: Err Malformed => Ok (header 0x40 4 3 5, record { descriptors = part_at 2 0; loop_part = part_at 4 1; streams = 0 }) (the rest passed over)
+-- wrong: Err Malformed => Err Truncated (the section too short)
+pub nit_read : nit_body (header 0x40 4 3 5) (bytes_of 5 0xF000F00100) ≡ Err Malformed
 unfolding bytes_of be entry_at entries_from nit_body
 nit_read = refl
 
 -- nit::parse: bytes behind the loop of streams
--- wrong: nit_ok (header 0x41 4 3 6) (record { descriptors = part_at 2 0; loop_part = part_at 4 0; streams = 0 }) => no_nit Malformed (the loop must end with the body)
+-- wrong: Ok (header 0x41 4 3 6, record { descriptors = part_at 2 0; loop_part = part_at 4 0; streams = 0 }) => Err Malformed (the loop must end with the body)
 -- wrong: loop_part = part_at 4 0 => loop_part = part_at 4 2 (to the body's end)
 pub nit_parse : nit_of (bytes_of 18 0x41F00F0004C70000F000F0007A7A40613946)
-    ≡ nit_ok (header 0x41 4 3 6) (record { descriptors = part_at 2 0; loop_part = part_at 4 0; streams = 0 })
+    ≡ Ok (header 0x41 4 3 6, record { descriptors = part_at 2 0; loop_part = part_at 4 0; streams = 0 })
 unfolding bytes_of be feed feed_byte crc_of long_section_of entry_at entries_from nit_body nit_of
 nit_parse = refl
 
@@ -211,23 +191,23 @@ unfolding bytes_of tlv_step_at
 next_tlv = refl
 
 -- nit::satellite_frequency_khz: eight digits in units of 10 kHz
--- wrong: some_u64 11727480 => some_u64 1172748 (not in kHz)
--- wrong: some_u64 11727480 => some_u64 0x01172748 (the digits taken for a number)
-pub frequency : frequency_of 0x43 (bytes_of 5 0x01172748AA) ≡ some_u64 11727480
+-- wrong: Some 11727480 => Some 1172748 (not in kHz)
+-- wrong: Some 11727480 => Some 0x01172748 (the digits taken for a number)
+pub frequency : frequency_of 0x43 (bytes_of 5 0x01172748AA) ≡ Some 11727480
 unfolding bytes_of frequency_of
 frequency = refl
 
 -- nit::network_name: another tag
--- wrong: no_part => some_part (part_at 0 2) (any tag)
--- wrong: no_part => some_part (part_at 0 0) (an empty name)
-pub network_name : network_name_of 0x41 (bytes_of 2 0x4253) ≡ no_part
+-- wrong: None => Some (part_at 0 2) (any tag)
+-- wrong: None => Some (part_at 0 0) (an empty name)
+pub network_name : network_name_of 0x41 (bytes_of 2 0x4253) ≡ None
 unfolding whole_body
 network_name = refl
 
 -- nit::service_list
--- wrong: some_part (part_at 0 6) => no_part (another tag)
+-- wrong: Some (part_at 0 6) => None (another tag)
 -- wrong: part_at 0 6 => part_at 0 2 (how many services)
-pub service_list : service_list_of 0x41 (bytes_of 6 0x006501006602) ≡ some_part (part_at 0 6)
+pub service_list : service_list_of 0x41 (bytes_of 6 0x006501006602) ≡ Some (part_at 0 6)
 unfolding bytes_of whole_body
 service_list = refl
 
@@ -235,42 +215,42 @@ service_list = refl
 -- wrong: 15 => 14 (the masks' end)
 -- wrong: src_mask = 32 => src_mask = 0xEF (one byte further)
 pub amt_service : service_at (bytes_of 15 0x00657C0BC0A8000120EFFF0102187A) 0
-    ≡ flow (record { service_id = 101; src = V4 0xC0A80001; src_mask = 32; dst = V4 0xEFFF0102; dst_mask = 24 }) 15
+    ≡ Some (record { service_id = 101; src = V4 0xC0A80001; src_mask = 32; dst = V4 0xEFFF0102; dst_mask = 24 }, 15)
 unfolding bytes_of be service_at
 amt_service = refl
 
 -- amt::read: two services said, one there
--- wrong: no_amt Malformed => amt_ok (header 0xFE 0 1 16) (record { services = 1 }) (as many as are there)
--- wrong: no_amt Malformed => amt_ok (header 0xFE 0 1 16) (record { services = 2 }) (as many as are said)
-pub amt_read : amt_body (header 0xFE 0 1 16) (bytes_of 16 0x008000657C0AC0A8000120EFFF010218) ≡ no_amt Malformed
-unfolding bytes_of be service_at services_whole amt_body is_some
+-- wrong: Err Malformed => Ok (header 0xFE 0 1 16, record { services = 1 }) (as many as are there)
+-- wrong: Err Malformed => Ok (header 0xFE 0 1 16, record { services = 2 }) (as many as are said)
+pub amt_read : amt_body (header 0xFE 0 1 16) (bytes_of 16 0x008000657C0AC0A8000120EFFF010218) ≡ Err Malformed
+unfolding bytes_of be service_at services_whole amt_body
 amt_read = refl
 
 -- amt::parse: the number of services is the high ten bits
 -- wrong: services = 0 => services = 63 (all sixteen)
--- wrong: amt_ok (header 0xFE 0 1 2) (record { services = 0 }) => no_amt Malformed (no service)
-pub amt_parse : amt_of (bytes_of 14 0xFEF00B0000C30000003FB63BB41B) ≡ amt_ok (header 0xFE 0 1 2) (record { services = 0 })
-unfolding bytes_of be feed feed_byte crc_of long_section_of services_whole amt_body amt_of is_some
+-- wrong: Ok (header 0xFE 0 1 2, record { services = 0 }) => Err Malformed (no service)
+pub amt_parse : amt_of (bytes_of 14 0xFEF00B0000C30000003FB63BB41B) ≡ Ok (header 0xFE 0 1 2, record { services = 0 })
+unfolding bytes_of be feed feed_byte crc_of long_section_of services_whole amt_body amt_of
 amt_parse = refl
 
 -- tot::parse: the descriptors may run into the CRC
--- wrong: tot_ok (record { jst = 0xE3B9123456; descriptors = part_at 10 4 }); breaks = 1 => no_tot Malformed; breaks = 0 (they may not)
+-- wrong: Ok (record { jst = 0xE3B9123456; descriptors = part_at 10 4 }); breaks = 1 => Err Malformed; breaks = 0 (they may not)
 -- wrong: breaks = 1 => breaks = 0 (a break in the CRC's bytes not counted)
-pub tot_parse : tot_of (bytes_of 14 0xA1700BE3B9123456F004A4B4A880) ≡ record { result = tot_ok (record { jst = 0xE3B9123456; descriptors = part_at 10 4 }); breaks = 1 }
-unfolding bytes_of be feed feed_byte crc_of length_width_of step_at split_from split_of tot_fields tot_of is_some
+pub tot_parse : tot_of (bytes_of 14 0xA1700BE3B9123456F004A4B4A880) ≡ record { result = Ok (record { jst = 0xE3B9123456; descriptors = part_at 10 4 }); breaks = 1 }
+unfolding bytes_of be feed feed_byte crc_of length_width_of step_at split_from split_of tot_fields tot_of
 tot_parse = refl
 
 -- mpt::declared_length
--- wrong: At 9 => At 5 (without the header)
--- wrong: At 9 => At 11 (all that is there)
-pub declared_length : declared_length_of (bytes_of 11 0x20010005FC000000007A7A) ≡ At 9
+-- wrong: Some 9 => Some 5 (without the header)
+-- wrong: Some 9 => Some 11 (all that is there)
+pub declared_length : declared_length_of (bytes_of 11 0x20010005FC000000007A7A) ≡ Some 9
 unfolding bytes_of be declared_length_of
 declared_length = refl
 
 -- mpt::location_at
--- wrong: located (SameFlow 0xF101) 3 => not_located (from the table's first byte)
--- wrong: (SameFlow 0xF101) 3 => (SameFlow 0xF101) 5 (the place behind it)
-pub location_at : location_of (drop 2 (bytes_of 5 0x7A7A00F101)) ≡ located (SameFlow 0xF101) 3
+-- wrong: Some (SameFlow 0xF101, 3) => None (from the table's first byte)
+-- wrong: 0xF101, 3) => 0xF101, 5) (the place behind it)
+pub location_at : location_of (drop 2 (bytes_of 5 0x7A7A00F101)) ≡ Some (SameFlow 0xF101, 3)
 unfolding bytes_of be sized location_of
 location_at = refl
 
@@ -278,35 +258,35 @@ location_at = refl
 -- wrong: asset_id = part_at 15 1 => asset_id = part_at 14 1 (with its length)
 -- wrong: locations_start = 22 => locations_start = 21 (with their number)
 pub asset_at : asset_at_of (bytes_of 24 0x20030014FE000000010000000000017873747070FE000000) 9
-    ≡ asset (record { identifier_type = 0; asset_id_scheme = 0; asset_id = part_at 15 1; asset_type = 0x73747070; clock_relation = false; locations = 0; locations_start = 22; descriptors = part_at 24 0 }) 24
+    ≡ Some (record { identifier_type = 0; asset_id_scheme = 0; asset_id = part_at 15 1; asset_type = 0x73747070; clock_relation = false; locations = 0; locations_start = 22; descriptors = part_at 24 0 }, 24)
 unfolding bytes_of be asset_fields asset_at_of
 asset_at = refl
 
 -- mpt::parse: a broken loop counts also where the table then fails
 -- wrong: breaks = 1 => breaks = 0 (it does not)
--- wrong: mpt = no_mpt; breaks = 1 => mpt = some_mpt (record { table_id = 0x20; version = 3; mode = 1; package_id = part_at 6 2; descriptors = part_at 10 1; assets = 0; start = 12 }); breaks = 1 (the missing number of assets read as 0)
-pub mpt_parse : mpt_of (bytes_of 11 0x20030007FD020065000100) ≡ record { mpt = no_mpt; breaks = 1 }
-unfolding bytes_of be length_width_of step_at split_from split_of declared_length_of mpt_assets mpt_table mpt_of is_some
+-- wrong: mpt = None; breaks = 1 => mpt = Some (record { table_id = 0x20; version = 3; mode = 1; package_id = part_at 6 2; descriptors = part_at 10 1; assets = 0; start = 12 }); breaks = 1 (the missing number of assets read as 0)
+pub mpt_parse : mpt_of (bytes_of 11 0x20030007FD020065000100) ≡ record { mpt = None; breaks = 1 }
+unfolding bytes_of be length_width_of step_at split_from split_of declared_length_of mpt_assets mpt_table mpt_of
 mpt_parse = refl
 
 -- Mpt::service_id: the last two bytes of the package id
--- wrong: some_u16 0x0065 => some_u16 0x7A00 (the first two)
--- wrong: some_u16 0x0065 => some_u16 0x6500 (backwards)
-pub service_id_of_lem : service_id_of (bytes_of 4 0x7A7A0065) (part_at 1 3) ≡ some_u16 0x0065
+-- wrong: Some 0x0065 => Some 0x7A00 (the first two)
+-- wrong: Some 0x0065 => Some 0x6500 (backwards)
+pub service_id_of_lem : service_id_of (bytes_of 4 0x7A7A0065) (part_at 1 3) ≡ Some 0x0065
 unfolding bytes_of be service_id_of
 service_id_of_lem = refl
 
 -- Asset::packet_id: of the first location that has one
--- wrong: some_u16 0xF101 => no_u16 (of the first location)
--- wrong: some_u16 0xF101 => some_u16 0x1FFF (a PID)
-pub asset_packet_id : first_packet_id (locations_of 2 (bytes_of 10 0x03000400051FFF00F101) 0) ≡ some_u16 0xF101
+-- wrong: Some 0xF101 => None (of the first location)
+-- wrong: Some 0xF101 => Some 0x1FFF (a PID)
+pub asset_packet_id : first_packet_id (locations_of 2 (bytes_of 10 0x03000400051FFF00F101) 0) ≡ Some 0xF101
 unfolding bytes_of be sized location_of
 asset_packet_id = refl
 
 -- mpt::component_tag: of the first descriptor that could be decoded
--- wrong: some_u16 16 => no_u16 (the first of the tag could not)
--- wrong: some_u16 16 => some_u16 0 (the missing byte read as 0)
-pub component_tag_of_lem : component_tag_of (bytes_of 9 0x801101008011020010) ≡ some_u16 16
+-- wrong: Some 16 => None (the first of the tag could not)
+-- wrong: Some 16 => Some 0 (the missing byte read as 0)
+pub component_tag_of_lem : component_tag_of (bytes_of 9 0x801101008011020010) ≡ Some 16
 unfolding bytes_of be length_width_of step_at split_from stream_identifier descriptor_of first_of component_tag_of
 component_tag_of_lem = refl
 
@@ -314,21 +294,21 @@ component_tag_of_lem = refl
 -- wrong: location_start = 8 => location_start = 5 (with the id)
 -- wrong: 11 => 8 (the location's start)
 pub package_at : package_at_of (bytes_of 11 0x7A7A7A7A7A02006500F101) 5
-    ≡ package' (record { package_id = part_at 6 2; location = SameFlow 0xF101; location_start = 8 }) 11
+    ≡ Some (record { package_id = part_at 6 2; location = SameFlow 0xF101; location_start = 8 }, 11)
 unfolding bytes_of be sized location_of package_at_of
 package_at = refl
 
 -- plt::delivery_at: a location type that is none
--- wrong: broken_delivery => delivery (record { transport_file_id = 1; location_type = 3 }) 7 (no location)
--- wrong: broken_delivery => delivery (record { transport_file_id = 1; location_type = 3 }) 17 (as IPv4)
-pub delivery_at : delivery_at_of (bytes_of 17 0x0000000103000000000000000000000000) 0 ≡ broken_delivery
+-- wrong: None => Some (record { transport_file_id = 1; location_type = 3 }, 7) (no location)
+-- wrong: None => Some (record { transport_file_id = 1; location_type = 3 }, 17) (as IPv4)
+pub delivery_at : delivery_at_of (bytes_of 17 0x0000000103000000000000000000000000) 0 ≡ None
 unfolding bytes_of be delivery_size delivery_at_of
 delivery_at = refl
 
 -- plt::parse: the last delivery's descriptors may overrun the table
--- wrong: some_plt (record { version = 4; packages = 0; ip_deliveries = 1; deliveries_start = 6 }) => no_plt (they may not)
+-- wrong: Some (record { version = 4; packages = 0; ip_deliveries = 1; deliveries_start = 6 }) => None (they may not)
 -- wrong: ip_deliveries = 1 => ip_deliveries = 0 (the last one left out)
 pub plt_parse : plt_of (bytes_of 23 0x80040013000100000009010000000000000000000001F4)
-    ≡ some_plt (record { version = 4; packages = 0; ip_deliveries = 1; deliveries_start = 6 })
-unfolding bytes_of be declared_length_of delivery_size delivery_at_of deliveries_whole plt_deliveries plt_table plt_of is_some
+    ≡ Some (record { version = 4; packages = 0; ip_deliveries = 1; deliveries_start = 6 })
+unfolding bytes_of be declared_length_of delivery_size delivery_at_of deliveries_whole plt_deliveries plt_table plt_of
 plt_parse = refl

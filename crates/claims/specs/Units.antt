@@ -1,47 +1,43 @@
 -- Units of an MPU payload, messages of a control payload, tables of a message; flags, and what may be absent.
-use Rattle.std.specs.Prelude.{ℕ, ◌≡◌, refl, true, false, ◌++◌, get_or, replicate}
+use Rattle.std.specs.Prelude.{ℕ, ◌≡◌, refl, true, false, ◌++◌, get_or, replicate, None, Some, is_some, unwrap_or}
 use Rattle.isdb_tlv.specs.Fields.{bytes_of, written}
 use Rattle.isdb_tlv.specs.Bytes.{be}
 use Rattle.isdb_mmt.specs.Formats.Part.{part_at}
-use Rattle.isdb_mmt.specs.Formats.Maybe.{flag_of, given_u16, number_u16, has_u32, given_u32, number_u32}
-use Rattle.isdb_mmt.specs.Formats.Mpu.{fragment_code_of, fragment_type_of, indicator_code_of, indicator, completes_of, payload_header, declared_of, has_header, header_or, unit_in, unit_at, unit_step, units_from, units_of, counted, follows, lost_from}
+use Rattle.isdb_mmt.specs.Formats.Maybe.{flag_of, given}
+use Rattle.isdb_mmt.specs.Formats.Mpu.{fragment_code_of, fragment_type_of, indicator_code_of, indicator, completes_of, payload_header, declared_of, header_or, unit_in, unit_at, unit_step, units_from, units_of, counted, follows, lost_from}
 use Rattle.isdb_mmt.specs.Formats.Message.{division_of, fragment_of, aggregated_at, pa_tables, content_of, table_at}
 use Rattle.isdb_mmt.specs.Pushes.Records.{held_fields}
-use Rattle.isdb_mmt.specs.declared.maybe.MaybeU16.TheVariants.{Some as some_u16}
-use Rattle.isdb_mmt.specs.declared.maybe.MaybeU32.TheVariants.{Some as some_u32}
 use Rattle.isdb_mmt.specs.declared.mpu.FragmentType.TheVariants.{Mfu, Reserved}
 use Rattle.isdb_mmt.specs.declared.mpu.FragmentationIndicator.TheVariants.{Complete, Head, Middle, Last}
 use Rattle.isdb_mmt.specs.declared.mpu.PayloadHeader.{PayloadHeader}
-use Rattle.isdb_mmt.specs.declared.mpu.MaybeHeader.TheVariants.{Some}
-use Rattle.isdb_mmt.specs.declared.mpu.MaybeMfu.TheVariants.{None as no_mfu, Some as some_mfu}
+use Rattle.isdb_mmt.specs.declared.mpu.MfuHeader.{MfuHeader}
 use Rattle.isdb_mmt.specs.declared.mpu.UnitStep.TheVariants.{Unit as unit}
-use Rattle.isdb_mmt.specs.declared.mpu.UnitCount.TheVariants.{Malformed as not_whole}
 use Rattle.isdb_mmt.specs.declared.message.Division.TheVariants.{Last as last}
 use Rattle.isdb_mmt.specs.declared.message.MessageStep.TheVariants.{End as no_more, Message}
 use Rattle.isdb_mmt.specs.declared.message.Content.TheVariants.{Tables}
 use Rattle.isdb_mmt.specs.declared.message.TableStep.TheVariants.{Malformed as bad_table}
 
--- FragmentType::from_code: the low four bits
+-- FragmentType::from: the low four bits
 -- wrong: Mfu => Reserved 0x12 (all eight)
 -- wrong: Mfu => MovieFragmentMetadata (one before)
 pub fragment_from_code : fragment_type_of 0x12 ≡ Mfu
 unfolding fragment_type_of
 fragment_from_code = refl
 
--- FragmentType::code
+-- u8::from of a FragmentType
 -- wrong: 15 => 3 (the first that is reserved)
 -- wrong: 15 => 7 (halved)
 pub fragment_code : fragment_code_of (Reserved 15) ≡ 15
 fragment_code = refl
 
--- FragmentationIndicator::from_code: the low two bits
+-- FragmentationIndicator::from: the low two bits
 -- wrong: Last => Complete (a code above 3)
 -- wrong: Last => Middle (one before)
 pub indicator_from_code : indicator 7 ≡ Last
 unfolding indicator
 indicator_from_code = refl
 
--- FragmentationIndicator::code
+-- u8::from of a FragmentationIndicator
 -- wrong: 2 => 1 (the head's)
 -- wrong: 2 => 3 (the last's)
 pub indicator_code : indicator_code_of Middle ≡ 2
@@ -57,7 +53,7 @@ completes_last = refl
 pub completes_head : completes_of Head ≡ false
 completes_head = refl
 
--- maybe::flag
+-- u64::from of a flag
 -- wrong: 1 => 0 (no)
 -- wrong: 1 => 255 (every bit)
 pub flag_yes : flag_of true ≡ 1
@@ -70,44 +66,44 @@ pub number_behind : get_or (bytes_of 2 0x0709) 2 0 ≡ 0
 unfolding bytes_of
 number_behind = refl
 
--- MaybeU16::given
+-- maybe::given: an id of 16 bits
 -- wrong: 1 => 0 (0 taken for absent)
-pub u16_given : given_u16 (some_u16 0) ≡ 1
+pub u16_given : given {A = ℕ} (Some 0) ≡ 1
 u16_given = refl
 
--- MaybeU16::or_zero
+-- a number of 16 bits, 0 where there is none
 -- wrong: 7 => 1 (whether it is there)
 -- wrong: 7 => 0 (none)
-pub u16_number : number_u16 (some_u16 7) ≡ 7
+pub u16_number : unwrap_or {T = ℕ} (Some 7) 0 ≡ 7
 u16_number = refl
 
--- MaybeU32::is_some
+-- whether there is a number
 -- wrong: true => false (0 taken for absent)
-pub u32_is_some : has_u32 (some_u32 0) ≡ true
+pub u32_is_some : is_some {T = ℕ} (Some 0) ≡ true
 u32_is_some = refl
 
--- MaybeU32::given
+-- maybe::given: an id of 32 bits
 -- wrong: 1 => 0 (0 taken for absent)
-pub u32_given : given_u32 (some_u32 0) ≡ 1
+pub u32_given : given {A = ℕ} (Some 0) ≡ 1
 u32_given = refl
 
--- MaybeU32::or_zero
+-- a number of 32 bits, 0 where there is none
 -- wrong: 7 => 1 (whether it is there)
 -- wrong: 7 => 0 (none)
-pub u32_number : number_u32 (some_u32 7) ≡ 7
+pub u32_number : unwrap_or {T = ℕ} (Some 7) 0 ≡ 7
 u32_number = refl
 
--- MaybeMfu::is_some
+-- whether there is a header
 -- wrong: false => true (a header of zeros)
-pub header_absent : has_header no_mfu ≡ false
+pub header_absent : is_some {T = MfuHeader} None ≡ false
 header_absent = refl
 
--- MaybeMfu::or_zero
+-- a header, that of zeros where there is none
 -- wrong: 8 => 9 (the next field's)
 -- wrong: 8 => 0 (none)
 pub header_there :
     (header_or
-    (some_mfu (record { movie_fragment_sequence_number = 5; sample_number = 6; offset = 7; priority = 8; dependency_counter = 9 }))
+    (Some (record { movie_fragment_sequence_number = 5; sample_number = 6; offset = 7; priority = 8; dependency_counter = 9 }))
     ).priority
     ≡ 8
 header_there = refl
@@ -118,7 +114,7 @@ header_there = refl
 pub held_row :
     written
     (held_fields 0x0102
-    (record { mpu_sequence_number = 3; rap = true; mfu = no_mfu; item_id = some_u32 5; bytes = part_at 64 2 }))
+    (record { mpu_sequence_number = 3; rap = true; mfu = None; item_id = Some 5; bytes = part_at 64 2 }))
     ≡ bytes_of 8 0x0102090000000003 ++ (replicate 16 0 ++ (bytes_of 8 0x0000000500000000 ++ bytes_of 4 2))
 unfolding bytes_of
 held_row = refl
@@ -146,14 +142,14 @@ declared = refl
 -- wrong: part_at 14 1 => part_at 10 5 (the item id taken for data)
 -- wrong: 15 => 13 (the length without its own two bytes)
 pub next_unit : unit_step (bytes_of 15 0x000D21000000000700050000000AAA) false true 8
-    ≡ unit (record { mfu = no_mfu; item_id = some_u32 10; «data» = part_at 14 1 }) 15
+    ≡ unit (record { mfu = None; item_id = Some 10; «data» = part_at 14 1 }) 15
 unfolding bytes_of be unit_in unit_at unit_step
 next_unit = refl
 
 -- mpu::count_units: a timed unit of 13 bytes
--- wrong: not_whole => Count 0 (passed over)
--- wrong: not_whole => Count 1 (its header cut)
-pub count_units : counted (units_of (bytes_of 8 0x0013280000000007 ++ replicate 13 0x00) true false) ≡ not_whole
+-- wrong: None => Some 0 (passed over)
+-- wrong: None => Some 1 (its header cut)
+pub count_units : counted (units_of (bytes_of 8 0x0013280000000007 ++ replicate 13 0x00) true false) ≡ None
 unfolding bytes_of be unit_in unit_at unit_step units_from units_of counted
 count_units = refl
 
@@ -176,7 +172,7 @@ pub lost : lost_from 5 5 ≡ 1048576
 unfolding lost_from
 lost = refl
 
--- message::fragment_of
+-- Fragment::from
 -- wrong: last => middle (one before)
 -- wrong: long_length = true => long_length = false (bit 2)
 pub fragment_of_lem : fragment_of 0xC2 ≡ record { division = last; long_length = true; aggregated = false }

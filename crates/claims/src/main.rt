@@ -9,8 +9,8 @@ use isdb_mmt::decoder;
 use isdb_mmt::decoder::limits::Limits;
 use isdb_mmt::part::Part;
 use isdb_tlv::bytes;
-use isdb_tlv::ip::{Datagram, MaybeContext, MaybeFlow};
-use isdb_tlv::mmtp::{FecType, Header, MaybeControl, Packet, PayloadType};
+use isdb_tlv::ip::Datagram;
+use isdb_tlv::mmtp::{FecType, Header, Packet, PayloadType};
 use isdb_tlv::si::Section;
 
 // bytes::rest
@@ -51,8 +51,8 @@ fn datagram_payload(b: &[u8]) -> &[u8]
     ensures { result.now ≡ drop 28 b.now }
 {
     let d = Datagram {
-        context: MaybeContext::None,
-        flow: MaybeFlow::None,
+        context: None,
+        flow: None,
         start: 28,
     };
     d.payload(b)
@@ -71,7 +71,7 @@ fn packet_payload(b: &[u8]) -> &[u8]
         packet_id: 0xF100,
         sequence: 5,
         scramble_info: false,
-        scramble_control: MaybeControl::None,
+        scramble_control: None,
     };
     let p = Packet { header, start: 16 };
     p.payload(b)

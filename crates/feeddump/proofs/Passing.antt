@@ -1,5 +1,5 @@
 -- A window's packets, call by call, up to where its recording stops. Assumes nothing.
-use Rattle.std.proofs.Common.{◌≡◌, ℕ, ◌+◌, ◌-◌, ◌<◌, ◌≤◌, true, false, leb, length, drop, sym, refl, ap, ◌∙◌, arith, length-drop, w64, Fits, le-leb, leb-false, leb-true}
+use Rattle.std.proofs.Common.{◌≡◌, ℕ, ◌+◌, ◌-◌, ◌<◌, ◌≤◌, leb, length, drop, sym, refl, ap, ◌∙◌, arith, length-drop, w64, Fits, le-leb, leb-false, leb-true}
 use borrow.Author.Tests.{lt-leb}
 use Rattle.isdb_tlv.specs.Cut.{cut_at, recording_from, recording_of}
 use Rattle.isdb_tlv.specs.declared.cut.Cut.{Cut}
@@ -16,7 +16,7 @@ use Rattle.isdb_mmt.specs.declared.decoder.many.Pushes.{Pushes}
 use Rattle.isdb_text.specs.DumpPackets.{told_of, progress_at}
 use Rattle.isdb_text.proofs.PacketWalk.{walk_inside, walk_end, told_ahead}
 use Rattle.feeddump.specs.declared.Passed.{Passed}
-use Rattle.feeddump.specs.Pass.{most_bytes, StopsAt}
+use Rattle.feeddump.specs.Pass.{is_bad, most_bytes, StopsAt}
 
 -- what is known before each call: the place is inside, and the packets in front of it are whole
 pub record Passing (w : Bytes) (at : ℕ) : Type 0 where
@@ -66,18 +66,26 @@ module _ (w : Bytes) (at : ℕ) (h : Passing w at) (k : Cut) (ek : k ≡ cut_at 
   within : (k ≡ end_here → ⊥) → at < length w
   within m = either (leb (length w) at) (λ t. absurd (m (ek ∙ over_end w most_bytes at (leb-true _ _ t)))) (λ t. leb-false _ _ t)
 
-  module _ (n p : ℕ) (r : Passed) where
-    pub stops_end : k ≡ end_here → r ≡ record { at = at; packets = n; text = p; bad = false } → StopsAt w r
-    stops_end d e =
+  module _ (n p : ℕ) (r : Passed) (e : r ≡ record { at = at; packets = n; text = p; bad = is_bad k }) where
+    stops_end : k ≡ end_here → StopsAt w r
+    stops_end d =
         let l : length w ≤ at = end_here_lem w most_bytes at k ek d in
-        rw e (record { end = rw (le-leb (length w) at l) (h.end ∙ end_clean w most_bytes at l); bad = rw (← ek, d) refl })
+        rw e (record { end = rw (le-leb (length w) at l) (h.end ∙ end_clean w most_bytes at l); bad = rw ek refl })
 
-    pub stops_short : k ≡ short_here → r ≡ record { at = at; packets = n; text = p; bad = false } → StopsAt w r
-    stops_short d e =
+    stops_short : k ≡ short_here → StopsAt w r
+    stops_short d =
         let l : at < length w = within (λ z. differ (cc)) in
-        rw e (record { end = rw (lt-leb (length w) at l) (h.end ∙ end_short w most_bytes at k ek d); bad = rw (← ek, d) refl })
+        rw e (record { end = rw (lt-leb (length w) at l) (h.end ∙ end_short w most_bytes at k ek d); bad = rw ek refl })
 
-    pub stops_bad : k ≡ bad_here → r ≡ record { at = at; packets = n; text = p; bad = true } → StopsAt w r
-    stops_bad d e =
+    stops_bad : k ≡ bad_here → StopsAt w r
+    stops_bad d =
         let l : at < length w = within (λ z. differ (cc)) in
-        rw e (record { end = rw (lt-leb (length w) at l) (h.end ∙ end_bad w most_bytes at k ek d); bad = rw (← ek, d) refl })
+        rw e (record { end = rw (lt-leb (length w) at l) (h.end ∙ end_bad w most_bytes at k ek d); bad = rw ek refl })
+
+    pub stops : ((kind start m next : ℕ) → k ≡ Packet kind start m next → ⊥) → StopsAt w r
+    stops f = go k refl where
+      go : (j : Cut) → k ≡ j → StopsAt w r
+      go (Packet kind start m next) d = absurd (f kind start m next d)
+      go end_here d = stops_end d
+      go short_here d = stops_short d
+      go bad_here d = stops_bad d

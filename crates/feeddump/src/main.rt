@@ -5,10 +5,11 @@ mod tables;
 
 ghost use Rattle.std.specs.Prelude.{◌≡◌};
 ghost use Rattle.isdb_text.specs.DumpPackets.{told_of, progress_at};
-ghost use Rattle.feeddump.specs.Pass.{most_bytes, StopsAt};
+ghost use Rattle.feeddump.specs.Pass.{is_bad, most_bytes, StopsAt};
 
 use isdb_mmt::decoder::limits::Limits;
 use isdb_mmt::decoder::many::{Progress, Pushes};
+use isdb_mmt::decoder::session::Session;
 use isdb_mmt::{decoder, part};
 use isdb_text::{dump_packets, dump_session, window};
 use isdb_tlv::cut::Cut;
@@ -51,7 +52,7 @@ fn limits() -> Limits {
 
 // Writes out the text in front of a place; the next stands at 0 again.
 fn write_text(rt: HostRuntime, text: &[u8; 65536], at: usize) -> usize {
-    stdio::write_text(rt, text, at);
+    stdio::write_text(&mut rt.stdout(), text, at);
     0
 }
 
@@ -79,11 +80,9 @@ fn packet_lines(
 ) -> usize {
     let mut p = make_room(rt, text, at);
     p = dump_packets::packet_line(text, p, first, input, MOST, lines, a, x);
-    let mut i = x.records;
-    while i < y.records {
+    for i in x.records..y.records {
         p = make_room(rt, text, p);
         p = dump_packets::record_line(text, p, rows, data, x, i);
-        i += 1;
     }
     p
 }
@@ -102,15 +101,12 @@ fn call_lines(
 ) -> Told
     ensures { result.behind ≡ progress_at input.now most_bytes lines.now a (told_of a) }
 {
-    let n = dump_packets::told(a);
     let mut p = at;
     let mut x = dump_packets::start();
-    let mut k: usize = 0;
-    while k < n {
+    for _ in 0..dump_packets::told(a) {
         let y = dump_packets::behind(input, MOST, lines, a, x);
         p = packet_lines(rt, text, p, first, input, rows, data, lines, a, x, y);
         x = y;
-        k += 1;
     }
     Told { text: p, behind: x }
 }
@@ -137,39 +133,29 @@ fn pass(
     let mut at: usize = 0;
     let mut n = packets;
     let mut p = place;
-    loop {
-        match cut::cut_at(window, MOST, at) {
-            Cut::Packet {
-                kind,
-                start,
-                length,
-                next,
-            } => {
-                let rest = bytes::rest(window, at);
-                let a = decoder::push_all(
-                    state, others, objects, messages, tables, rest, MOST, rows, data, lines,
-                );
-                let t = call_lines(rt, text, p, n, rest, rows, data, lines, a);
-                let x = t.behind;
-                p = t.text;
-                n = std::num::wrapping_add_u64(n, x.packets as u64);
-                at = at + x.at;
-            }
-            Cut::Bad => return stopped(at, n, p, true),
-            Cut::Short => return stopped(at, n, p, false),
-            Cut::End => return stopped(at, n, p, false),
-        }
+    while let Cut::Packet { .. } = cut::cut_at(window, MOST, at) {
+        let rest = bytes::rest(window, at);
+        let a = decoder::push_all(
+            state, others, objects, messages, tables, rest, MOST, rows, data, lines,
+        );
+        let t = call_lines(rt, text, p, n, rest, rows, data, lines, a);
+        let x = t.behind;
+        p = t.text;
+        n = n.wrapping_add(x.packets as u64);
+        at += x.at;
     }
+    stopped(at, n, p, cut::cut_at(window, MOST, at))
 }
 
-fn stopped(at: usize, packets: u64, text: usize, bad: bool) -> Passed
-    ensures { result ≡ record { at = at; packets = packets; text = text; bad = bad } }
+// Where no packet stands.
+fn stopped(at: usize, packets: u64, text: usize, cut: Cut) -> Passed
+    ensures { result ≡ record { at = at; packets = packets; text = text; bad = is_bad cut } }
 {
     Passed {
         at,
         packets,
         text,
-        bad,
+        bad: matches!(cut, Cut::Bad),
     }
 }
 
@@ -207,9 +193,8 @@ fn read_all(
     let mut n: usize = 0;
     let mut packets: u64 = 0;
     let mut p: usize = 0;
-    let mut turns = u64::MAX;
-    while turns > 0 {
-        let m = stdio::read_behind(rt, window, n);
+    for _ in 0..u64::MAX {
+        let m = stdio::read_behind(&mut rt.stdin(), window, n);
         if m <= n {
             return end_line(rt, text, p, n, base, packets);
         }
@@ -219,31 +204,21 @@ fn read_all(
         );
         packets = x.packets;
         p = x.text;
-        base = std::num::wrapping_add_u64(base, x.at as u64);
+        base = base.wrapping_add(x.at as u64);
         if x.bad {
             return end_line(rt, text, p, 1, base, packets);
         }
         n = window::to_front(window, x.at, m);
-        turns -= 1;
     }
     p
 }
 
 // Everything that is kept.
-fn report(
-    rt: HostRuntime,
-    state: &[u8; 13144],
-    others: &[u64; 256],
-    objects: &[u8; 2097152],
-    messages: &[u8; 1048576],
-    tables: &[u8; 1196032],
-    text: &mut [u8; 65536],
-    at: usize,
-) {
+fn report(rt: HostRuntime, session: Session<'_>, text: &mut [u8; 65536], at: usize) {
     let p = write_text(rt, text, at);
-    let q = dump_session::session_lines(state, others, objects, messages, tables, text, p);
+    let q = dump_session::session_lines(session, text, p);
     write_text(rt, text, q);
-    tables::write_tables(rt, state, others, objects, messages, tables);
+    tables::write_tables(rt, session);
 }
 
 fn open_session(
@@ -281,7 +256,12 @@ fn main(rt: HostRuntime) {
         &mut text,
         &mut window,
     );
-    report(
-        rt, &state, &others, &objects, &messages, &tables, &mut text, at,
-    );
+    let session = Session {
+        state: &state,
+        others: &others,
+        objects: &objects,
+        messages: &messages,
+        tables: &tables,
+    };
+    report(rt, session, &mut text, at);
 }

@@ -1,5 +1,5 @@
 -- A window's packets, call by call, up to where its recording stops. Assumes nothing.
-use Rattle.std.proofs.Common.{◌≡◌, ℕ, zero, suc, ◌+◌, ◌-◌, ◌*◌, ◌<◌, ◌≤◌, Bool, true, false, not, T, eqb, leb, List, [], ◌∷◌, length, take, drop, sym, refl, ap, ◌∙◌, subst, arith, length-drop, length-take-le, w64, Fits, eq-eqb, ne_eqb, le-leb, leb-false, leb-true}
+use Rattle.std.proofs.Common.{◌≡◌, ℕ, zero, suc, ◌+◌, ◌-◌, ◌*◌, ◌<◌, ◌≤◌, Bool, false, T, leb, List, [], ◌∷◌, length, take, drop, sym, refl, ap, ◌∙◌, subst, arith, length-drop, length-take-le, w64, Fits, le-leb, leb-false, leb-true}
 use borrow.Author.Tests.{lt-leb}
 use Rattle.isdb_tlv.specs.Guards.{◌<?◌, ◌=?◌}
 use Rattle.isdb_tlv.specs.Walk.{turn}
@@ -25,14 +25,6 @@ goes_on : (n packets : ℕ) → ends_reading n packets ≡ false → 0 < packets
 unfolding ends_reading
 goes_on n zero e = absurd (subst T e tt)
 goes_on n (suc packets) e = omega arith
-
-pub ends_none : (n packets : ℕ) → packets ≡ 0 → true ≡ ends_reading n packets
-unfolding ends_reading
-ends_none n packets e = rw (eq-eqb packets 0 e)
-
-pub ends_some : (n packets : ℕ) → (packets ≡ 0 → ⊥) → (r : Bool) → r ≡ not (eqb n 10) → r ≡ ends_reading n packets
-unfolding ends_reading
-ends_some n packets h r e = rw (ne_eqb packets 0 h) e
 
 above_none : (n : ℕ) → (n ≡ 0 → ⊥) → 0 < n
 above_none zero h = absurd (h refl)

@@ -6,6 +6,7 @@ ghost use Rattle.feedlist.specs.Pass.{ends_reading, StopsAt};
 
 use isdb_mmt::decoder::limits::Limits;
 use isdb_mmt::decoder::many::Halt;
+use isdb_mmt::decoder::session::Session;
 use isdb_mmt::{decoder, part};
 use isdb_text::{listing, window};
 use isdb_tlv::bytes;
@@ -36,13 +37,11 @@ fn limits() -> Limits {
 }
 
 // Whether a packet that is turned down ends the reading: one that found no room behind others finds it when they are let go.
+#[tactic(auto, unfolding(crate::specs::Pass::ends_reading))]
 fn stops(number: u8, packets: usize) -> bool
     ensures { result ≡ ends_reading number packets }
 {
-    if packets == 0 {
-        return true;
-    }
-    number != 10
+    packets == 0 || number != 10
 }
 
 // Pushes the packets of a window. Where the outputs are full, what they hold is let go, and the rest of the window follows.
@@ -61,6 +60,7 @@ fn pass(
 {
     part::measured(window);
     let mut at: usize = 0;
+    // A `for` would need an answer behind its last turn, which is never reached.
     loop {
         let rest = bytes::rest(window, at);
         let a = decoder::push_all(
@@ -103,9 +103,8 @@ fn read_all(
 ) -> Stop {
     let mut base: u64 = 0;
     let mut n: usize = 0;
-    let mut turns = u64::MAX;
-    while turns > 0 {
-        let m = stdio::read_behind(rt, window, n);
+    for _ in 0..u64::MAX {
+        let m = stdio::read_behind(&mut rt.stdin(), window, n);
         if m <= n {
             if n == 0 {
                 return Stop::Clean;
@@ -125,29 +124,20 @@ fn read_all(
         ) {
             Passed::More(at) => {
                 n = window::to_front(window, at, m);
-                base = std::num::wrapping_add_u64(base, at as u64);
+                base = base.wrapping_add(at as u64);
             }
-            Passed::Bad(at) => return Stop::Bad(std::num::wrapping_add_u64(base, at as u64)),
+            Passed::Bad(at) => return Stop::Bad(base.wrapping_add(at as u64)),
             Passed::Refused(number) => return Stop::Refused(number),
         }
-        turns -= 1;
     }
     Stop::Clean
 }
 
 // Writes the list.
-fn report(
-    rt: HostRuntime,
-    state: &[u8; 13144],
-    others: &[u64; 256],
-    objects: &[u8; 16384],
-    messages: &[u8; 16384],
-    tables: &[u8; 20480],
-    stop: Stop,
-) {
+fn report(rt: HostRuntime, session: Session<'_>, stop: Stop) {
     let mut text = [0u8; 4096];
-    let n = listing::listing(state, others, objects, messages, tables, stop, &mut text, 0);
-    stdio::write_text(rt, &text, n);
+    let n = listing::listing(session, stop, &mut text, 0);
+    stdio::write_text(&mut rt.stdout(), &text, n);
 }
 
 fn main(rt: HostRuntime) {
@@ -180,5 +170,12 @@ fn main(rt: HostRuntime) {
         &mut data,
         &mut lines,
     );
-    report(rt, &state, &others, &objects, &messages, &tables, stop);
+    let session = Session {
+        state: &state,
+        others: &others,
+        objects: &objects,
+        messages: &messages,
+        tables: &tables,
+    };
+    report(rt, session, stop);
 }

@@ -46,7 +46,7 @@ set_more xs v i x s h e =
           (λ t. let other : j ≢ i = eqb-false j i t in rw (get_or-set_other v i j x 0 other) (s.set_to j (omega arith)));
     }
 
-pub set_all : (xs u v : List ℕ) (i : ℕ) → Set xs v i → length v ≤ i → Replied (says xs) 0 u v
+pub set_all : (xs u v : List ℕ) (i : ℕ) → Set xs v i → 16 ≤ i → Replied (says xs) 0 u v
 set_all xs u v i s h =
     record {
       number = refl;

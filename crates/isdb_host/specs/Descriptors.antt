@@ -1,21 +1,12 @@
 -- Locations and descriptors as a host sees them: the numbers of each answer, in their order.
-use Rattle.std.specs.Prelude.{ℕ, List, [], ◌∷◌}
+use Rattle.std.specs.Prelude.{ℕ, List, [], ◌∷◌, None, Option, Some, unwrap_or}
 use Rattle.isdb_tlv.specs.Guards.{◌=?◌, ◌≠?◌}
 use Rattle.std.specs.Prelude.{if◌then◌else◌}
 use Rattle.isdb_tlv.specs.declared.ip.Address.{Address}
 use Rattle.isdb_tlv.specs.declared.ip.Address.TheVariants.{V4, V6}
-use Rattle.isdb_mmt.specs.declared.maybe.MaybeU16.{MaybeU16}
-use Rattle.isdb_mmt.specs.declared.maybe.MaybeU16.TheVariants.{None as no_u16, Some as some_u16}
-use Rattle.isdb_mmt.specs.declared.maybe.MaybeU32.TheVariants.{None as no_u32}
-use Rattle.isdb_mmt.specs.declared.maybe.MaybeU64.{MaybeU64}
-use Rattle.isdb_mmt.specs.declared.maybe.MaybeU64.TheVariants.{None as no_u64, Some as some_u64}
 use Rattle.isdb_mmt.specs.declared.part.Part.{Part}
 use Rattle.isdb_mmt.specs.declared.location.Location.{Location}
 use Rattle.isdb_mmt.specs.declared.location.Location.TheVariants.{SameFlow, Ipv4, Ipv6, Mpeg2Ts, Mpeg2TsIpv6, Url}
-use Rattle.isdb_mmt.specs.declared.location.Located.{Located}
-use Rattle.isdb_mmt.specs.declared.location.Located.TheVariants.{None as not_located, Some as located}
-use Rattle.isdb_mmt.specs.declared.location.MaybeLocation.{MaybeLocation}
-use Rattle.isdb_mmt.specs.declared.location.MaybeLocation.TheVariants.{None as no_location, Some as some_location}
 use Rattle.isdb_mmt.specs.declared.desc.Step.{Step}
 use Rattle.isdb_mmt.specs.declared.desc.Step.TheVariants.{End as no_descriptor, Broken as broken_descriptor, Raw as one_descriptor}
 use Rattle.isdb_mmt.specs.declared.desc.Language.{Language}
@@ -33,10 +24,8 @@ use Rattle.isdb_mmt.specs.declared.timestamp.Extended.{Extended}
 use Rattle.isdb_mmt.specs.declared.timestamp.MpuStep.{MpuStep}
 use Rattle.isdb_mmt.specs.declared.timestamp.MpuStep.TheVariants.{End as no_mpu, Broken as broken_mpu, Mpu as one_mpu}
 use Rattle.isdb_mmt.specs.declared.timestamp.AccessUnit.{AccessUnit}
-use Rattle.isdb_mmt.specs.declared.timestamp.AccessUnitStep.{AccessUnitStep}
-use Rattle.isdb_mmt.specs.declared.timestamp.AccessUnitStep.TheVariants.{End as no_unit, Unit as one_unit_of}
 use Rattle.isdb_host.specs.Values.{Reply, says, nothing, malformed}
-use Rattle.isdb_mmt.specs.Formats.Maybe.{flag_of, given_u16, number_u16, given_u32, number_u32}
+use Rattle.isdb_mmt.specs.Formats.Maybe.{flag_of, given}
 use Rattle.isdb_host.specs.Fields.{address_high, address_low}
 use Rattle.isdb_host.specs.Tables.{placed}
 
@@ -63,9 +52,9 @@ location_numbers (Mpeg2Ts network stream pid) n = ts_numbers 3 0 network stream 
 location_numbers (Mpeg2TsIpv6 port pid) n = ts_numbers 4 port 0 0 pid n
 location_numbers (Url url) n = url_numbers url n
 
-abbrev pub location_said : Located → Reply
-location_said not_located = malformed
-location_said (located l n) = says (location_numbers l n)
+abbrev pub location_said : Option (Location × ℕ) → Reply
+location_said None = malformed
+location_said (Some (l, n)) = says (location_numbers l n)
 
 -- ---- descriptor loops
 
@@ -78,21 +67,21 @@ abbrev pub tlv_said : TlvStep → Reply
 tlv_said no_tlv = nothing
 tlv_said (one_tlv tag body next) = says (tag ∷ placed body (next ∷ []))
 
-abbrev pub frequency_said : MaybeU64 → Reply
-frequency_said no_u64 = nothing
-frequency_said (some_u64 khz) = says (khz ∷ [])
+abbrev pub frequency_said : Option ℕ → Reply
+frequency_said None = nothing
+frequency_said (Some khz) = says (khz ∷ [])
 
 -- ---- descriptors, by kind; parts count in the body
 
 abbrev pub extended_numbers : Extended → List ℕ
 extended_numbers e =
-    2 ∷ given_u32 e.timescale ∷ number_u32 e.timescale ∷ given_u16 e.default_pts_offset ∷ number_u16 e.default_pts_offset
+    2 ∷ given e.timescale ∷ unwrap_or e.timescale 0 ∷ given e.default_pts_offset ∷ unwrap_or e.default_pts_offset 0
     ∷ flag_of e.own_pts_offset ∷ e.start ∷ []
 
 -- whether a location stands at 2
-abbrev pub location_given : MaybeLocation → ℕ
-location_given no_location = 0
-location_given (some_location l) = 1
+abbrev pub location_given : Option Location → ℕ
+location_given None = 0
+location_given (Some l) = 1
 
 abbrev pub service_numbers : ℕ → Part → Part → List ℕ
 service_numbers type provider name = 6 ∷ type ∷ placed provider (placed name [])
@@ -129,11 +118,11 @@ mpu_said broken_mpu = malformed
 mpu_said (one_mpu number leap offset n units next) = says (number ∷ leap ∷ offset ∷ n ∷ placed units (next ∷ []))
 
 abbrev pub access_unit_numbers : AccessUnit → ℕ → List ℕ
-access_unit_numbers u next = u.dts_pts_offset ∷ given_u16 u.pts_offset ∷ number_u16 u.pts_offset ∷ next ∷ []
+access_unit_numbers u next = u.dts_pts_offset ∷ given u.pts_offset ∷ unwrap_or u.pts_offset 0 ∷ next ∷ []
 
-abbrev pub access_unit_said : AccessUnitStep → Reply
-access_unit_said no_unit = nothing
-access_unit_said (one_unit_of u next) = says (access_unit_numbers u next)
+abbrev pub access_unit_said : Option (AccessUnit × ℕ) → Reply
+access_unit_said None = nothing
+access_unit_said (Some (u, next)) = says (access_unit_numbers u next)
 
 abbrev pub listed_service_said : ServiceStep → Reply
 listed_service_said no_service = nothing
@@ -144,9 +133,9 @@ genre_said no_genre = nothing
 genre_said (one_genre one two user next) = says (one ∷ two ∷ user ∷ next ∷ [])
 
 -- the head of an extended timestamp descriptor, as far as its access units need it
-abbrev pub offset_given : ℕ → ℕ → MaybeU16
-offset_given given offset = if given =? 0 then no_u16 else some_u16 offset
+abbrev pub offset_given : ℕ → ℕ → Option ℕ
+offset_given given offset = if given =? 0 then None else Some offset
 
 abbrev pub head_of : ℕ → ℕ → ℕ → Extended
 head_of given offset own =
-    record { timescale = no_u32; default_pts_offset = offset_given given offset; own_pts_offset = own ≠? 0; start = 0 }
+    record { timescale = None; default_pts_offset = offset_given given offset; own_pts_offset = own ≠? 0; start = 0 }

@@ -1,7 +1,7 @@
 -- Fields as numbers.
 use Rattle.std.specs.Prelude.{ℕ}
-use Rattle.isdb_mmt.specs.declared.decoder.readings.MaybeRange.{MaybeRange}
-use Rattle.isdb_mmt.specs.declared.decoder.readings.MaybeRange.TheVariants.{None as no_range, Some as some_range}
+use Rattle.std.specs.Prelude.{Option, Some, None}
+use Rattle.isdb_mmt.specs.declared.decoder.readings.MpuRange.{MpuRange}
 use Rattle.isdb_mmt.specs.declared.table.section.SectionError.{SectionError}
 use Rattle.isdb_mmt.specs.declared.table.section.SectionError.TheVariants.{Truncated, Crc, Malformed}
 use Rattle.isdb_tlv.specs.declared.ip.Address.{Address}
@@ -9,17 +9,17 @@ use Rattle.isdb_tlv.specs.declared.ip.Address.TheVariants.{V4, V6}
 use Rattle.isdb_host.specs.Values.{code_of, malformed, truncated, bad_crc}
 
 -- MPU numbers: whether there are any, the first and the last
-abbrev pub given_range : MaybeRange → ℕ
-given_range no_range = 0
-given_range (some_range x) = 1
+abbrev pub given_range : Option MpuRange → ℕ
+given_range None = 0
+given_range (Some x) = 1
 
-abbrev pub first_mpu_of : MaybeRange → ℕ
-first_mpu_of no_range = 0
-first_mpu_of (some_range x) = x.first
+abbrev pub first_mpu_of : Option MpuRange → ℕ
+first_mpu_of None = 0
+first_mpu_of (Some x) = x.first
 
-abbrev pub last_mpu : MaybeRange → ℕ
-last_mpu no_range = 0
-last_mpu (some_range x) = x.last
+abbrev pub last_mpu : Option MpuRange → ℕ
+last_mpu None = 0
+last_mpu (Some x) = x.last
 
 -- an address: whether it is of IPv6, and its two halves; one of IPv4 is the low half
 abbrev pub wide_address : Address → ℕ

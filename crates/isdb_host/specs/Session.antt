@@ -1,42 +1,29 @@
 -- The calls on a session, as a host sees them: the limits it gives, and what each call writes to the numbers of its answer.
-use Rattle.std.specs.Prelude.{ℕ, not, List, [], ◌∷◌, get_or}
+use Rattle.std.specs.Prelude.{ℕ, not, List, [], ◌∷◌, get_or, Option, Some, None, Result, Ok, Err, if◌then◌else◌, is_some, unwrap_or}
+use Rattle.isdb_mmt.specs.declared.decoder.refusal.Refusal.{Refusal}
+use Rattle.isdb_mmt.specs.Memory.Refusals.{number_of}
+use Rattle.isdb_mmt.specs.declared.decoder.readings.Held.{Held}
+use Rattle.isdb_mmt.specs.declared.decoder.readings.Held.TheVariants.{NoId, NoObject, Object}
+use Rattle.isdb_mmt.specs.declared.decoder.counts.Counters.{Counters}
+use Rattle.isdb_mmt.specs.declared.part.Part.{Part}
 use Rattle.isdb_tlv.specs.Guards.{◌=?◌}
-use Rattle.std.specs.Prelude.{if◌then◌else◌}
 use Rattle.isdb_mmt.specs.Decoder.Packet.{Bytes}
 use Rattle.isdb_mmt.specs.Memory.Session.{Session}
 use Rattle.isdb_mmt.specs.Pushes.Push.{Input, Pushed}
 use Rattle.isdb_mmt.specs.Pushes.PushAll.{AllPushed}
-use Rattle.isdb_mmt.specs.Formats.Mpu.{has_header, header_or}
+use Rattle.isdb_mmt.specs.Formats.Mpu.{header_or}
 use Rattle.isdb_mmt.specs.declared.decoder.many.Pushes.{Pushes}
 use Rattle.isdb_mmt.specs.declared.decoder.many.Halt.{Halt}
 use Rattle.isdb_mmt.specs.declared.decoder.many.Halt.TheVariants.{End, Short, Bad, Full, Refused}
 use Rattle.isdb_mmt.specs.declared.decoder.limits.Limits.{Limits}
 use Rattle.isdb_mmt.specs.declared.decoder.limits.Need.{Need}
 use Rattle.isdb_mmt.specs.declared.decoder.limits.Need.TheVariants.{Bytes as need_bytes, Refused as need_refused}
-use Rattle.isdb_mmt.specs.declared.decoder.readings.CountersReading.{CountersReading}
-use Rattle.isdb_mmt.specs.declared.decoder.readings.CountersReading.TheVariants.{Refused as counters_refused, Counters as the_counters}
-use Rattle.isdb_mmt.specs.declared.decoder.readings.TimeReading.{TimeReading}
-use Rattle.isdb_mmt.specs.declared.decoder.readings.TimeReading.TheVariants.{Refused as time_refused, Nothing as no_time, Timestamp}
-use Rattle.isdb_mmt.specs.declared.decoder.readings.CountReading.{CountReading}
-use Rattle.isdb_mmt.specs.declared.decoder.readings.CountReading.TheVariants.{Refused as count_refused, Count}
-use Rattle.isdb_mmt.specs.declared.decoder.readings.NameReading.{NameReading}
-use Rattle.isdb_mmt.specs.declared.decoder.readings.NameReading.TheVariants.{Refused as name_refused, Nothing as no_name_of, Name}
 use Rattle.isdb_mmt.specs.declared.decoder.readings.MediaState.{MediaState}
-use Rattle.isdb_mmt.specs.declared.decoder.readings.MediaReading.{MediaReading}
-use Rattle.isdb_mmt.specs.declared.decoder.readings.MediaReading.TheVariants.{Refused as media_refused, Nothing as no_media, Media as the_media}
 use Rattle.isdb_mmt.specs.declared.decoder.readings.HeldObject.{HeldObject}
-use Rattle.isdb_mmt.specs.declared.decoder.readings.HeldReading.{HeldReading}
-use Rattle.isdb_mmt.specs.declared.decoder.readings.HeldReading.TheVariants.{Refused as held_refused, NoId, Nothing as no_object, Object as the_object}
 use Rattle.isdb_mmt.specs.declared.decoder.readings.ControlState.{ControlState}
-use Rattle.isdb_mmt.specs.declared.decoder.readings.ControlReading.{ControlReading}
-use Rattle.isdb_mmt.specs.declared.decoder.readings.ControlReading.TheVariants.{Refused as control_refused, Nothing as no_control, Control as the_control}
-use Rattle.isdb_mmt.specs.declared.decoder.readings.TableReading.{TableReading}
-use Rattle.isdb_mmt.specs.declared.decoder.readings.TableReading.TheVariants.{Refused as table_refused, Nothing as no_table_of, Bytes as the_bytes}
 use Rattle.isdb_mmt.specs.declared.decoder.readings.CarriedAsset.{CarriedAsset}
-use Rattle.isdb_mmt.specs.declared.decoder.readings.AssetReading.{AssetReading}
-use Rattle.isdb_mmt.specs.declared.decoder.readings.AssetReading.TheVariants.{Refused as asset_refused, Nothing as no_asset, Asset as the_asset}
 use Rattle.isdb_host.specs.Values.{Reply, says, code, nothing, no_id, Replied}
-use Rattle.isdb_mmt.specs.Formats.Maybe.{flag_of, given_u16, number_u16, given_u32, number_u32}
+use Rattle.isdb_mmt.specs.Formats.Maybe.{flag_of, given}
 use Rattle.isdb_host.specs.Fields.{given_range, first_mpu_of, last_mpu}
 
 -- the limits that eight numbers say; scrambled payloads are passed on where the last is not 0
@@ -109,9 +96,9 @@ pub record HostPushedAll (s : Session) (input : Bytes) (most : ℕ) (rows out li
 -- ---- readings
 
 -- the counts of the feed
-abbrev pub counters_said : CountersReading → Reply
-counters_said (counters_refused n) = code n
-counters_said (the_counters c) =
+abbrev pub counters_said : Result Counters Refusal → Reply
+counters_said (Err e) = code (number_of e)
+counters_said (Ok c) =
     says
     (c.tlv_packets
     ∷ c.ip_errors
@@ -128,21 +115,21 @@ counters_said (the_counters c) =
     ∷ [])
 
 -- the last NTP timestamp
-abbrev pub time_said : TimeReading → Reply
-time_said (time_refused n) = code n
-time_said no_time = nothing
-time_said (Timestamp t) = says (t ∷ [])
+abbrev pub time_said : Result (Option ℕ) Refusal → Reply
+time_said (Err e) = code (number_of e)
+time_said (Ok None) = nothing
+time_said (Ok (Some t)) = says (t ∷ [])
 
 -- tables of an id that are not decoded
-abbrev pub count_said : CountReading → Reply
-count_said (count_refused n) = code n
-count_said (Count n) = says (n ∷ [])
+abbrev pub count_said : Result ℕ Refusal → Reply
+count_said (Err e) = code (number_of e)
+count_said (Ok n) = says (n ∷ [])
 
 -- a packet id or a key
-abbrev pub name_said : NameReading → Reply
-name_said (name_refused n) = code n
-name_said no_name_of = nothing
-name_said (Name x) = says (x ∷ [])
+abbrev pub name_said : Result (Option ℕ) Refusal → Reply
+name_said (Err e) = code (number_of e)
+name_said (Ok None) = nothing
+name_said (Ok (Some x)) = says (x ∷ [])
 
 -- a media packet id: its counts, the MPU numbers, the last packet's number, the length of the held object
 abbrev pub media_numbers : MediaState → List ℕ
@@ -159,55 +146,55 @@ media_numbers m =
     ∷ given_range m.mpu_range
     ∷ first_mpu_of m.mpu_range
     ∷ last_mpu m.mpu_range
-    ∷ given_u32 m.sequence
-    ∷ number_u32 m.sequence
-    ∷ given_u32 m.held
-    ∷ number_u32 m.held
+    ∷ given m.sequence
+    ∷ unwrap_or m.sequence 0
+    ∷ given m.held
+    ∷ unwrap_or m.held 0
     ∷ []
 
-abbrev pub media_said : MediaReading → Reply
-media_said (media_refused n) = code n
-media_said no_media = nothing
-media_said (the_media m) = says (media_numbers m)
+abbrev pub media_said : Result (Option MediaState) Refusal → Reply
+media_said (Err e) = code (number_of e)
+media_said (Ok None) = nothing
+media_said (Ok (Some m)) = says (media_numbers m)
 
 -- a held object: the fields of its first unit, and where its bytes lie in the lent objects
 abbrev pub held_numbers : HeldObject → List ℕ
 held_numbers o =
     o.mpu_sequence_number
     ∷ flag_of o.rap
-    ∷ flag_of (has_header o.mfu)
+    ∷ flag_of (is_some o.mfu)
     ∷ (header_or o.mfu).movie_fragment_sequence_number
     ∷ (header_or o.mfu).sample_number
     ∷ (header_or o.mfu).offset
     ∷ (header_or o.mfu).priority
     ∷ (header_or o.mfu).dependency_counter
-    ∷ given_u32 o.item_id
-    ∷ number_u32 o.item_id
+    ∷ given o.item_id
+    ∷ unwrap_or o.item_id 0
     ∷ o.bytes.start
     ∷ o.bytes.length
     ∷ []
 
-abbrev pub held_said : HeldReading → Reply
-held_said (held_refused n) = code n
-held_said NoId = no_id
-held_said no_object = nothing
-held_said (the_object o) = says (held_numbers o)
+abbrev pub held_said : Result Held Refusal → Reply
+held_said (Err e) = code (number_of e)
+held_said (Ok NoId) = no_id
+held_said (Ok NoObject) = nothing
+held_said (Ok (Object o)) = says (held_numbers o)
 
 -- a packet id of control messages: the last packet's number, the length of the message being joined
 abbrev pub control_numbers : ControlState → List ℕ
 control_numbers c =
-    given_u32 c.sequence ∷ number_u32 c.sequence ∷ given_u32 c.joined ∷ number_u32 c.joined ∷ []
+    given c.sequence ∷ unwrap_or c.sequence 0 ∷ given c.joined ∷ unwrap_or c.joined 0 ∷ []
 
-abbrev pub control_said : ControlReading → Reply
-control_said (control_refused n) = code n
-control_said no_control = nothing
-control_said (the_control c) = says (control_numbers c)
+abbrev pub control_said : Result (Option ControlState) Refusal → Reply
+control_said (Err e) = code (number_of e)
+control_said (Ok None) = nothing
+control_said (Ok (Some c)) = says (control_numbers c)
 
 -- a kept table: where its bytes lie in the lent tables
-abbrev pub table_said : TableReading → Reply
-table_said (table_refused n) = code n
-table_said no_table_of = nothing
-table_said (the_bytes p) = says (p.start ∷ p.length ∷ [])
+abbrev pub table_said : Result (Option Part) Refusal → Reply
+table_said (Err e) = code (number_of e)
+table_said (Ok None) = nothing
+table_said (Ok (Some p)) = says (p.start ∷ p.length ∷ [])
 
 -- the asset that a packet id carries: the MPT, its service, and the asset, whose parts count in the MPT's bytes
 abbrev pub asset_numbers : CarriedAsset → List ℕ
@@ -215,8 +202,8 @@ asset_numbers x =
     x.control_id
     ∷ x.mpt.start
     ∷ x.mpt.length
-    ∷ given_u16 x.service_id
-    ∷ number_u16 x.service_id
+    ∷ given x.service_id
+    ∷ unwrap_or x.service_id 0
     ∷ x.asset.identifier_type
     ∷ x.asset.asset_id_scheme
     ∷ x.asset.asset_id.start
@@ -229,7 +216,7 @@ asset_numbers x =
     ∷ x.asset.descriptors.length
     ∷ []
 
-abbrev pub asset_said : AssetReading → Reply
-asset_said (asset_refused n) = code n
-asset_said no_asset = nothing
-asset_said (the_asset x) = says (asset_numbers x)
+abbrev pub asset_said : Result (Option CarriedAsset) Refusal → Reply
+asset_said (Err e) = code (number_of e)
+asset_said (Ok None) = nothing
+asset_said (Ok (Some x)) = says (asset_numbers x)

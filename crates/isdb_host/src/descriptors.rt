@@ -14,12 +14,11 @@ ghost use Rattle.isdb_host.specs.Descriptors.{timestamp_said, mpu_said, access_u
 
 use crate::{fields, values};
 use isdb_mmt::desc::{Descriptor, GenreStep, Language, ServiceStep, Step};
-use isdb_mmt::location::{Located, Location, MaybeLocation};
-use isdb_mmt::maybe::{MaybeU16, MaybeU32, MaybeU64};
+use isdb_mmt::location::Location;
 use isdb_mmt::part::Part;
 use isdb_mmt::table::nit::TlvStep;
 use isdb_mmt::table::{mpt, nit};
-use isdb_mmt::timestamp::{AccessUnit, AccessUnitStep, Extended, MpuStep, TimestampStep};
+use isdb_mmt::timestamp::{AccessUnit, Extended, MpuStep, TimestampStep};
 use isdb_mmt::{desc, maybe, ntp, timestamp};
 use isdb_tlv::crc;
 use isdb_tlv::ip::Address;
@@ -136,13 +135,13 @@ fn says_location(v: &mut [u64], l: Location, size: usize) -> u8
     }
 }
 
-fn location_said(r: Located, v: &mut [u64]) -> u8
+fn location_said(r: Option<(Location, usize)>, v: &mut [u64]) -> u8
     requires { length v.old ≡ 16 }
     ensures { Replied (location_said r) result v.old v.new }
 {
     match r {
-        Located::None => values::MALFORMED,
-        Located::Some(l, size) => says_location(v, l, size),
+        None => values::MALFORMED,
+        Some((l, size)) => says_location(v, l, size),
     }
 }
 
@@ -210,13 +209,13 @@ pub extern "C" fn isdb_tlv_at(b: &[u8], at: usize, v: &mut [u64; 16]) -> u8
     tlv_said(r, v)
 }
 
-fn frequency_said(r: MaybeU64, v: &mut [u64]) -> u8
+fn frequency_said(r: Option<u64>, v: &mut [u64]) -> u8
     requires { length v.old ≡ 16 }
     ensures { Replied (frequency_said r) result v.old v.new }
 {
     match r {
-        MaybeU64::None => values::NOTHING,
-        MaybeU64::Some(khz) => values::says(v, &[khz]),
+        None => values::NOTHING,
+        Some(khz) => values::says(v, &[khz]),
     }
 }
 
@@ -237,11 +236,11 @@ fn says_extended(v: &mut [u64], e: Extended) -> u8
     let offset = e.default_pts_offset;
     let numbers = [
         2,
-        timescale.given(),
-        timescale.or_zero() as u64,
-        offset.given(),
-        offset.or_zero() as u64,
-        maybe::flag(e.own_pts_offset),
+        maybe::given(timescale),
+        timescale.unwrap_or(0) as u64,
+        maybe::given(offset),
+        offset.unwrap_or(0) as u64,
+        u64::from(e.own_pts_offset),
         e.start as u64,
     ];
     values::says(v, &numbers)
@@ -279,12 +278,12 @@ fn says_service(v: &mut [u64], kind: u8, provider: Part, name: Part) -> u8
     values::says(v, &numbers)
 }
 
-fn location_given(l: MaybeLocation) -> u64
+fn location_given(l: Option<Location>) -> u64
     ensures { result ≡ location_given l }
 {
     match l {
-        MaybeLocation::None => 0,
-        MaybeLocation::Some(_) => 1,
+        None => 0,
+        Some(_) => 1,
     }
 }
 
@@ -321,7 +320,7 @@ fn decode_said(r: Descriptor, v: &mut [u64]) -> u8
             profile_idc: p,
             tier: t,
             level_idc: l,
-        } => values::says(v, &[10, p as u64, maybe::flag(t), l as u64]),
+        } => values::says(v, &[10, p as u64, u64::from(t), l as u64]),
         Descriptor::BroadcasterName(p) => values::says(v, &[11, p.start as u64, p.length as u64]),
     }
 }
@@ -403,30 +402,30 @@ fn says_access_unit(v: &mut [u64], u: AccessUnit, next: usize) -> u8
     let offset = u.pts_offset;
     let numbers = [
         u.dts_pts_offset as u64,
-        offset.given(),
-        offset.or_zero() as u64,
+        maybe::given(offset),
+        offset.unwrap_or(0) as u64,
         next as u64,
     ];
     values::says(v, &numbers)
 }
 
-fn access_unit_said(r: AccessUnitStep, v: &mut [u64]) -> u8
+fn access_unit_said(r: Option<(AccessUnit, usize)>, v: &mut [u64]) -> u8
     requires { length v.old ≡ 16 }
     ensures { Replied (access_unit_said r) result v.old v.new }
 {
     match r {
-        AccessUnitStep::End => values::NOTHING,
-        AccessUnitStep::Unit(u, next) => says_access_unit(v, u, next),
+        None => values::NOTHING,
+        Some((u, next)) => says_access_unit(v, u, next),
     }
 }
 
-fn offset_given(given: u8, offset: u16) -> MaybeU16
+fn offset_given(given: u8, offset: u16) -> Option<u16>
     ensures { result ≡ offset_given given offset }
 {
     if given == 0 {
-        return MaybeU16::None;
+        return None;
     }
-    MaybeU16::Some(offset)
+    Some(offset)
 }
 
 // The head of an extended timestamp descriptor, as far as its access units need it.
@@ -434,7 +433,7 @@ fn head_of(given: u8, offset: u16, own: u8) -> Extended
     ensures { result ≡ head_of given offset own }
 {
     Extended {
-        timescale: MaybeU32::None,
+        timescale: None,
         default_pts_offset: offset_given(given, offset),
         own_pts_offset: own != 0,
         start: 0,

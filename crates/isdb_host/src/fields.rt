@@ -3,35 +3,35 @@ ghost use Rattle.std.specs.Prelude.{◌≡◌};
 ghost use Rattle.isdb_host.specs.Fields.{given_range, first_mpu_of, last_mpu, wide_address, address_high, address_low, reason_of};
 
 use crate::values;
-use isdb_mmt::decoder::readings::MaybeRange;
+use isdb_mmt::decoder::readings::MpuRange;
 use isdb_mmt::table::section::SectionError;
 use isdb_tlv::ip::Address;
 
 // Whether MPU numbers were seen, the first and the last.
-pub(crate) fn given_range(m: MaybeRange) -> u64
+pub(crate) fn given_range(m: Option<MpuRange>) -> u64
     ensures { result ≡ given_range m }
 {
     match m {
-        MaybeRange::None => 0,
-        MaybeRange::Some(_) => 1,
+        None => 0,
+        Some(_) => 1,
     }
 }
 
-pub(crate) fn first_mpu(m: MaybeRange) -> u64
+pub(crate) fn first_mpu(m: Option<MpuRange>) -> u64
     ensures { result ≡ first_mpu_of m }
 {
     match m {
-        MaybeRange::None => 0,
-        MaybeRange::Some(x) => x.first as u64,
+        None => 0,
+        Some(x) => x.first as u64,
     }
 }
 
-pub(crate) fn last_mpu(m: MaybeRange) -> u64
+pub(crate) fn last_mpu(m: Option<MpuRange>) -> u64
     ensures { result ≡ last_mpu m }
 {
     match m {
-        MaybeRange::None => 0,
-        MaybeRange::Some(x) => x.last as u64,
+        None => 0,
+        Some(x) => x.last as u64,
     }
 }
 

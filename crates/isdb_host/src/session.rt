@@ -8,15 +8,16 @@ ghost use Rattle.isdb_host.specs.Values.{Reply, Replied};
 ghost use Rattle.isdb_host.specs.Session.{limits_from, needed_said, push_said, HostPushed, halt_code, halt_number, all_said, HostPushedAll, counters_said, time_said, count_said, name_said, media_numbers, media_said, held_numbers, held_said, control_numbers, control_said, table_said, asset_numbers, asset_said};
 
 use crate::{fields, values};
+use isdb_mmt::decoder::counts::Counters;
+use isdb_mmt::decoder::limits;
 use isdb_mmt::decoder::limits::{Limits, Need};
 use isdb_mmt::decoder::many::{Halt, Pushes};
-use isdb_mmt::decoder::readings::{
-    AssetReading, CarriedAsset, ControlReading, ControlState, CountReading, CountersReading,
-    HeldObject, HeldReading, MediaReading, MediaState, NameReading, TableReading, TimeReading,
-};
+use isdb_mmt::decoder::readings::{CarriedAsset, ControlState, Held, HeldObject, MediaState};
 use isdb_mmt::decoder::records::Answer;
-use isdb_mmt::decoder::{ids, kept, limits, readings};
-use isdb_mmt::{decoder, maybe};
+use isdb_mmt::decoder::refusal::Refusal;
+use isdb_mmt::decoder::session::Session;
+use isdb_mmt::part::Part;
+use isdb_mmt::{decoder, maybe, mpu};
 
 // Eight numbers in the order of the limits.
 fn limits_from(x: &[u64; 8]) -> Limits
@@ -175,13 +176,13 @@ pub extern "C" fn isdb_push_all(
     all_said(a, v)
 }
 
-fn counters_said(r: CountersReading, v: &mut [u64]) -> u8
+fn counters_said(r: Result<Counters, Refusal>, v: &mut [u64]) -> u8
     requires { length v.old ≡ 16 }
     ensures { Replied (counters_said r) result v.old v.new }
 {
     match r {
-        CountersReading::Refused(n) => n,
-        CountersReading::Counters(c) => values::says(
+        Err(e) => e.number(),
+        Ok(c) => values::says(
             v,
             &[
                 c.tlv_packets,
@@ -213,18 +214,24 @@ pub extern "C" fn isdb_counters(
 ) -> u8
     ensures { Replied (counters_said (counters_read (lent state.now others.now objects.now messages.now tables.now))) result v.old v.new }
 {
-    let r = readings::counters(state, others, objects, messages, tables);
-    counters_said(r, v)
+    let session = Session {
+        state,
+        others,
+        objects,
+        messages,
+        tables,
+    };
+    counters_said(session.counters(), v)
 }
 
-fn time_said(r: TimeReading, v: &mut [u64]) -> u8
+fn time_said(r: Result<Option<u64>, Refusal>, v: &mut [u64]) -> u8
     requires { length v.old ≡ 16 }
     ensures { Replied (time_said r) result v.old v.new }
 {
     match r {
-        TimeReading::Refused(n) => n,
-        TimeReading::Nothing => values::NOTHING,
-        TimeReading::Timestamp(t) => values::says(v, &[t]),
+        Err(e) => e.number(),
+        Ok(None) => values::NOTHING,
+        Ok(Some(t)) => values::says(v, &[t]),
     }
 }
 
@@ -240,17 +247,23 @@ pub extern "C" fn isdb_time(
 ) -> u8
     ensures { Replied (time_said (time_read (lent state.now others.now objects.now messages.now tables.now))) result v.old v.new }
 {
-    let r = readings::time(state, others, objects, messages, tables);
-    time_said(r, v)
+    let session = Session {
+        state,
+        others,
+        objects,
+        messages,
+        tables,
+    };
+    time_said(session.time(), v)
 }
 
-fn count_said(r: CountReading, v: &mut [u64]) -> u8
+fn count_said(r: Result<u64, Refusal>, v: &mut [u64]) -> u8
     requires { length v.old ≡ 16 }
     ensures { Replied (count_said r) result v.old v.new }
 {
     match r {
-        CountReading::Refused(n) => n,
-        CountReading::Count(n) => values::says(v, &[n]),
+        Err(e) => e.number(),
+        Ok(n) => values::says(v, &[n]),
     }
 }
 
@@ -267,18 +280,24 @@ pub extern "C" fn isdb_table_count(
 ) -> u8
     ensures { Replied (count_said (count_read (lent state.now others.now objects.now messages.now tables.now) id)) result v.old v.new }
 {
-    let r = readings::table_count(state, others, objects, messages, tables, id);
-    count_said(r, v)
+    let session = Session {
+        state,
+        others,
+        objects,
+        messages,
+        tables,
+    };
+    count_said(session.table_count(id), v)
 }
 
-fn name_said(r: NameReading, v: &mut [u64]) -> u8
+fn name_said(r: Result<Option<u32>, Refusal>, v: &mut [u64]) -> u8
     requires { length v.old ≡ 16 }
     ensures { Replied (name_said r) result v.old v.new }
 {
     match r {
-        NameReading::Refused(n) => n,
-        NameReading::Nothing => values::NOTHING,
-        NameReading::Name(x) => values::says(v, &[x as u64]),
+        Err(e) => e.number(),
+        Ok(None) => values::NOTHING,
+        Ok(Some(x)) => values::says(v, &[x as u64]),
     }
 }
 
@@ -295,8 +314,14 @@ pub extern "C" fn isdb_next_media(
 ) -> u8
     ensures { Replied (name_said (next_media_read (lent state.now others.now objects.now messages.now tables.now) from)) result v.old v.new }
 {
-    let r = ids::next_media(state, others, objects, messages, tables, from);
-    name_said(r, v)
+    let session = Session {
+        state,
+        others,
+        objects,
+        messages,
+        tables,
+    };
+    name_said(session.next_media(from), v)
 }
 
 // The least packet id of control messages from one on.
@@ -312,8 +337,14 @@ pub extern "C" fn isdb_next_control(
 ) -> u8
     ensures { Replied (name_said (next_control_read (lent state.now others.now objects.now messages.now tables.now) from)) result v.old v.new }
 {
-    let r = ids::next_control(state, others, objects, messages, tables, from);
-    name_said(r, v)
+    let session = Session {
+        state,
+        others,
+        objects,
+        messages,
+        tables,
+    };
+    name_said(session.next_control(from), v)
 }
 
 // The least key of a kept section from first to last.
@@ -330,8 +361,14 @@ pub extern "C" fn isdb_next_key(
 ) -> u8
     ensures { Replied (name_said (next_key_read (lent state.now others.now objects.now messages.now tables.now) first last)) result v.old v.new }
 {
-    let r = ids::next_key(state, others, objects, messages, tables, first, last);
-    name_said(r, v)
+    let session = Session {
+        state,
+        others,
+        objects,
+        messages,
+        tables,
+    };
+    name_said(session.next_key(first, last), v)
 }
 
 fn media_told(m: MediaState, v: &mut [u64]) -> u8
@@ -355,22 +392,22 @@ fn media_told(m: MediaState, v: &mut [u64]) -> u8
         fields::given_range(range),
         fields::first_mpu(range),
         fields::last_mpu(range),
-        sequence.given(),
-        sequence.or_zero() as u64,
-        held.given(),
-        held.or_zero() as u64,
+        maybe::given(sequence),
+        sequence.unwrap_or(0) as u64,
+        maybe::given(held),
+        held.unwrap_or(0) as u64,
     ];
     values::says(v, &x)
 }
 
-fn media_said(r: MediaReading, v: &mut [u64]) -> u8
+fn media_said(r: Result<Option<MediaState>, Refusal>, v: &mut [u64]) -> u8
     requires { length v.old ≡ 16 }
     ensures { Replied (media_said r) result v.old v.new }
 {
     match r {
-        MediaReading::Refused(n) => n,
-        MediaReading::Nothing => values::NOTHING,
-        MediaReading::Media(m) => media_told(m, v),
+        Err(e) => e.number(),
+        Ok(None) => values::NOTHING,
+        Ok(Some(m)) => media_told(m, v),
     }
 }
 
@@ -387,8 +424,14 @@ pub extern "C" fn isdb_media(
 ) -> u8
     ensures { Replied (media_said (media_read (lent state.now others.now objects.now messages.now tables.now) id)) result v.old v.new }
 {
-    let r = ids::media(state, others, objects, messages, tables, id);
-    media_said(r, v)
+    let session = Session {
+        state,
+        others,
+        objects,
+        messages,
+        tables,
+    };
+    media_said(session.media(id), v)
 }
 
 fn held_told(o: HeldObject, v: &mut [u64]) -> u8
@@ -396,35 +439,35 @@ fn held_told(o: HeldObject, v: &mut [u64]) -> u8
     ensures { Replied (Reply.says (held_numbers o)) result v.old v.new }
 {
     let mfu = o.mfu;
-    let h = mfu.or_zero();
+    let h = mfu.unwrap_or(mpu::NO_HEADER);
     let item = o.item_id;
     let p = o.bytes;
     let x = [
         o.mpu_sequence_number as u64,
-        maybe::flag(o.rap),
-        maybe::flag(mfu.is_some()),
+        u64::from(o.rap),
+        u64::from(mfu.is_some()),
         h.movie_fragment_sequence_number as u64,
         h.sample_number as u64,
         h.offset as u64,
         h.priority as u64,
         h.dependency_counter as u64,
-        item.given(),
-        item.or_zero() as u64,
+        maybe::given(item),
+        item.unwrap_or(0) as u64,
         p.start as u64,
         p.length as u64,
     ];
     values::says(v, &x)
 }
 
-fn held_said(r: HeldReading, v: &mut [u64]) -> u8
+fn held_said(r: Result<Held, Refusal>, v: &mut [u64]) -> u8
     requires { length v.old ≡ 16 }
     ensures { Replied (held_said r) result v.old v.new }
 {
     match r {
-        HeldReading::Refused(n) => n,
-        HeldReading::NoId => values::NO_ID,
-        HeldReading::Nothing => values::NOTHING,
-        HeldReading::Object(o) => held_told(o, v),
+        Err(e) => e.number(),
+        Ok(Held::NoId) => values::NO_ID,
+        Ok(Held::NoObject) => values::NOTHING,
+        Ok(Held::Object(o)) => held_told(o, v),
     }
 }
 
@@ -441,8 +484,14 @@ pub extern "C" fn isdb_held(
 ) -> u8
     ensures { Replied (held_said (held_read (lent state.now others.now objects.now messages.now tables.now) id)) result v.old v.new }
 {
-    let r = ids::held(state, others, objects, messages, tables, id);
-    held_said(r, v)
+    let session = Session {
+        state,
+        others,
+        objects,
+        messages,
+        tables,
+    };
+    held_said(session.held(id), v)
 }
 
 fn control_told(c: ControlState, v: &mut [u64]) -> u8
@@ -452,22 +501,22 @@ fn control_told(c: ControlState, v: &mut [u64]) -> u8
     let sequence = c.sequence;
     let joined = c.joined;
     let x = [
-        sequence.given(),
-        sequence.or_zero() as u64,
-        joined.given(),
-        joined.or_zero() as u64,
+        maybe::given(sequence),
+        sequence.unwrap_or(0) as u64,
+        maybe::given(joined),
+        joined.unwrap_or(0) as u64,
     ];
     values::says(v, &x)
 }
 
-fn control_said(r: ControlReading, v: &mut [u64]) -> u8
+fn control_said(r: Result<Option<ControlState>, Refusal>, v: &mut [u64]) -> u8
     requires { length v.old ≡ 16 }
     ensures { Replied (control_said r) result v.old v.new }
 {
     match r {
-        ControlReading::Refused(n) => n,
-        ControlReading::Nothing => values::NOTHING,
-        ControlReading::Control(c) => control_told(c, v),
+        Err(e) => e.number(),
+        Ok(None) => values::NOTHING,
+        Ok(Some(c)) => control_told(c, v),
     }
 }
 
@@ -484,18 +533,24 @@ pub extern "C" fn isdb_control(
 ) -> u8
     ensures { Replied (control_said (control_read (lent state.now others.now objects.now messages.now tables.now) id)) result v.old v.new }
 {
-    let r = ids::control(state, others, objects, messages, tables, id);
-    control_said(r, v)
+    let session = Session {
+        state,
+        others,
+        objects,
+        messages,
+        tables,
+    };
+    control_said(session.control(id), v)
 }
 
-fn table_said(r: TableReading, v: &mut [u64]) -> u8
+fn table_said(r: Result<Option<Part>, Refusal>, v: &mut [u64]) -> u8
     requires { length v.old ≡ 16 }
     ensures { Replied (table_said r) result v.old v.new }
 {
     match r {
-        TableReading::Refused(n) => n,
-        TableReading::Nothing => values::NOTHING,
-        TableReading::Bytes(p) => values::says(v, &[p.start as u64, p.length as u64]),
+        Err(e) => e.number(),
+        Ok(None) => values::NOTHING,
+        Ok(Some(p)) => values::says(v, &[p.start as u64, p.length as u64]),
     }
 }
 
@@ -512,8 +567,14 @@ pub extern "C" fn isdb_section(
 ) -> u8
     ensures { Replied (table_said (section_read (lent state.now others.now objects.now messages.now tables.now) key)) result v.old v.new }
 {
-    let r = kept::section(state, others, objects, messages, tables, key);
-    table_said(r, v)
+    let session = Session {
+        state,
+        others,
+        objects,
+        messages,
+        tables,
+    };
+    table_said(session.section(key), v)
 }
 
 // The MPT kept for a packet id of control messages.
@@ -529,8 +590,14 @@ pub extern "C" fn isdb_mpt(
 ) -> u8
     ensures { Replied (table_said (mpt_read (lent state.now others.now objects.now messages.now tables.now) control_id)) result v.old v.new }
 {
-    let r = kept::mpt(state, others, objects, messages, tables, control_id);
-    table_said(r, v)
+    let session = Session {
+        state,
+        others,
+        objects,
+        messages,
+        tables,
+    };
+    table_said(session.mpt(control_id), v)
 }
 
 // The kept PLT.
@@ -545,8 +612,14 @@ pub extern "C" fn isdb_plt(
 ) -> u8
     ensures { Replied (table_said (plt_read (lent state.now others.now objects.now messages.now tables.now))) result v.old v.new }
 {
-    let r = kept::plt(state, others, objects, messages, tables);
-    table_said(r, v)
+    let session = Session {
+        state,
+        others,
+        objects,
+        messages,
+        tables,
+    };
+    table_said(session.plt(), v)
 }
 
 // The kept TOT.
@@ -561,8 +634,14 @@ pub extern "C" fn isdb_tot(
 ) -> u8
     ensures { Replied (table_said (tot_read (lent state.now others.now objects.now messages.now tables.now))) result v.old v.new }
 {
-    let r = kept::tot(state, others, objects, messages, tables);
-    table_said(r, v)
+    let session = Session {
+        state,
+        others,
+        objects,
+        messages,
+        tables,
+    };
+    table_said(session.tot(), v)
 }
 
 fn asset_told(x: CarriedAsset, v: &mut [u64]) -> u8
@@ -578,14 +657,14 @@ fn asset_told(x: CarriedAsset, v: &mut [u64]) -> u8
         x.control_id as u64,
         m.start as u64,
         m.length as u64,
-        service.given(),
-        service.or_zero() as u64,
+        maybe::given(service),
+        service.unwrap_or(0) as u64,
         a.identifier_type as u64,
         a.asset_id_scheme as u64,
         id.start as u64,
         id.length as u64,
         a.asset_type as u64,
-        maybe::flag(a.clock_relation),
+        u64::from(a.clock_relation),
         a.locations as u64,
         a.locations_start as u64,
         d.start as u64,
@@ -594,14 +673,14 @@ fn asset_told(x: CarriedAsset, v: &mut [u64]) -> u8
     values::says(v, &n)
 }
 
-fn asset_said(r: AssetReading, v: &mut [u64]) -> u8
+fn asset_said(r: Result<Option<CarriedAsset>, Refusal>, v: &mut [u64]) -> u8
     requires { length v.old ≡ 16 }
     ensures { Replied (asset_said r) result v.old v.new }
 {
     match r {
-        AssetReading::Refused(n) => n,
-        AssetReading::Nothing => values::NOTHING,
-        AssetReading::Asset(x) => asset_told(x, v),
+        Err(e) => e.number(),
+        Ok(None) => values::NOTHING,
+        Ok(Some(x)) => asset_told(x, v),
     }
 }
 
@@ -618,6 +697,12 @@ pub extern "C" fn isdb_asset_of(
 ) -> u8
     ensures { Replied (asset_said (asset_read (lent state.now others.now objects.now messages.now tables.now) packet_id)) result v.old v.new }
 {
-    let r = kept::asset_of(state, others, objects, messages, tables, packet_id);
-    asset_said(r, v)
+    let session = Session {
+        state,
+        others,
+        objects,
+        messages,
+        tables,
+    };
+    asset_said(session.asset_of(packet_id), v)
 }

@@ -14,15 +14,15 @@ ghost use Rattle.isdb_host.specs.Tables.{event_said, service_said, broadcaster_s
 
 use crate::{fields, values};
 use isdb_mmt::maybe;
-use isdb_mmt::table::amt::{AmtResult, AmtStep};
-use isdb_mmt::table::bit::{BitParsed, BitResult, BroadcasterStep};
-use isdb_mmt::table::eit::{EitParsed, EitResult, EventStep};
-use isdb_mmt::table::mpt::{AssetStep, MaybeMpt, MptParsed};
-use isdb_mmt::table::nit::{NitResult, StreamStep};
-use isdb_mmt::table::plt::{DeliveryStep, MaybePlt, PackageStep};
-use isdb_mmt::table::sdt::{SdtParsed, SdtResult, SdtStep};
-use isdb_mmt::table::section::SectionHeader;
-use isdb_mmt::table::tot::{TotParsed, TotResult};
+use isdb_mmt::table::amt::{Amt, AmtService};
+use isdb_mmt::table::bit::{Bit, BroadcasterStep};
+use isdb_mmt::table::eit::{Eit, EventStep};
+use isdb_mmt::table::mpt::{Asset, MptParsed};
+use isdb_mmt::table::nit::{Nit, StreamStep};
+use isdb_mmt::table::plt::{IpDelivery, Package, Plt};
+use isdb_mmt::table::sdt::{Sdt, SdtStep};
+use isdb_mmt::table::section::{Parsed, SectionError, SectionHeader};
+use isdb_mmt::table::tot::Tot;
 use isdb_mmt::table::{amt, bit, eit, mpt, nit, plt, sdt, tot};
 
 fn mpt_said(r: MptParsed, t: &[u8], v: &mut [u64]) -> u8
@@ -31,8 +31,8 @@ fn mpt_said(r: MptParsed, t: &[u8], v: &mut [u64]) -> u8
 {
     let m = r.mpt;
     match m {
-        MaybeMpt::None => values::MALFORMED,
-        MaybeMpt::Some(m) => {
+        None => values::MALFORMED,
+        Some(m) => {
             let id = m.package_id;
             let d = m.descriptors;
             let service = m.service_id(t);
@@ -48,8 +48,8 @@ fn mpt_said(r: MptParsed, t: &[u8], v: &mut [u64]) -> u8
                     d.length as u64,
                     m.assets as u64,
                     m.start as u64,
-                    service.given(),
-                    service.or_zero() as u64,
+                    maybe::given(service),
+                    service.unwrap_or(0) as u64,
                     r.breaks as u64,
                 ],
             )
@@ -66,13 +66,13 @@ pub extern "C" fn isdb_mpt_parse(t: &[u8], v: &mut [u64; 16]) -> u8
     mpt_said(r, t, v)
 }
 
-fn asset_said(r: AssetStep, t: &[u8], v: &mut [u64]) -> u8
+fn asset_said(r: Option<(Asset, usize)>, t: &[u8], v: &mut [u64]) -> u8
     requires { length v.old ≡ 16 }
     ensures { Replied (asset_said t.now r) result v.old v.new }
 {
     match r {
-        AssetStep::Malformed => values::MALFORMED,
-        AssetStep::Asset(a, next) => {
+        None => values::MALFORMED,
+        Some((a, next)) => {
             let id = a.asset_id;
             let d = a.descriptors;
             let packet_id = a.packet_id(t);
@@ -84,13 +84,13 @@ fn asset_said(r: AssetStep, t: &[u8], v: &mut [u64]) -> u8
                     id.start as u64,
                     id.length as u64,
                     a.asset_type as u64,
-                    maybe::flag(a.clock_relation),
+                    u64::from(a.clock_relation),
                     a.locations as u64,
                     a.locations_start as u64,
                     d.start as u64,
                     d.length as u64,
-                    packet_id.given(),
-                    packet_id.or_zero() as u64,
+                    maybe::given(packet_id),
+                    packet_id.unwrap_or(0) as u64,
                     next as u64,
                 ],
             )
@@ -107,13 +107,13 @@ pub extern "C" fn isdb_asset_at(t: &[u8], at: usize, v: &mut [u64; 16]) -> u8
     asset_said(r, t, v)
 }
 
-fn plt_said(r: MaybePlt, v: &mut [u64]) -> u8
+fn plt_said(r: Option<Plt>, v: &mut [u64]) -> u8
     requires { length v.old ≡ 16 }
     ensures { Replied (plt_said r) result v.old v.new }
 {
     match r {
-        MaybePlt::None => values::MALFORMED,
-        MaybePlt::Some(p) => {
+        None => values::MALFORMED,
+        Some(p) => {
             values::says(
                 v,
                 &[
@@ -136,13 +136,13 @@ pub extern "C" fn isdb_plt_parse(t: &[u8], v: &mut [u64; 16]) -> u8
     plt_said(r, v)
 }
 
-fn package_said(r: PackageStep, v: &mut [u64]) -> u8
+fn package_said(r: Option<(Package, usize)>, v: &mut [u64]) -> u8
     requires { length v.old ≡ 16 }
     ensures { Replied (package_said r) result v.old v.new }
 {
     match r {
-        PackageStep::Malformed => values::MALFORMED,
-        PackageStep::Package(p, next) => {
+        None => values::MALFORMED,
+        Some((p, next)) => {
             let id = p.package_id;
             values::says(
                 v,
@@ -166,13 +166,13 @@ pub extern "C" fn isdb_package_at(t: &[u8], at: usize, v: &mut [u64; 16]) -> u8
     package_said(r, v)
 }
 
-fn delivery_said(r: DeliveryStep, v: &mut [u64]) -> u8
+fn delivery_said(r: Option<(IpDelivery, usize)>, v: &mut [u64]) -> u8
     requires { length v.old ≡ 16 }
     ensures { Replied (delivery_said r) result v.old v.new }
 {
     match r {
-        DeliveryStep::Malformed => values::MALFORMED,
-        DeliveryStep::Delivery(d, next) => {
+        None => values::MALFORMED,
+        Some((d, next)) => {
             values::says(
                 v,
                 &[
@@ -204,7 +204,7 @@ fn says_section(v: &mut [u64], h: SectionHeader, more: &[u64]) -> u8
         h.table_id as u64,
         h.extension as u64,
         h.version as u64,
-        maybe::flag(h.current),
+        u64::from(h.current),
         h.section_number as u64,
         h.last_section_number as u64,
         body.start as u64,
@@ -221,14 +221,14 @@ fn says_section(v: &mut [u64], h: SectionHeader, more: &[u64]) -> u8
     values::says(v, &numbers)
 }
 
-fn eit_said(r: EitParsed, v: &mut [u64]) -> u8
+fn eit_said(r: Parsed<(SectionHeader, Eit)>, v: &mut [u64]) -> u8
     requires { length v.old ≡ 16 }
     ensures { Replied (eit_said r) result v.old v.new }
 {
     let q = r.result;
     match q {
-        EitResult::Err(e) => fields::reason(e),
-        EitResult::Ok(h, t) => {
+        Err(e) => fields::reason(e),
+        Ok((h, t)) => {
             says_section(
                 v,
                 h,
@@ -254,14 +254,14 @@ pub extern "C" fn isdb_eit_parse(section: &[u8], v: &mut [u64; 16]) -> u8
     eit_said(r, v)
 }
 
-fn sdt_said(r: SdtParsed, v: &mut [u64]) -> u8
+fn sdt_said(r: Parsed<(SectionHeader, Sdt)>, v: &mut [u64]) -> u8
     requires { length v.old ≡ 16 }
     ensures { Replied (sdt_said r) result v.old v.new }
 {
     let q = r.result;
     match q {
-        SdtResult::Err(e) => fields::reason(e),
-        SdtResult::Ok(h, t) => {
+        Err(e) => fields::reason(e),
+        Ok((h, t)) => {
             says_section(
                 v,
                 h,
@@ -284,20 +284,20 @@ pub extern "C" fn isdb_sdt_parse(section: &[u8], v: &mut [u64; 16]) -> u8
     sdt_said(r, v)
 }
 
-fn bit_said(r: BitParsed, v: &mut [u64]) -> u8
+fn bit_said(r: Parsed<(SectionHeader, Bit)>, v: &mut [u64]) -> u8
     requires { length v.old ≡ 16 }
     ensures { Replied (bit_said r) result v.old v.new }
 {
     let q = r.result;
     match q {
-        BitResult::Err(e) => fields::reason(e),
-        BitResult::Ok(h, t) => {
+        Err(e) => fields::reason(e),
+        Ok((h, t)) => {
             let d = t.descriptors;
             says_section(
                 v,
                 h,
                 &[
-                    maybe::flag(t.broadcast_view_propriety),
+                    u64::from(t.broadcast_view_propriety),
                     d.start as u64,
                     d.length as u64,
                     t.broadcasters as u64,
@@ -317,13 +317,13 @@ pub extern "C" fn isdb_bit_parse(section: &[u8], v: &mut [u64; 16]) -> u8
     bit_said(r, v)
 }
 
-fn nit_said(r: NitResult, v: &mut [u64]) -> u8
+fn nit_said(r: Result<(SectionHeader, Nit), SectionError>, v: &mut [u64]) -> u8
     requires { length v.old ≡ 16 }
     ensures { Replied (nit_said r) result v.old v.new }
 {
     match r {
-        NitResult::Err(e) => fields::reason(e),
-        NitResult::Ok(h, t) => {
+        Err(e) => fields::reason(e),
+        Ok((h, t)) => {
             let d = t.descriptors;
             let streams = t.loop_part;
             says_section(
@@ -350,13 +350,13 @@ pub extern "C" fn isdb_nit_parse(section: &[u8], v: &mut [u64; 16]) -> u8
     nit_said(r, v)
 }
 
-fn amt_said(r: AmtResult, v: &mut [u64]) -> u8
+fn amt_said(r: Result<(SectionHeader, Amt), SectionError>, v: &mut [u64]) -> u8
     requires { length v.old ≡ 16 }
     ensures { Replied (amt_said r) result v.old v.new }
 {
     match r {
-        AmtResult::Err(e) => fields::reason(e),
-        AmtResult::Ok(h, t) => says_section(v, h, &[t.services as u64]),
+        Err(e) => fields::reason(e),
+        Ok((h, t)) => says_section(v, h, &[t.services as u64]),
     }
 }
 
@@ -369,14 +369,14 @@ pub extern "C" fn isdb_amt_parse(section: &[u8], v: &mut [u64; 16]) -> u8
     amt_said(r, v)
 }
 
-fn tot_said(r: TotParsed, v: &mut [u64]) -> u8
+fn tot_said(r: Parsed<Tot>, v: &mut [u64]) -> u8
     requires { length v.old ≡ 16 }
     ensures { Replied (tot_said r) result v.old v.new }
 {
     let q = r.result;
     match q {
-        TotResult::Err(e) => fields::reason(e),
-        TotResult::Ok(t) => {
+        Err(e) => fields::reason(e),
+        Ok(t) => {
             let d = t.descriptors;
             values::says(
                 v,
@@ -411,7 +411,7 @@ fn event_said(r: EventStep, v: &mut [u64]) -> u8
                     x.start,
                     x.duration as u64,
                     x.running_status as u64,
-                    maybe::flag(x.free_ca),
+                    u64::from(x.free_ca),
                     d.start as u64,
                     d.length as u64,
                     next as u64,
@@ -444,10 +444,10 @@ fn service_said(r: SdtStep, v: &mut [u64]) -> u8
                 &[
                     x.service_id as u64,
                     x.eit_user_defined_flags as u64,
-                    maybe::flag(x.eit_schedule),
-                    maybe::flag(x.eit_present_following),
+                    u64::from(x.eit_schedule),
+                    u64::from(x.eit_present_following),
                     x.running_status as u64,
-                    maybe::flag(x.free_ca),
+                    u64::from(x.free_ca),
                     d.start as u64,
                     d.length as u64,
                     next as u64,
@@ -529,13 +529,13 @@ pub extern "C" fn isdb_stream_at(streams: &[u8], at: usize, v: &mut [u64; 16]) -
     stream_said(r, v)
 }
 
-fn flow_said(r: AmtStep, v: &mut [u64]) -> u8
+fn flow_said(r: Option<(AmtService, usize)>, v: &mut [u64]) -> u8
     requires { length v.old ≡ 16 }
     ensures { Replied (flow_said r) result v.old v.new }
 {
     match r {
-        AmtStep::Malformed => values::MALFORMED,
-        AmtStep::Service(x, next) => {
+        None => values::MALFORMED,
+        Some((x, next)) => {
             let src = x.src;
             let dst = x.dst;
             values::says(

@@ -22,10 +22,8 @@ pub(crate) fn says(v: &mut [u64], values: &[u64]) -> u8
     requires { length v.old ≡ 16 }
     ensures { Replied (Reply.says values.now) result v.old v.new }
 {
-    let mut i = 0;
-    while i < v.len() {
-        v[i] = number_at(values, i);
-        i += 1;
+    for (i, x) in v.iter_mut().enumerate() {
+        *x = number_at(values, i);
     }
     0
 }

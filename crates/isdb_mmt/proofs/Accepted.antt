@@ -1,7 +1,7 @@
 -- What an accepted push stores fits its fields, so that the session after it is the model's next state and has bytes alone; and so
 -- after every list of accepted pushes from an opened session. Assumes nothing.
+use Rattle.std.specs.Prelude.{Option, None, Some}
 use Rattle.std.proofs.Common.{◌≡◌, ℕ, ◌+◌, ◌*◌, ◌<◌, ◌≤◌, true, List, [], ◌∷◌, ◌++◌, length, refl, ap, ◌∙◌, arith}
-use mathlib.Core.Option.{Option, none, some}
 use Rattle.isdb_tlv.specs.Fields.{Field, field, written}
 use Rattle.isdb_mmt.specs.Decoder.Packet.{Bytes, Packet, classify, ip_error, ntp, non_mmtp_of, media, message, control, other}
 use Rattle.isdb_mmt.specs.Decoder.Reassembly.{PartialMessage}
@@ -48,12 +48,12 @@ all_kept area small (e ∷ es) h =
     (record { fields = section_place_lem area e.0 e.1 small h.0; short = h.0.fits }, all_kept area small es h.1)
 
 table_short : (area : ℕ) (o : Option Bytes) → TableOk area o → table_length o ≤ area
-table_short area none h = omega arith
-table_short area (some b) h = h.0
+table_short area None h = omega arith
+table_short area (Some b) h = h.0
 
 join_short : (area : ℕ) (o : Option PartialMessage) → JoinFits area o → partial_length o ≤ area
-join_short area none h = omega arith
-join_short area (some j) h = h.0
+join_short area None h = omega arith
+join_short area (Some j) h = h.0
 
 -- the places in use are the entries of the view
 module _ (s : Session) where
@@ -113,8 +113,8 @@ module _ (s : Session) (q : Sound s.state s.others (lengths_of s)) (h : Lent s) 
   stores_of ip_error e = rw e at tables_fit.counters
   stores_of non_mmtp_of e = rw e at tables_fit.counters
   stores_of other e = rw e at tables_fit.counters
-  stores_of (ntp none) e = rw e at tables_fit.counters
-  stores_of (ntp (some t)) e = (rw e at tables_fit.counters, rw e at (packet_ok kind b (omega (arith, short)) o))
+  stores_of (ntp None) e = rw e at tables_fit.counters
+  stores_of (ntp (Some t)) e = (rw e at tables_fit.counters, rw e at (packet_ok kind b (omega (arith, short)) o))
   stores_of (media m) e = media_fits s q h kind b short o m e (rw e at f.object)
   stores_of (message c) e =
       let i : PacketOk (message c) = rw e at (packet_ok kind b (omega (arith, short)) o) in
@@ -127,16 +127,16 @@ module _ (s : Session) (q : Sound s.state s.others (lengths_of s)) (h : Lent s) 
   -- ---- bytes stay bytes
 
   held_lent : (at : ℕ) (u : Option Mfu) → HeldOk u → (t : Bytes) → Octets t → Octets (held_over at u t)
-  held_lent at none k t y = y
-  held_lent at (some u) k t y = octets_over at u.bytes t k.octets y
+  held_lent at None k t y = y
+  held_lent at (Some u) k t y = octets_over at u.bytes t k.octets y
 
   laid_lent : (area at : ℕ) (u : Option Bytes) → TableOk area u → (t : Bytes) → Octets t → Octets (bytes_over at u t)
-  laid_lent area at none k t y = y
-  laid_lent area at (some u) k t y = octets_over at u t k.1 y
+  laid_lent area at None k t y = y
+  laid_lent area at (Some u) k t y = octets_over at u t k.1 y
 
   joined_lent : (area at : ℕ) (u : Option PartialMessage) → JoinFits area u → (t : Bytes) → Octets t → Octets (bytes_over at (joined_in u) t)
-  joined_lent area at none k t y = y
-  joined_lent area at (some j) k t y = octets_over at j.bytes t k.1 y
+  joined_lent area at None k t y = y
+  joined_lent area at (Some j) k t y = octets_over at j.bytes t k.1 y
 
   kept_lent : (area : ℕ) (es : List (ℕ × Kept)) → Every (KeptOk area) es → (i : ℕ) (t : Bytes) → Octets t → Octets (kept_over area i es t)
   unfolding kept_over
@@ -209,9 +209,9 @@ module _ (s : Session) (q : Sound s.state s.others (lengths_of s)) (h : Lent s) 
   by_packet ip_error e k = with_state _ (counted_lent (pushed (view s) ip_error) s.state h.state)
   by_packet non_mmtp_of e k = with_state _ (counted_lent (pushed (view s) non_mmtp_of) s.state h.state)
   by_packet other e k = with_state _ (counted_lent (pushed (view s) other) s.state h.state)
-  by_packet (ntp none) e k = with_state _ (counted_lent (pushed (view s) (ntp none)) s.state h.state)
-  by_packet (ntp (some t)) e k =
-      with_state _ (counted_lent (pushed (view s) (ntp (some t))) (with_time (some t) s.state) (octets_over _ _ _ (octets_written (time_fields (record { seen = true; timestamp = t }))) h.state))
+  by_packet (ntp None) e k = with_state _ (counted_lent (pushed (view s) (ntp None)) s.state h.state)
+  by_packet (ntp (Some t)) e k =
+      with_state _ (counted_lent (pushed (view s) (ntp (Some t))) (with_time (Some t) s.state) (octets_over _ _ _ (octets_written (time_fields (record { seen = true; timestamp = t }))) h.state))
   by_packet (media m) e k =
       let y : PacketOk (media m) = rw e at (packet_ok kind b (omega (arith, short)) o) in
       let z : Plain (media m) = rw e at (plain_of kind b (omega (arith, short)) o) in

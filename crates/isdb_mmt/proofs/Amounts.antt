@@ -1,7 +1,14 @@
 -- How much a packet's bytes can hold: units, messages, tables, descriptor loops that break. Each takes bytes of its own, so there
 -- are no more of them than bytes. Assumes nothing.
+use Rattle.isdb_mmt.specs.declared.table.sdt.Sdt.{Sdt}
+use Rattle.isdb_mmt.specs.declared.table.eit.Eit.{Eit}
+use Rattle.isdb_mmt.specs.declared.table.bit.Bit.{Bit}
+use Rattle.isdb_mmt.specs.declared.table.tot.Tot.{Tot}
+use Rattle.isdb_mmt.specs.declared.table.section.Parsed.{Parsed}
+use Rattle.std.specs.Prelude.{Err, None, Ok, Result, Some, Option}
+use Rattle.isdb_mmt.specs.declared.table.mpt.Asset.{Asset}
+use Rattle.isdb_mmt.specs.declared.location.Location.{Location}
 use Rattle.std.proofs.Common.{◌≡◌, ℕ, zero, suc, ◌+◌, ◌-◌, ◌<◌, ◌≤◌, Bool, not, eqb, ltb, leb, List, [], ◌∷◌, ◌++◌, length, get_or, take, drop, refl, arith, length-append, length-drop, length-take, ltb-false}
-use mathlib.Core.Option.{Option, none, some}
 use Rattle.isdb_tlv.specs.Bytes.{be}
 use Rattle.isdb_tlv.specs.Crc.{crc_of}
 use Rattle.isdb_tlv.specs.Walk.{Next, stop, more, turn, run, also}
@@ -20,8 +27,6 @@ use Rattle.isdb_mmt.specs.Formats.Location.{location_of}
 use Rattle.isdb_mmt.specs.Decoder.Reassembly.{PartialMessage, TablesFound, parts_of, tables_in, tables_of, tables_of_all, messages_of, cut_of}
 use Rattle.isdb_mmt.specs.Decoder.Kept.{section_of, body_read, Body, Table, empty_table, mpt_table, plt_table, tot_table, truncated_section, a_section, other_table, table_read}
 use Rattle.isdb_mmt.specs.declared.part.Part.{Part}
-use Rattle.isdb_mmt.specs.declared.location.Located.{Located}
-use Rattle.isdb_mmt.specs.declared.location.Located.TheVariants.{None as not_located, Some as located}
 use Rattle.isdb_mmt.specs.declared.message.MessageStep.{MessageStep}
 use Rattle.isdb_mmt.specs.declared.message.TableStep.{TableStep}
 use Rattle.isdb_mmt.specs.declared.message.Content.{Content}
@@ -30,18 +35,8 @@ use Rattle.isdb_mmt.specs.declared.mpu.Unit.{Unit as DataUnit}
 use Rattle.isdb_mmt.specs.declared.mpu.UnitStep.{UnitStep}
 use Rattle.isdb_mmt.specs.declared.mpu.UnitStep.TheVariants.{End, Malformed, Unit as found}
 use Rattle.isdb_mmt.specs.declared.table.section.SectionError.{SectionError}
-use Rattle.isdb_mmt.specs.declared.table.section.LongSection.{LongSection}
-use Rattle.isdb_mmt.specs.declared.table.section.LongSection.TheVariants.{Ok, Err}
 use Rattle.isdb_mmt.specs.declared.table.section.SectionHeader.{SectionHeader}
-use Rattle.isdb_mmt.specs.declared.table.eit.EitParsed.{EitParsed}
-use Rattle.isdb_mmt.specs.declared.table.sdt.SdtParsed.{SdtParsed}
-use Rattle.isdb_mmt.specs.declared.table.bit.BitParsed.{BitParsed}
-use Rattle.isdb_mmt.specs.declared.table.tot.TotParsed.{TotParsed}
 use Rattle.isdb_mmt.specs.declared.table.mpt.MptParsed.{MptParsed}
-use Rattle.isdb_mmt.specs.declared.maybe.MaybeUsize.{MaybeUsize}
-use Rattle.isdb_mmt.specs.declared.maybe.MaybeUsize.TheVariants.{None as nowhere, Some as At}
-use Rattle.isdb_mmt.specs.declared.table.mpt.AssetStep.{AssetStep}
-use Rattle.isdb_mmt.specs.declared.table.mpt.AssetStep.TheVariants.{Malformed as bad_asset, Asset as asset}
 use Rattle.isdb_mmt.proofs.Units.{Inside, unit_inside}
 use Rattle.isdb_mmt.proofs.AggregatedMessages.{width_ge}
 use Rattle.isdb_mmt.proofs.Entries.{broken_le, breaks_le}
@@ -66,7 +61,7 @@ module _ {R : Type 0} (size : R → ℕ) (n : ℕ) where
 -- ---- units
 
 -- what a unit adds is no more than the bytes that it takes
-module _ (s : Bytes) (timed aggregated : Bool) (size : Option (List DataUnit) → ℕ) (none-size : size none ≡ 0) (end-size : size (some []) ≡ 0)
+module _ (s : Bytes) (timed aggregated : Bool) (size : Option (List DataUnit) → ℕ) (none-size : size None ≡ 0) (end-size : size (Some []) ≡ 0)
     (also-size : (at next : ℕ) (u : DataUnit) (o : Option (List DataUnit)) → Inside s at (found u next) → size (also u o) ≤ size o + (next - at)) where
   unit_grows : (at : ℕ) (d : UnitStep) → Inside s at d → Grows size (length s) at (item d)
   unit_grows at End w = omega (arith, end-size)
@@ -80,16 +75,16 @@ module _ (s : Bytes) (timed aggregated : Bool) (size : Option (List DataUnit) �
   pub units_grow : size (units_of s timed aggregated) ≤ length s
   unfolding units_of units_from
   units_grow =
-      let h = grows_within size (length s) (λ p. item (unit_step s timed aggregated p)) (λ p. none) (λ p. none-size) (λ p. unit_grows p (unit_step s timed aggregated p) (unit_inside s timed aggregated p)) (suc (length s)) 8 in
+      let h = grows_within size (length s) (λ p. item (unit_step s timed aggregated p)) (λ p. None) (λ p. none-size) (λ p. unit_grows p (unit_step s timed aggregated p) (unit_inside s timed aggregated p)) (suc (length s)) 8 in
       omega (arith, h)
 
 abbrev pub unit_count : Option (List DataUnit) → ℕ
-unit_count none = 0
-unit_count (some l) = length l
+unit_count None = 0
+unit_count (Some l) = length l
 
 count_also : (u : DataUnit) (o : Option (List DataUnit)) → unit_count (also u o) ≤ unit_count o + 1
-count_also u none = omega arith
-count_also u (some l) = omega arith
+count_also u None = omega arith
+count_also u (Some l) = omega arith
 
 pub units_le : (s : Bytes) (timed aggregated : Bool) → unit_count (units_of s timed aggregated) ≤ length s
 units_le s timed aggregated = units_grow s timed aggregated unit_count refl refl (λ at next u o w. omega (arith, w.ahead, count_also u o))
@@ -247,16 +242,16 @@ entries_break s k at = breaks_le s k at {r = entries_told (entries_from s k at)}
 
 eit_body_lem : (h : SectionHeader) (s : Bytes) → (eit_body h s).breaks ≤ length s
 unfolding eit_body
-eit_body_lem h s = cond_elim (λ (x : EitParsed). x.breaks ≤ length s) (ltb (length s) 6) (λ e. omega arith) (λ e. omega (arith, entries_break s 10 6))
+eit_body_lem h s = cond_elim (λ (x : Parsed (SectionHeader × Eit)). x.breaks ≤ length s) (ltb (length s) 6) (λ e. omega arith) (λ e. omega (arith, entries_break s 10 6))
 
 sdt_body_lem : (h : SectionHeader) (s : Bytes) → (sdt_body h s).breaks ≤ length s
 unfolding sdt_body
-sdt_body_lem h s = cond_elim (λ (x : SdtParsed). x.breaks ≤ length s) (ltb (length s) 2) (λ e. omega arith) (λ e. omega (arith, entries_break s 3 3))
+sdt_body_lem h s = cond_elim (λ (x : Parsed (SectionHeader × Sdt)). x.breaks ≤ length s) (ltb (length s) 2) (λ e. omega arith) (λ e. omega (arith, entries_break s 3 3))
 
 bit_body_lem : (h : SectionHeader) (s : Bytes) → (bit_body h s).breaks ≤ length s
 unfolding bit_body
 bit_body_lem h s =
-    let P : BitParsed → Type 0 = λ x. x.breaks ≤ length s in
+    let P : Parsed (SectionHeader × Bit) → Type 0 = λ x. x.breaks ≤ length s in
     cond_elim P (ltb (length s) 2) (λ e. omega arith) (λ e.
     cond_elim P (ltb (length s) (length12 s 0 + 2)) (λ d. omega arith) (λ d.
     let a = ltb-false (length s) (length12 s 0 + 2) d in
@@ -266,21 +261,21 @@ bit_body_lem h s =
 -- so no more break in a whole section
 in_section_lem : {R : Type 0} (breaks : R → ℕ) (refused : SectionError → R) (read : SectionHeader → Bytes → R)
     → ((e : SectionError) → breaks (refused e) ≡ 0) → ((h : SectionHeader) (b : Bytes) → breaks (read h b) ≤ length b)
-    → (s : Bytes) (x : LongSection) → breaks (in_section refused read s x) ≤ length s
+    → (s : Bytes) (x : Result SectionHeader SectionError) → breaks (in_section refused read s x) ≤ length s
 in_section_lem breaks refused read clean few s (Err e) = omega (arith, clean e)
 in_section_lem breaks refused read clean few s (Ok h) = omega (arith, few h (part_of s h.body), part_in s h.body)
 
 eit_breaks : (s : Bytes) → (eit_of s).breaks ≤ length s
 unfolding eit_of
-eit_breaks s = in_section_lem (λ (r : EitParsed). r.breaks) _ eit_body (λ e. refl) eit_body_lem s (long_section_of s)
+eit_breaks s = in_section_lem (λ (r : Parsed (SectionHeader × Eit)). r.breaks) _ eit_body (λ e. refl) eit_body_lem s (long_section_of s)
 
 sdt_breaks : (s : Bytes) → (sdt_of s).breaks ≤ length s
 unfolding sdt_of
-sdt_breaks s = in_section_lem (λ (r : SdtParsed). r.breaks) _ sdt_body (λ e. refl) sdt_body_lem s (long_section_of s)
+sdt_breaks s = in_section_lem (λ (r : Parsed (SectionHeader × Sdt)). r.breaks) _ sdt_body (λ e. refl) sdt_body_lem s (long_section_of s)
 
 bit_breaks : (s : Bytes) → (bit_of s).breaks ≤ length s
 unfolding bit_of
-bit_breaks s = in_section_lem (λ (r : BitParsed). r.breaks) _ bit_body (λ e. refl) bit_body_lem s (long_section_of s)
+bit_breaks s = in_section_lem (λ (r : Parsed (SectionHeader × Bit)). r.breaks) _ bit_body (λ e. refl) bit_body_lem s (long_section_of s)
 
 pub body_breaks : (id : ℕ) (s : Bytes) → (body_read id s).breaks ≤ length s
 unfolding body_read
@@ -296,7 +291,7 @@ body_breaks id s =
 tot_breaks : (s : Bytes) → (tot_of s).breaks ≤ length s
 unfolding tot_of tot_fields
 tot_breaks s =
-    let P : TotParsed → Type 0 = λ x. x.breaks ≤ length s in
+    let P : Parsed Tot → Type 0 = λ x. x.breaks ≤ length s in
     let n = length12 s 1 + 3 in
     cond_elim P (ltb (length s) 3) (λ e. omega arith) (λ e.
     cond_elim P (ltb (length12 s 1) 11) (λ e. omega arith) (λ e1.
@@ -309,30 +304,30 @@ tot_breaks s =
 
 -- assets go on ahead
 module _ (s : Bytes) where
-  abbrev Behind : ℕ → MaybeUsize → Type 0
-  Behind at nowhere = Unit {0}
-  Behind at (At p) = at ≤ p
+  abbrev Behind : ℕ → Option ℕ → Type 0
+  Behind at None = Unit {0}
+  Behind at (Some p) = at ≤ p
 
-  behind_on : (go : ℕ → MaybeUsize) → ((p : ℕ) → Behind p (go p)) → (at : ℕ) (d : Located) → Behind at (turn go (behind_location at d))
-  behind_on go h at not_located = tt
-  behind_on go h at (located l taken) = further (go (at + taken)) (h (at + taken))
+  behind_on : (go : ℕ → Option ℕ) → ((p : ℕ) → Behind p (go p)) → (at : ℕ) (d : Option (Location × ℕ)) → Behind at (turn go (behind_location at d))
+  behind_on go h at None = tt
+  behind_on go h at (Some (l, taken)) = further (go (at + taken)) (h (at + taken))
     where
-      further : (p : MaybeUsize) → Behind (at + taken) p → Behind at p
-      further nowhere b = tt
-      further (At p) b = omega arith
+      further : (p : Option ℕ) → Behind (at + taken) p → Behind at p
+      further None b = tt
+      further (Some p) b = omega arith
 
   locations_behind : (n at : ℕ) → Behind at (locations_end n s at)
   locations_behind zero at = omega arith
   locations_behind (suc n) at = behind_on (locations_end n s) (locations_behind n) at (location_of (drop at s))
 
-  abbrev Leads : ℕ → AssetStep → Type 0
-  Leads at bad_asset = Unit {0}
-  Leads at (asset a next) = (at < next) × (next ≤ length s)
+  abbrev Leads : ℕ → Option (Asset × ℕ) → Type 0
+  Leads at None = Unit {0}
+  Leads at (Some (a, next)) = (at < next) × (next ≤ length s)
 
-  behind_leads : (p q start : ℕ) → p < start → (e : MaybeUsize) → Behind start e → Leads p (asset_behind s p q e)
+  behind_leads : (p q start : ℕ) → p < start → (e : Option ℕ) → Behind start e → Leads p (asset_behind s p q e)
   unfolding asset_fields
-  behind_leads p q start h nowhere b = tt
-  behind_leads p q start h (At end) b =
+  behind_leads p q start h None b = tt
+  behind_leads p q start h (Some end) b =
       cond_elim (Leads p) (ltb (length s - end) 2) (λ e. tt) (λ e.
       cond_elim (Leads p) (ltb (length s - (end + 2)) (be 2 s end)) (λ d. tt) (λ d.
       let x = ltb-false (length s - end) 2 e in
@@ -348,10 +343,10 @@ module _ (s : Bytes) where
       cond_elim (Leads p) (ltb (length s - q) 6) (λ e. tt) (λ e.
       behind_leads p q (q + 6) (omega arith) (locations_end (get_or s (q + 5) 0) s (q + 6)) (locations_behind (get_or s (q + 5) 0) (q + 6)))))
 
-  assets_then : (n at : ℕ) → ((p : ℕ) → (assets_from n s p).breaks ≤ length s - p) → (d : AssetStep) → Leads at d
+  assets_then : (n at : ℕ) → ((p : ℕ) → (assets_from n s p).breaks ≤ length s - p) → (d : Option (Asset × ℕ)) → Leads at d
       → (turn (assets_from n s) (asset_item s d)).breaks ≤ length s - at
-  assets_then n at h bad_asset l = omega arith
-  assets_then n at h (asset a next) l = let c = broken_le (part_of s a.descriptors) refl in omega (arith, h next, l.0, l.1)
+  assets_then n at h None l = omega arith
+  assets_then n at h (Some (a, next)) l = let c = broken_le (part_of s a.descriptors) refl in omega (arith, h next, l.0, l.1)
 
   assets_break : (n at : ℕ) → (assets_from n s at).breaks ≤ length s - at
   assets_break zero at = omega arith
@@ -370,9 +365,9 @@ module _ (s : Bytes) where
       cond_elim P (ltb (length s - k) n) (λ e. omega arith) (λ e2.
       cond_elim P (ltb (length s - (k + n)) 1) (λ e. omega (arith, c)) (λ e3. omega (arith, c, assets_break (get_or s (k + n) 0) (k + n + 1))))))
 
-mpt_in_lem : (s : Bytes) (p : MaybeUsize) → (mpt_in s p).breaks ≤ length s
-mpt_in_lem s nowhere = omega arith
-mpt_in_lem s (At n) = omega (arith, mpt_whole (take n s), length-take n s)
+mpt_in_lem : (s : Bytes) (p : Option ℕ) → (mpt_in s p).breaks ≤ length s
+mpt_in_lem s None = omega arith
+mpt_in_lem s (Some n) = omega (arith, mpt_whole (take n s), length-take n s)
 
 -- of a table
 abbrev pub breaks_of : Table → ℕ

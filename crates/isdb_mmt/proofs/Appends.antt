@@ -1,9 +1,8 @@
 -- The data of units written one behind the other: one turn of the walk. Assumes nothing.
+use Rattle.std.specs.Prelude.{Option, None, Some, is_some}
 use Rattle.std.proofs.Common.{◌≡◌, ℕ, ◌+◌, ◌-◌, ◌*◌, ◌<◌, ◌≤◌, Bool, true, false, List, [], ◌++◌, length, sym, refl, ap, ◌∙◌, arith, length-append, w64, Fits}
-use mathlib.Core.Option.{Option, none, some}
 use Rattle.isdb_mmt.specs.Formats.Part.{part_of}
 use Rattle.isdb_mmt.specs.Decoder.Packet.{Bytes}
-use Rattle.isdb_mmt.specs.Decoder.Maps.{is_some}
 use Rattle.isdb_tlv.specs.Walk.{also}
 use Rattle.isdb_mmt.specs.Formats.Mpu.{unit_step, units_from, units_of}
 use Rattle.isdb_mmt.specs.Memory.Lent.{over}
@@ -48,15 +47,14 @@ module _ (q : Bytes) (timed aggregated : Bool) (from : ℕ) (l₀ : Bytes) where
     pub appending_end : x ≡ End → l ≡ over from (units_data q (units_of q timed aggregated)) l₀
     unfolding units_of units_data data_in
     appending_end e =
-        let u : units_from q timed aggregated at ≡ some [] = rw (units_at q timed aggregated at, ← ex, e) in
+        let u : units_from q timed aggregated at ≡ Some [] = rw (units_at q timed aggregated at, ← ex, e) in
         sym (over_none k l)
         ∙ ap (λ (o : Option (List DataUnit)). over k (units_data q o) l) (sym u)
         ∙ g.rest
 
     pub appending_bad : x ≡ not_whole → l ≡ over from (units_data q (units_of q timed aggregated)) l₀
-    unfolding is_some
     appending_bad e =
-        let u : units_from q timed aggregated at ≡ none = rw (units_at q timed aggregated at, ← ex, e) in
+        let u : units_from q timed aggregated at ≡ None = rw (units_at q timed aggregated at, ← ex, e) in
         true_not_false (is_some (units_from q timed aggregated at)) g.whole (ap is_some u)
 
     module _ (u : DataUnit) (next : ℕ) (e : x ≡ found u next) where
@@ -67,9 +65,9 @@ module _ (q : Bytes) (timed aggregated : Bool) (from : ℕ) (l₀ : Bytes) where
       also_is = units_also q timed aggregated at next u x ex e
 
       data_cons : (o : Option (List DataUnit)) → is_some (also u o) ≡ true → units_data q (also u o) ≡ unit_bytes ++ units_data q o
-      unfolding is_some units_data data_in
-      data_cons none h = true_not_false false h refl
-      data_cons (some us) h = refl
+      unfolding units_data data_in
+      data_cons None h = true_not_false false h refl
+      data_cons (Some us) h = refl
 
       data_next : data_at at ≡ unit_bytes ++ data_at next
       data_next =

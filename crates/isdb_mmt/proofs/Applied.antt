@@ -1,5 +1,5 @@
 -- One step on the copies: one law for each return of `note`. Assumes nothing.
-use Rattle.std.proofs.Common.{◌≡◌, ℕ, zero, suc, ◌+◌, ◌*◌, ◌<◌, ◌≤◌, max, Bool, true, false, eqb, ltb, List, [], ◌∷◌, ◌++◌, map, length, get_or, set, sym, refl, ap, ◌∙◌, inr, zero-add, add-one, arith, length-append, get_or-set_other, get_or-set_same, w8, w32, Fits, ltb-false, ltb-true, le-ltb, lt-ltb, eqb-true}
+use Rattle.std.proofs.Common.{Option, ◌≡◌, ℕ, zero, suc, ◌+◌, ◌*◌, ◌<◌, ◌≤◌, max, Bool, true, false, eqb, ltb, List, [], ◌∷◌, ◌++◌, map, length, get_or, set, sym, refl, ap, ◌∙◌, inr, zero-add, add-one, arith, length-append, get_or-set_other, get_or-set_same, w8, w32, Fits, ltb-false, ltb-true, le-ltb, lt-ltb, eqb-true}
 use lib.Seq.{set_out}
 use borrow.Author.Tests.{eqb-false}
 use Rattle.isdb_tlv.specs.Fields.{written, Fit}
@@ -209,7 +209,7 @@ module _ (ix log others : List ℕ) (g : WalkState) (t : TableOutcome) (f : ℕ)
           bad = refl;
         })
 
-    module _ (v n : ℕ) (q : Recent) (eq : q ≡ recent v f n) (r : WalkState) where
+    module _ (v n : ℕ) (q : Option Recent) (eq : q ≡ recent v f n) (r : WalkState) where
       pub apply_mpt : t.act ≡ Mpt v n → r ≡ kept_with c c.used q c.plt c.tot n → Applied ix log others g t f r ix log others
       apply_mpt ez er =
           rw (er, ec, eq)
@@ -228,7 +228,7 @@ module _ (ix log others : List ℕ) (g : WalkState) (t : TableOutcome) (f : ℕ)
             bad = refl;
           })
 
-    pub apply_tot : (n : ℕ) (q : Recent) → q ≡ recent 0 f n → (r : WalkState) → t.act ≡ Tot n → r ≡ kept_with c c.used c.mpt c.plt q n
+    pub apply_tot : (n : ℕ) (q : Option Recent) → q ≡ recent 0 f n → (r : WalkState) → t.act ≡ Tot n → r ≡ kept_with c c.used c.mpt c.plt q n
         → Applied ix log others g t f r ix log others
     apply_tot n q eq r ez er =
         rw (er, ec, eq)

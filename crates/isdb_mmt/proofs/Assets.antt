@@ -1,5 +1,6 @@
 -- The locations and the assets of a package, one behind another: each leads on to a place within the table, so that a loop which
 -- counts them down goes over all of them. Assumes nothing.
+use Rattle.std.specs.Prelude.{None, Option, Some}
 use Rattle.std.proofs.Common.{◌≡◌, ℕ, zero, suc, ◌+◌, ◌-◌, ◌<◌, ◌≤◌, true, false, List, [], ◌∷◌, length, drop, refl, ap, add-zero, add_assoc, zero-add, arith, length-drop, drop_of_length-le}
 use denote.Enum.Declared.{tag_of as variant_of}
 use types.Run.{OneOf, miss}
@@ -12,66 +13,59 @@ use Rattle.isdb_mmt.specs.Formats.Location.{location_of, packet_id_of}
 use Rattle.isdb_mmt.specs.Formats.Part.{part_of}
 use Rattle.isdb_mmt.specs.Formats.Desc.{broken, Loop, ended, also_described}
 use Rattle.isdb_mmt.specs.Formats.Mpt.{behind_location, locations_end, location_item, locations_of, first_packet_id, asset_at_of, asset_item, assets_from, loop_told, assets_told, tag_of}
-use Rattle.isdb_mmt.specs.declared.maybe.MaybeU16.TheVariants.{None as no_u16, Some as some_u16}
 use Rattle.isdb_mmt.specs.declared.location.Location.{Location}
-use Rattle.isdb_mmt.specs.declared.location.Located.{Located}
-use Rattle.isdb_mmt.specs.declared.location.Located.TheVariants.{None as not_located, Some as located}
 use Rattle.isdb_mmt.specs.declared.desc.Descriptor.{Descriptor}
 use Rattle.isdb_mmt.specs.declared.desc.Descriptor.TheVariants.{MpuTimestamp, ExtendedTimestamp, AccessControl, Scrambler, StreamIdentifier, Service, ServiceList, ShortEvent, Content, Hevc, BroadcasterName, Other}
 use Rattle.isdb_mmt.specs.declared.table.mpt.Asset.{Asset}
-use Rattle.isdb_mmt.specs.declared.table.mpt.AssetStep.{AssetStep}
-use Rattle.isdb_mmt.specs.declared.table.mpt.AssetStep.TheVariants.{Malformed, Asset as asset}
 use Rattle.isdb_mmt.specs.declared.table.mpt.AssetLoop.{AssetLoop}
-use Rattle.isdb_mmt.specs.declared.maybe.MaybeUsize.{MaybeUsize}
-use Rattle.isdb_mmt.specs.declared.maybe.MaybeUsize.TheVariants.{None as nowhere, Some as At}
 
 module _ (s : List ℕ) (at : ℕ) where
   -- no location stands behind the end
-  pub no_location_lem : length s ≤ at → location_of (drop at s) ≡ not_located
+  pub no_location_lem : length s ≤ at → location_of (drop at s) ≡ None
   unfolding location_of
   no_location_lem h = rw (drop_of_length-le s {i = at} h)
 
   -- one that was read ends within the bytes
-  pub location_within : {l : Location} {taken : ℕ} → location_of (drop at s) ≡ located l taken → at + taken ≤ length s
+  pub location_within : {l : Location} {taken : ℕ} → location_of (drop at s) ≡ Some (l, taken) → at + taken ≤ length s
   location_within e = let t = rw e at (takes (drop at s)) in omega (arith, length-drop at s)
 
   -- the turns of the loop that steps over n locations
-  pub end_none : (n : ℕ) → 0 < n → location_of (drop at s) ≡ not_located → locations_end n s at ≡ nowhere
-  end_none n h e = run_stop (λ p. behind_location p (location_of (drop p s))) At at n h (rw e)
+  pub end_none : (n : ℕ) → 0 < n → location_of (drop at s) ≡ None → locations_end n s at ≡ None
+  end_none n h e = run_stop (λ p. behind_location p (location_of (drop p s))) Some at n h (rw e)
 
-  pub end_on : (n : ℕ) {l : Location} {taken : ℕ} → 0 < n → location_of (drop at s) ≡ located l taken
+  pub end_on : (n : ℕ) {l : Location} {taken : ℕ} → 0 < n → location_of (drop at s) ≡ Some (l, taken)
       → locations_end n s at ≡ locations_end (n - 1) s (at + taken)
   end_on n {l} {taken} h e =
-      run_more (λ p. behind_location p (location_of (drop p s))) At at n {next = at + taken} {f = λ end. end} h (rw e)
+      run_more (λ p. behind_location p (location_of (drop p s))) Some at n {next = at + taken} {f = λ end. end} h (rw e)
 
   -- the turns of the search for a packet id
-  pub first_none : (n : ℕ) → 0 < n → location_of (drop at s) ≡ not_located → first_packet_id (locations_of n s at) ≡ no_u16
+  pub first_none : (n : ℕ) → 0 < n → location_of (drop at s) ≡ None → first_packet_id (locations_of n s at) ≡ None
   first_none n h e = ap first_packet_id (run_stop (λ p. location_item p (location_of (drop p s))) (λ p. []) at n {r = []} h (rw e))
 
-  located_on : (n : ℕ) {l : Location} {taken : ℕ} → 0 < n → location_of (drop at s) ≡ located l taken
+  located_on : (n : ℕ) {l : Location} {taken : ℕ} → 0 < n → location_of (drop at s) ≡ Some (l, taken)
       → locations_of n s at ≡ l ∷ locations_of (n - 1) s (at + taken)
   located_on n {l} {taken} h e =
       run_more (λ p. location_item p (location_of (drop p s))) (λ p. []) at n {next = at + taken} {f = λ ls. l ∷ ls} h (rw e)
 
-  pub first_some : (n : ℕ) {l : Location} {taken p : ℕ} → 0 < n → location_of (drop at s) ≡ located l taken → packet_id_of l ≡ some_u16 p
-      → first_packet_id (locations_of n s at) ≡ some_u16 p
+  pub first_some : (n : ℕ) {l : Location} {taken p : ℕ} → 0 < n → location_of (drop at s) ≡ Some (l, taken) → packet_id_of l ≡ Some p
+      → first_packet_id (locations_of n s at) ≡ Some p
   first_some n h e d = rw (located_on n h e, d)
 
-  pub first_on : (n : ℕ) {l : Location} {taken : ℕ} → 0 < n → location_of (drop at s) ≡ located l taken → packet_id_of l ≡ no_u16
+  pub first_on : (n : ℕ) {l : Location} {taken : ℕ} → 0 < n → location_of (drop at s) ≡ Some (l, taken) → packet_id_of l ≡ None
       → first_packet_id (locations_of n s at) ≡ first_packet_id (locations_of (n - 1) s (at + taken))
   first_on n h e d = rw (located_on n h e, d)
 
 -- a place within the bytes
-abbrev pub Within : List ℕ → MaybeUsize → Type 0
-Within s nowhere = Unit {0}
-Within s (At p) = p ≤ length s
+abbrev pub Within : List ℕ → Option ℕ → Type 0
+Within s None = Unit {0}
+Within s (Some p) = p ≤ length s
 
 -- locations from a place within the bytes end within them
 module _ (s : List ℕ) where
-  behind_within : (go : ℕ → MaybeUsize) → ((p : ℕ) → p ≤ length s → Within s (go p)) → (at : ℕ) (d : Located) → at ≤ length s
+  behind_within : (go : ℕ → Option ℕ) → ((p : ℕ) → p ≤ length s → Within s (go p)) → (at : ℕ) (d : Option (Location × ℕ)) → at ≤ length s
       → Takes (drop at s) d → Within s (turn go (behind_location at d))
-  behind_within go h at not_located b t = tt
-  behind_within go h at (located l taken) b t = h (at + taken) (omega (arith, length-drop at s))
+  behind_within go h at None b t = tt
+  behind_within go h at (Some (l, taken)) b t = h (at + taken) (omega (arith, length-drop at s))
 
   pub end_within : (n at : ℕ) → at ≤ length s → Within s (locations_end n s at)
   end_within zero at h = h
@@ -86,10 +80,10 @@ plus_zero l = rw zero-add
 
 -- the turns of the loop over n assets
 module _ (s : List ℕ) (at k : ℕ) where
-  pub loop_end : (n : ℕ) → 0 < n → asset_at_of s at ≡ Malformed → plus k (assets_from n s at) ≡ record { whole = false; breaks = k }
+  pub loop_end : (n : ℕ) → 0 < n → asset_at_of s at ≡ None → plus k (assets_from n s at) ≡ record { whole = false; breaks = k }
   loop_end n h e = rw (run_stop (λ p. asset_item s (asset_at_of s p)) (λ p. ended true) at n {r = ended false} h (rw e), add-zero)
 
-  pub loop_on : (n : ℕ) {a : Asset} {next b : ℕ} → 0 < n → asset_at_of s at ≡ asset a next → b ≡ broken (part_of s a.descriptors)
+  pub loop_on : (n : ℕ) {a : Asset} {next b : ℕ} → 0 < n → asset_at_of s at ≡ Some (a, next) → b ≡ broken (part_of s a.descriptors)
       → plus (k + b) (assets_from (n - 1) s next) ≡ plus k (assets_from n s at)
   loop_on n {a} {next} h e d =
       let also : Loop Asset → Loop Asset = also_described s a.descriptors a in
@@ -97,9 +91,9 @@ module _ (s : List ℕ) (at k : ℕ) where
 
 -- n assets have n descriptor loops that break at most
 module _ (s : List ℕ) where
-  then_le : (n : ℕ) (go : ℕ → Loop Asset) → ((p : ℕ) → (go p).breaks ≤ n) → (d : AssetStep) → (turn go (asset_item s d)).breaks ≤ suc n
-  then_le n go h Malformed = omega arith
-  then_le n go h (asset a next) = let b = broken_le (part_of s a.descriptors) refl in omega (arith, h next)
+  then_le : (n : ℕ) (go : ℕ → Loop Asset) → ((p : ℕ) → (go p).breaks ≤ n) → (d : Option (Asset × ℕ)) → (turn go (asset_item s d)).breaks ≤ suc n
+  then_le n go h None = omega arith
+  then_le n go h (Some (a, next)) = let b = broken_le (part_of s a.descriptors) refl in omega (arith, h next)
 
   loop_le : (n at : ℕ) → (assets_from n s at).breaks ≤ n
   loop_le zero at = omega arith
@@ -122,7 +116,7 @@ module _ (s : List ℕ) where
 abbrev without_tag : List ℕ
 without_tag = 0 ∷ 1 ∷ 2 ∷ 3 ∷ 5 ∷ 6 ∷ 7 ∷ 8 ∷ 9 ∷ 10 ∷ 11 ∷ []
 
-pub no_tag : (d : Descriptor) → OneOf without_tag (variant_of the_type d) → tag_of d ≡ no_u16
+pub no_tag : (d : Descriptor) → OneOf without_tag (variant_of the_type d) → tag_of d ≡ None
 no_tag MpuTimestamp h = refl
 no_tag (ExtendedTimestamp e) h = refl
 no_tag (AccessControl c l) h = refl

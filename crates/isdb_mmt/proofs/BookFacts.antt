@@ -1,7 +1,7 @@
 -- Facts of one id's book, by induction on its reception log from any book: the balance, the bound on the held object, and the stretches
 -- of the log that the delivered objects are; and with the run, what holds of an id. Assumes nothing.
+use Rattle.std.specs.Prelude.{Option, None, Some}
 use Rattle.std.proofs.Common.{◌≡◌, ℕ, ◌+◌, ◌≤◌, Bool, true, false, cond, eqb, leb, List, [], ◌∷◌, ◌++◌, length, sym, refl, ap, ◌∙◌, append_assoc, append-nil, arith, eqb→eq, leb→le, length-append}
-use mathlib.Core.Option.{Option, none, some}
 use Rattle.isdb_mmt.proofs.Run.{at, run_written}
 use Rattle.isdb_mmt.specs.Decoder.Packet.{Bytes, PayloadUnit, Packet, ip_error, ntp, non_mmtp_of, media, message, control, other, readable}
 use Rattle.isdb_mmt.specs.Decoder.Maps.{find, or_else}
@@ -29,24 +29,24 @@ total_write : (w : ℕ) (n : Option ℕ) (h : Option Bytes) (k : ℕ) (os : List
 unfolding total entered drop_counted continued_by begun_at begins is_held
 total_write w n h k os (packet_number j) = go (in_order_of n j) h
   where
-    go : (b : Bool) (h : Option Bytes) → total (cond b (at (w + missing n j) (some j) h k os) (at (w + missing n j) (some j) none (drop_counted h k) os)) ≡ 0 + total (at w n h k os)
+    go : (b : Bool) (h : Option Bytes) → total (cond b (at (w + missing n j) (Some j) h k os) (at (w + missing n j) (Some j) None (drop_counted h k) os)) ≡ 0 + total (at w n h k os)
     go true h = omega arith
-    go false none = omega arith
-    go false (some h) = omega arith
-total_write w n none k os (unit_received j Complete d) = simp length-append (omega arith)
-total_write w n (some h) k os (unit_received j Complete d) = simp length-append (omega arith)
-total_write w n none k os (unit_received j Head d) = omega arith
-total_write w n (some h) k os (unit_received j Head d) = omega arith
-total_write w n none k os (unit_received j Middle d) = omega arith
-total_write w n (some h) k os (unit_received j Middle d) = go (leb (length h + length d) limit)
+    go false None = omega arith
+    go false (Some h) = omega arith
+total_write w n None k os (unit_received j Complete d) = simp length-append (omega arith)
+total_write w n (Some h) k os (unit_received j Complete d) = simp length-append (omega arith)
+total_write w n None k os (unit_received j Head d) = omega arith
+total_write w n (Some h) k os (unit_received j Head d) = omega arith
+total_write w n None k os (unit_received j Middle d) = omega arith
+total_write w n (Some h) k os (unit_received j Middle d) = go (leb (length h + length d) limit)
   where
-    go : (b : Bool) → total (cond b (at w n (some (h ++ d)) k os) (at w n none (k + 1) os)) ≡ 0 + total (at w n (some h) k os)
+    go : (b : Bool) → total (cond b (at w n (Some (h ++ d)) k os) (at w n None (k + 1) os)) ≡ 0 + total (at w n (Some h) k os)
     go true = omega arith
     go false = omega arith
-total_write w n none k os (unit_received j Last d) = omega arith
-total_write w n (some h) k os (unit_received j Last d) = go (leb (length h + length d) limit)
+total_write w n None k os (unit_received j Last d) = omega arith
+total_write w n (Some h) k os (unit_received j Last d) = go (leb (length h + length d) limit)
   where
-    go : (b : Bool) → total (cond b (at w n none k (os ++ ((h ++ d) ∷ []))) (at w n none (k + 1) os)) ≡ 0 + total (at w n (some h) k os)
+    go : (b : Bool) → total (cond b (at w n None k (os ++ ((h ++ d) ∷ []))) (at w n None (k + 1) os)) ≡ 0 + total (at w n (Some h) k os)
     go true = simp length-append (omega arith)
     go false = omega arith
 
@@ -95,29 +95,29 @@ SmallOn (unit_received n f d ∷ t) = (length d ≤ limit) × SmallOn t
 bound : (t : List LogEntry) (w : ℕ) (n : Option ℕ) (h : Option Bytes) (k : ℕ) (os : List Bytes) → SmallOn t → Bounded h → Bounded (entered_all (at w n h k os) t).held
 unfolding entered_all entered continued_by
 bound [] w n h k os q f = f
-bound (packet_number j ∷ t) w n h k os q f = go (in_order_of n j) (bound t (w + missing n j) (some j) h k os q f) (bound t (w + missing n j) (some j) none (drop_counted h k) os q tt)
+bound (packet_number j ∷ t) w n h k os q f = go (in_order_of n j) (bound t (w + missing n j) (Some j) h k os q f) (bound t (w + missing n j) (Some j) None (drop_counted h k) os q tt)
   where
-    go : (b : Bool) → Bounded (entered_all (at (w + missing n j) (some j) h k os) t).held → Bounded (entered_all (at (w + missing n j) (some j) none (drop_counted h k) os) t).held
-        → Bounded (entered_all (cond b (at (w + missing n j) (some j) h k os) (at (w + missing n j) (some j) none (drop_counted h k) os)) t).held
+    go : (b : Bool) → Bounded (entered_all (at (w + missing n j) (Some j) h k os) t).held → Bounded (entered_all (at (w + missing n j) (Some j) None (drop_counted h k) os) t).held
+        → Bounded (entered_all (cond b (at (w + missing n j) (Some j) h k os) (at (w + missing n j) (Some j) None (drop_counted h k) os)) t).held
     go true x y = x
     go false x y = y
-bound (unit_received j Complete d ∷ t) w n h k os q f = bound t w n none (drop_counted h k) (os ++ (d ∷ [])) q.1 tt
-bound (unit_received j Head d ∷ t) w n h k os q f = bound t w n (some d) (drop_counted h k) os q.1 q.0
-bound (unit_received j Middle d ∷ t) w n none k os q f = bound t w n none k os q.1 tt
-bound (unit_received j Middle d ∷ t) w n (some h) k os q f =
-    go (leb (length h + length d) limit) refl (bound t w n (some (h ++ d)) k os q.1) (bound t w n none (k + 1) os q.1 tt)
+bound (unit_received j Complete d ∷ t) w n h k os q f = bound t w n None (drop_counted h k) (os ++ (d ∷ [])) q.1 tt
+bound (unit_received j Head d ∷ t) w n h k os q f = bound t w n (Some d) (drop_counted h k) os q.1 q.0
+bound (unit_received j Middle d ∷ t) w n None k os q f = bound t w n None k os q.1 tt
+bound (unit_received j Middle d ∷ t) w n (Some h) k os q f =
+    go (leb (length h + length d) limit) refl (bound t w n (Some (h ++ d)) k os q.1) (bound t w n None (k + 1) os q.1 tt)
   where
     go : (b : Bool) → leb (length h + length d) limit ≡ b
-        → (Bounded (some (h ++ d)) → Bounded (entered_all (at w n (some (h ++ d)) k os) t).held) → Bounded (entered_all (at w n none (k + 1) os) t).held
-        → Bounded (entered_all (cond b (at w n (some (h ++ d)) k os) (at w n none (k + 1) os)) t).held
+        → (Bounded (Some (h ++ d)) → Bounded (entered_all (at w n (Some (h ++ d)) k os) t).held) → Bounded (entered_all (at w n None (k + 1) os) t).held
+        → Bounded (entered_all (cond b (at w n (Some (h ++ d)) k os) (at w n None (k + 1) os)) t).held
     go true e x y = x (simp length-append (leb→le (length h + length d) limit (rw e tt)))
     go false e x y = y
-bound (unit_received j Last d ∷ t) w n none k os q f = bound t w n none k os q.1 tt
-bound (unit_received j Last d ∷ t) w n (some h) k os q f =
-    go (leb (length h + length d) limit) (bound t w n none k (os ++ ((h ++ d) ∷ [])) q.1 tt) (bound t w n none (k + 1) os q.1 tt)
+bound (unit_received j Last d ∷ t) w n None k os q f = bound t w n None k os q.1 tt
+bound (unit_received j Last d ∷ t) w n (Some h) k os q f =
+    go (leb (length h + length d) limit) (bound t w n None k (os ++ ((h ++ d) ∷ [])) q.1 tt) (bound t w n None (k + 1) os q.1 tt)
   where
-    go : (b : Bool) → Bounded (entered_all (at w n none k (os ++ ((h ++ d) ∷ []))) t).held → Bounded (entered_all (at w n none (k + 1) os) t).held
-        → Bounded (entered_all (cond b (at w n none k (os ++ ((h ++ d) ∷ []))) (at w n none (k + 1) os)) t).held
+    go : (b : Bool) → Bounded (entered_all (at w n None k (os ++ ((h ++ d) ∷ []))) t).held → Bounded (entered_all (at w n None (k + 1) os) t).held
+        → Bounded (entered_all (cond b (at w n None k (os ++ ((h ++ d) ∷ []))) (at w n None (k + 1) os)) t).held
     go true x y = x
     go false x y = y
 
@@ -130,20 +130,20 @@ held_bounded b t q f = bound t b.lost b.number b.held b.dropped b.delivered q f
 data CutFrom : Option ℕ → Option Bytes → List LogEntry → List Bytes → Type 0 where
   plain : {n : Option ℕ} {h : Option Bytes} {t : List LogEntry} {os : List Bytes} → MadeOf t os → CutFrom n h t os
   opens : {n : ℕ} {h : Bytes} (mid : List LogEntry) (m : ℕ) (e : Bytes) {t : List LogEntry} {os : List Bytes} → Unbroken n mid m → MadeOf t os
-      → CutFrom (some n) (some h) (mid ++ (unit_received m Last e ∷ []) ++ t) ((h ++ joined (mid ++ (unit_received m Last e ∷ []))) ∷ os)
+      → CutFrom (Some n) (Some h) (mid ++ (unit_received m Last e ∷ []) ++ t) ((h ++ joined (mid ++ (unit_received m Last e ∷ []))) ∷ os)
 
 -- each unit stands under its packet's number
 abbrev Numbered : Option ℕ → List LogEntry → Type 0
 Numbered n [] = Unit {0}
-Numbered n (packet_number k ∷ t) = Numbered (some k) t
-Numbered none (unit_received k f d ∷ t) = ⊥
-Numbered (some n) (unit_received k f d ∷ t) = (n ≡ k) × Numbered (some n) t
+Numbered n (packet_number k ∷ t) = Numbered (Some k) t
+Numbered None (unit_received k f d ∷ t) = ⊥
+Numbered (Some n) (unit_received k f d ∷ t) = (n ≡ k) × Numbered (Some n) t
 
 -- an object is held only once a number is known
 abbrev Sane : Option ℕ → Option Bytes → Type 0
-Sane none none = Unit {0}
-Sane none (some h) = ⊥
-Sane (some n) h = Unit {0}
+Sane None None = Unit {0}
+Sane None (Some h) = ⊥
+Sane (Some n) h = Unit {0}
 
 -- the list ds of objects delivered is os and then new ones, which are stretches of the log
 record Made (ds : List Bytes) (n : Option ℕ) (h : Option Bytes) (os : List Bytes) (t : List LogEntry) : Type 0 where
@@ -151,27 +151,27 @@ record Made (ds : List Bytes) (n : Option ℕ) (h : Option Bytes) (os : List Byt
   grown : ds ≡ os ++ new
   cut : CutFrom n h t new
 
-closed : {n : Option ℕ} {t : List LogEntry} {os : List Bytes} → CutFrom n none t os → MadeOf t os
+closed : {n : Option ℕ} {t : List LogEntry} {os : List Bytes} → CutFrom n None t os → MadeOf t os
 closed (plain c) = c
 
-on_seen : {l j : ℕ} {h : Option Bytes} {t : List LogEntry} {os : List Bytes} → j ≡ follower l → CutFrom (some j) h t os → CutFrom (some l) h (packet_number j ∷ t) os
+on_seen : {l j : ℕ} {h : Option Bytes} {t : List LogEntry} {os : List Bytes} → j ≡ follower l → CutFrom (Some j) h t os → CutFrom (Some l) h (packet_number j ∷ t) os
 unfolding joined
 on_seen {j} e (plain c) = plain (skip (packet_number j) c)
 on_seen {j} e (opens mid m x u c) = opens (packet_number j ∷ mid) m x (e, u) c
 
-on_head : {n k : ℕ} {d : Bytes} {h : Option Bytes} {t : List LogEntry} {os : List Bytes} → n ≡ k → CutFrom (some n) (some d) t os
-    → CutFrom (some n) h (unit_received k Head d ∷ t) os
+on_head : {n k : ℕ} {d : Bytes} {h : Option Bytes} {t : List LogEntry} {os : List Bytes} → n ≡ k → CutFrom (Some n) (Some d) t os
+    → CutFrom (Some n) h (unit_received k Head d ∷ t) os
 unfolding joined
 on_head {k} {d} q (plain c) = plain (skip (unit_received k Head d) c)
 on_head {k} {d} q (opens mid m x u c) = plain (object (divided k d mid m x (rw q at u)) c)
 
-on_middle : {n k : ℕ} {d h : Bytes} {t : List LogEntry} {os : List Bytes} → CutFrom (some n) (some (h ++ d)) t os → CutFrom (some n) (some h) (unit_received k Middle d ∷ t) os
+on_middle : {n k : ℕ} {d h : Bytes} {t : List LogEntry} {os : List Bytes} → CutFrom (Some n) (Some (h ++ d)) t os → CutFrom (Some n) (Some h) (unit_received k Middle d ∷ t) os
 unfolding joined
 on_middle {k} {d} (plain c) = plain (skip (unit_received k Middle d) c)
 on_middle {k} {d} {h} (opens mid m x u c) = rw (append_assoc h d (joined (mid ++ (unit_received m Last x ∷ [])))) (opens (unit_received k Middle d ∷ mid) m x u c)
 
-on_last : {n k : ℕ} {d h : Bytes} {t : List LogEntry} {os : List Bytes} → n ≡ k → CutFrom (some n) none t os
-    → CutFrom (some n) (some h) (unit_received k Last d ∷ t) ((h ++ d) ∷ os)
+on_last : {n k : ℕ} {d h : Bytes} {t : List LogEntry} {os : List Bytes} → n ≡ k → CutFrom (Some n) None t os
+    → CutFrom (Some n) (Some h) (unit_received k Last d ∷ t) ((h ++ d) ∷ os)
 unfolding joined
 on_last {k} {d} {h} q c = rw append-nil at (opens {h = h} [] k d q (closed c))
 
@@ -183,51 +183,51 @@ made : (t : List LogEntry) (w : ℕ) (n : Option ℕ) (h : Option Bytes) (k : �
     → Made (entered_all (at w n h k os) t).delivered n h os t
 unfolding entered_all entered continued_by in_order_of joined
 made [] w n h k os q s = record { new = []; grown = sym (append-nil os); cut = plain done }
-made (packet_number j ∷ t) w none none k os q s =
-    let r = made t (w + missing none j) (some j) none k os q tt in record { new = r.new; grown = r.grown; cut = plain (skip (packet_number j) (closed r.cut)) }
-made (packet_number j ∷ t) w none (some h) k os q s = absurd s
-made (packet_number j ∷ t) w (some l) h k os q s = go (eqb j (follower l)) refl (made t (w + missing (some l) j) (some j) h k os q tt) (made t (w + missing (some l) j) (some j) none (drop_counted h k) os q tt)
+made (packet_number j ∷ t) w None None k os q s =
+    let r = made t (w + missing None j) (Some j) None k os q tt in record { new = r.new; grown = r.grown; cut = plain (skip (packet_number j) (closed r.cut)) }
+made (packet_number j ∷ t) w None (Some h) k os q s = absurd s
+made (packet_number j ∷ t) w (Some l) h k os q s = go (eqb j (follower l)) refl (made t (w + missing (Some l) j) (Some j) h k os q tt) (made t (w + missing (Some l) j) (Some j) None (drop_counted h k) os q tt)
   where
     go : (b : Bool) → eqb j (follower l) ≡ b
-        → Made (entered_all (at (w + missing (some l) j) (some j) h k os) t).delivered (some j) h os t → Made (entered_all (at (w + missing (some l) j) (some j) none (drop_counted h k) os) t).delivered (some j) none os t
-        → Made (entered_all (cond b (at (w + missing (some l) j) (some j) h k os) (at (w + missing (some l) j) (some j) none (drop_counted h k) os)) t).delivered (some l) h os (packet_number j ∷ t)
+        → Made (entered_all (at (w + missing (Some l) j) (Some j) h k os) t).delivered (Some j) h os t → Made (entered_all (at (w + missing (Some l) j) (Some j) None (drop_counted h k) os) t).delivered (Some j) None os t
+        → Made (entered_all (cond b (at (w + missing (Some l) j) (Some j) h k os) (at (w + missing (Some l) j) (Some j) None (drop_counted h k) os)) t).delivered (Some l) h os (packet_number j ∷ t)
     go true e x y = record { new = x.new; grown = x.grown; cut = on_seen (eqb→eq j (follower l) (rw e tt)) x.cut }
     go false e x y = record { new = y.new; grown = y.grown; cut = plain (skip (packet_number j) (closed y.cut)) }
-made (unit_received j f d ∷ t) w none h k os q s = absurd q
-made (unit_received j Complete d ∷ t) w (some n) h k os q s =
-    let r = made t w (some n) none (drop_counted h k) (os ++ (d ∷ [])) q.1 tt in
+made (unit_received j f d ∷ t) w None h k os q s = absurd q
+made (unit_received j Complete d ∷ t) w (Some n) h k os q s =
+    let r = made t w (Some n) None (drop_counted h k) (os ++ (d ∷ [])) q.1 tt in
     record { new = d ∷ r.new; grown = in_front os d r.new r.grown; cut = plain (rw append-nil at (object (whole j d) (closed r.cut))) }
-made (unit_received j Head d ∷ t) w (some n) h k os q s =
-    let r = made t w (some n) (some d) (drop_counted h k) os q.1 tt in
+made (unit_received j Head d ∷ t) w (Some n) h k os q s =
+    let r = made t w (Some n) (Some d) (drop_counted h k) os q.1 tt in
     record { new = r.new; grown = r.grown; cut = on_head q.0 r.cut }
-made (unit_received j Middle d ∷ t) w (some n) none k os q s =
-    let r = made t w (some n) none k os q.1 tt in
+made (unit_received j Middle d ∷ t) w (Some n) None k os q s =
+    let r = made t w (Some n) None k os q.1 tt in
     record { new = r.new; grown = r.grown; cut = plain (skip (unit_received j Middle d) (closed r.cut)) }
-made (unit_received j Middle d ∷ t) w (some n) (some h) k os q s =
-    go (leb (length h + length d) limit) (made t w (some n) (some (h ++ d)) k os q.1 tt) (made t w (some n) none (k + 1) os q.1 tt)
+made (unit_received j Middle d ∷ t) w (Some n) (Some h) k os q s =
+    go (leb (length h + length d) limit) (made t w (Some n) (Some (h ++ d)) k os q.1 tt) (made t w (Some n) None (k + 1) os q.1 tt)
   where
-    go : (b : Bool) → Made (entered_all (at w (some n) (some (h ++ d)) k os) t).delivered (some n) (some (h ++ d)) os t
-        → Made (entered_all (at w (some n) none (k + 1) os) t).delivered (some n) none os t
-        → Made (entered_all (cond b (at w (some n) (some (h ++ d)) k os) (at w (some n) none (k + 1) os)) t).delivered (some n) (some h) os (unit_received j Middle d ∷ t)
+    go : (b : Bool) → Made (entered_all (at w (Some n) (Some (h ++ d)) k os) t).delivered (Some n) (Some (h ++ d)) os t
+        → Made (entered_all (at w (Some n) None (k + 1) os) t).delivered (Some n) None os t
+        → Made (entered_all (cond b (at w (Some n) (Some (h ++ d)) k os) (at w (Some n) None (k + 1) os)) t).delivered (Some n) (Some h) os (unit_received j Middle d ∷ t)
     go true x y = record { new = x.new; grown = x.grown; cut = on_middle x.cut }
     go false x y = record { new = y.new; grown = y.grown; cut = plain (skip (unit_received j Middle d) (closed y.cut)) }
-made (unit_received j Last d ∷ t) w (some n) none k os q s =
-    let r = made t w (some n) none k os q.1 tt in
+made (unit_received j Last d ∷ t) w (Some n) None k os q s =
+    let r = made t w (Some n) None k os q.1 tt in
     record { new = r.new; grown = r.grown; cut = plain (skip (unit_received j Last d) (closed r.cut)) }
-made (unit_received j Last d ∷ t) w (some n) (some h) k os q s =
-    go (leb (length h + length d) limit) (made t w (some n) none k (os ++ ((h ++ d) ∷ [])) q.1 tt) (made t w (some n) none (k + 1) os q.1 tt)
+made (unit_received j Last d ∷ t) w (Some n) (Some h) k os q s =
+    go (leb (length h + length d) limit) (made t w (Some n) None k (os ++ ((h ++ d) ∷ [])) q.1 tt) (made t w (Some n) None (k + 1) os q.1 tt)
   where
-    go : (b : Bool) → Made (entered_all (at w (some n) none k (os ++ ((h ++ d) ∷ []))) t).delivered (some n) none (os ++ ((h ++ d) ∷ [])) t
-        → Made (entered_all (at w (some n) none (k + 1) os) t).delivered (some n) none os t
-        → Made (entered_all (cond b (at w (some n) none k (os ++ ((h ++ d) ∷ []))) (at w (some n) none (k + 1) os)) t).delivered (some n) (some h) os (unit_received j Last d ∷ t)
+    go : (b : Bool) → Made (entered_all (at w (Some n) None k (os ++ ((h ++ d) ∷ []))) t).delivered (Some n) None (os ++ ((h ++ d) ∷ [])) t
+        → Made (entered_all (at w (Some n) None (k + 1) os) t).delivered (Some n) None os t
+        → Made (entered_all (cond b (at w (Some n) None k (os ++ ((h ++ d) ∷ []))) (at w (Some n) None (k + 1) os)) t).delivered (Some n) (Some h) os (unit_received j Last d ∷ t)
     go true x y = record { new = (h ++ d) ∷ x.new; grown = in_front os (h ++ d) x.new x.grown; cut = on_last q.0 x.cut }
     go false x y = record { new = y.new; grown = y.grown; cut = plain (skip (unit_received j Last d) (closed y.cut)) }
 
-cut_book : (t : List LogEntry) → Numbered none t → MadeOf t (entered_all nothing t).delivered
+cut_book : (t : List LogEntry) → Numbered None t → MadeOf t (entered_all nothing t).delivered
 unfolding nothing
-cut_book t q = let r = made t 0 none none 0 [] q tt in rw r.grown (closed r.cut)
+cut_book t q = let r = made t 0 None None 0 [] q tt in rw r.grown (closed r.cut)
 
-numbered_gots : (n : ℕ) (us : List PayloadUnit) (t : List LogEntry) → Numbered (some n) t → Numbered (some n) (units_received n us ++ t)
+numbered_gots : (n : ℕ) (us : List PayloadUnit) (t : List LogEntry) → Numbered (Some n) t → Numbered (Some n) (units_received n us ++ t)
 unfolding units_received
 numbered_gots n [] t q = q
 numbered_gots n (u ∷ us) t q = (refl, numbered_gots n us t q)
@@ -241,7 +241,7 @@ numbered_log i (non_mmtp_of ∷ ps) n = numbered_log i ps n
 numbered_log i (media m ∷ ps) n = go (eqb i m.id) (numbered_log i ps)
   where
     go : (b : Bool) → ((n : Option ℕ) → Numbered n (reception_log i ps)) → Numbered n (cond b (packet_number m.number ∷ units_received m.number (readable m)) [] ++ reception_log i ps)
-    go true h = numbered_gots m.number (readable m) (reception_log i ps) (h (some m.number))
+    go true h = numbered_gots m.number (readable m) (reception_log i ps) (h (Some m.number))
     go false h = h n
 numbered_log i (message c ∷ ps) n = numbered_log i ps n
 numbered_log i (control bs ∷ ps) n = numbered_log i ps n
@@ -284,6 +284,6 @@ ids pass ps small i =
       dropped = sym (ap (λ (b : Book). b.dropped) e);
       lost = sym (ap (λ (b : Book). b.lost) e);
       held = sym (ap (λ (b : Book). b.held) e);
-      made = rw (ap (λ (b : Book). b.delivered) e) at (cut_book (reception_log i ps) (numbered_log i ps none));
+      made = rw (ap (λ (b : Book). b.delivered) e) at (cut_book (reception_log i ps) (numbered_log i ps None));
       bounded = rw (ap (λ (b : Book). b.held) e) at (held_bounded nothing (reception_log i ps) (small_log i ps small) tt);
     }

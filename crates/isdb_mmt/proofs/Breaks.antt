@@ -1,4 +1,5 @@
 -- What is decided of a table adds little to the counts, so that those of a message do not wrap. Assumes nothing.
+use Rattle.std.specs.Prelude.{None, Option, Some}
 use Rattle.std.proofs.Common.{◌≡◌, ℕ, ◌≤◌, true, false, not, List, length, get_or, refl, arith}
 use lib.ListN.{length-map}
 use Rattle.isdb_tlv.specs.Guards.{◌=?◌}
@@ -6,8 +7,6 @@ use Rattle.isdb_tlv.proofs.Guards.{cond_elim}
 use Rattle.isdb_mmt.specs.Decoder.Packet.{Bytes}
 use Rattle.isdb_mmt.specs.Memory.Lent.{found_from}
 use Rattle.isdb_mmt.specs.Decoder.Kept.{Section, Table, empty_table, mpt_table, plt_table, tot_table, truncated_section, a_section, other_table, table_read}
-use Rattle.isdb_mmt.specs.declared.decoder.place.Found.{Found}
-use Rattle.isdb_mmt.specs.declared.decoder.place.Found.TheVariants.{At as found_at, Nothing as not_found}
 use Rattle.isdb_mmt.specs.declared.decoder.section.KeptSection.{KeptSection}
 use Rattle.isdb_mmt.specs.declared.decoder.table_outcome.Recent.{Recent}
 use Rattle.isdb_mmt.specs.declared.decoder.table_outcome.TableOutcome.{TableOutcome}
@@ -29,9 +28,9 @@ module _ (ks : List KeptSection) (used : ℕ) (eu : length ks ≡ used) where
         (λ e. record { crc_errors = omega arith; malformed = omega arith; changes = omega arith; breaks = f; within = w })
         (λ e. record { crc_errors = omega arith; malformed = omega arith; changes = omega arith; breaks = f; within = tt })
 
-    small_version : (g : Found) → found_from 0 (keys_of ks) x.key ≡ g → Fine (version_outcome ks x g)
-    small_version not_found e = small_body 0 (length ks) (omega arith) (omega arith)
-    small_version (found_at i) e =
+    small_version : (g : Option ℕ) → found_from 0 (keys_of ks) x.key ≡ g → Fine (version_outcome ks x g)
+    small_version None e = small_body 0 (length ks) (omega arith) (omega arith)
+    small_version (Some i) e =
         cond_elim Fine ((get_or ks i no_section).version =? x.version)
         (λ z. record { crc_errors = omega arith; malformed = omega arith; changes = omega arith; breaks = omega arith; within = tt })
         (λ z. small_body 1 i (omega arith) (omega (arith, found_within 0 (keys_of ks) x.key i e, length-map ks (λ (k : KeptSection). k.key))))
@@ -44,7 +43,7 @@ module _ (ks : List KeptSection) (used : ℕ) (eu : length ks ≡ used) where
         (λ z. record { crc_errors = omega arith; malformed = omega arith; changes = omega arith; breaks = omega arith; within = tt })
         (λ z. record { crc_errors = omega arith; malformed = omega arith; changes = omega arith; breaks = omega arith; within = tt }))
 
-  small_table : (m p : Recent) (t : Table) → breaks_of t ≤ most_by_table → Small (table_outcome ks m p t) used most_by_table
+  small_table : (m p : Option Recent) (t : Table) → breaks_of t ≤ most_by_table → Small (table_outcome ks m p t) used most_by_table
   unfolding table_outcome
   small_table m p empty_table f = record { crc_errors = omega arith; malformed = omega arith; changes = omega arith; breaks = omega arith; within = tt }
   small_table m p (mpt_table true n b) f = record { crc_errors = omega arith; malformed = omega arith; changes = omega (arith, one_le (changes_to m (get_or b 1 0))); breaks = f; within = tt }
@@ -57,9 +56,9 @@ module _ (ks : List KeptSection) (used : ℕ) (eu : length ks ≡ used) where
   small_table m p (a_section x) f = small_section x f
   small_table m p (other_table id) f = record { crc_errors = omega arith; malformed = omega arith; changes = omega arith; breaks = omega arith; within = tt }
 
-  pub small_told : (m p : Recent) (b : Bytes) → length b ≤ most_message_area → Small (table_outcome ks m p (table_read b)) used most_by_table
+  pub small_told : (m p : Option Recent) (b : Bytes) → length b ≤ most_message_area → Small (table_outcome ks m p (table_read b)) used most_by_table
   small_told m p b l = small_table m p (table_read b) (omega (arith, table_breaks b))
 
   -- a section of a control signal
-  pub small_section_told : (m p : Recent) (b : Bytes) → length b ≤ most_message_area → Small (table_outcome ks m p (section_read b)) used most_by_table
+  pub small_section_told : (m p : Option Recent) (b : Bytes) → length b ≤ most_message_area → Small (table_outcome ks m p (section_read b)) used most_by_table
   small_section_told m p b l = small_table m p (section_read b) (omega (arith, section_breaks b))

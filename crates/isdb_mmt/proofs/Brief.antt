@@ -1,7 +1,10 @@
 -- A packet of at most 65,535 bytes reads as one with no more units, sections or bytes of sections than that, and what it hands to
 -- the messages and sections are bytes. Assumes nothing.
+use Rattle.std.specs.Prelude.{Err, None, Ok, Result, Some, Option}
+use Rattle.isdb_tlv.specs.declared.ip.IpError.{IpError}
+use Rattle.isdb_tlv.specs.declared.ip.Datagram.{Datagram}
+use Rattle.isdb_tlv.specs.declared.ip.Flow.{Flow}
 use Rattle.std.proofs.Common.{◌≡◌, ℕ, zero, suc, ◌+◌, ◌-◌, ◌/◌, ◌%◌, ◌<◌, ◌≤◌, Bool, true, false, not, eqb, ltb, List, [], ◌∷◌, ◌++◌, map, length, get_or, take, drop, replicate, refl, arith, length-take, get_or-drop, get_or-take, ltb-false, ltb-true}
-use mathlib.Core.Option.{Option, none, some}
 use lib.ListN.{get_or-eq_default, length-map}
 use Rattle.isdb_tlv.specs.Guards.{◌=?◌}
 use Rattle.isdb_tlv.specs.Bytes.{be}
@@ -10,21 +13,14 @@ use Rattle.isdb_tlv.specs.Tlv.{packet_type}
 use Rattle.isdb_tlv.specs.Ip.{ipv4_of, ipv6_of, compressed_of}
 use Rattle.isdb_tlv.specs.Mmtp.{mmtp_of}
 use Rattle.isdb_tlv.specs.Si.{is_tlv_si, table_id_of, whole_size, section_at, found, scan_at, sections_from, sections_of}
-use Rattle.isdb_tlv.specs.declared.si.Section.{Section as Found}
-use Rattle.isdb_tlv.specs.declared.si.MaybeSection.{MaybeSection}
-use Rattle.isdb_tlv.specs.declared.si.MaybeSection.TheVariants.{None as no_section, Some as one_section}
+use Rattle.isdb_tlv.specs.declared.si.Section.{Section as Found, Section}
 use Rattle.isdb_tlv.specs.declared.tlv.PacketType.{PacketType}
 use Rattle.isdb_tlv.specs.declared.tlv.PacketType.TheVariants.{Ipv4, Ipv6, Compressed, Control, Null, Other}
-use Rattle.isdb_tlv.specs.declared.ip.MaybeFlow.{MaybeFlow}
-use Rattle.isdb_tlv.specs.declared.ip.MaybeFlow.TheVariants.{None as no_flow_of, Some as some_flow}
-use Rattle.isdb_tlv.specs.declared.ip.IpResult.{IpResult}
-use Rattle.isdb_tlv.specs.declared.ip.IpResult.TheVariants.{Ok, Err}
 use Rattle.isdb_tlv.specs.declared.mmtp.PayloadType.{PayloadType}
 use Rattle.isdb_tlv.specs.declared.mmtp.PayloadType.TheVariants.{Mpu, GenericObject, Messages, FecRepair, Reserved}
 use Rattle.isdb_tlv.specs.declared.mmtp.Header.{Header}
-use Rattle.isdb_tlv.specs.declared.mmtp.Parsed.{Parsed}
-use Rattle.isdb_tlv.specs.declared.mmtp.Parsed.TheVariants.{None as not_mmtp, Some as some_mmtp}
 use Rattle.isdb_tlv.proofs.Guards.{cond_elim, either}
+use Rattle.isdb_tlv.specs.declared.mmtp.Packet.{Packet as MmtpPacket}
 use Rattle.isdb_mmt.specs.Formats.Mpu.{payload_header, declared_of, units_of}
 use Rattle.isdb_mmt.specs.declared.mpu.FragmentType.{FragmentType}
 use Rattle.isdb_mmt.specs.declared.mpu.FragmentType.TheVariants.{MpuMetadata, MovieFragmentMetadata, Mfu, Reserved as reserved_type}
@@ -124,8 +120,8 @@ Plain other = Unit {0}
 
 clear_payload_units : (h : PayloadHeader) (q : Bytes) (o : Option (List DataUnit)) → unit_count o < 65536 → length (clear false (payload_units h q o)) < 65536
 unfolding clear
-clear_payload_units h q none l = omega arith
-clear_payload_units h q (some us) l = omega (arith, length-map us (payload_unit h q))
+clear_payload_units h q None l = omega arith
+clear_payload_units h q (Some us) l = omega (arith, length-map us (payload_unit h q))
 
 clear_units : (h : PayloadHeader) (t : FragmentType) (q : Bytes) → length q < 65536 → length (clear false (units_for h t q)) < 65536
 unfolding clear
@@ -138,8 +134,8 @@ clear_read : (scrambled : Bool) (payload : Bytes) (o : Option PayloadHeader) →
     → length (clear scrambled (units_read payload o)) < 65536
 unfolding clear
 clear_read true payload o l = omega arith
-clear_read false payload none l = omega arith
-clear_read false payload (some h) l =
+clear_read false payload None l = omega arith
+clear_read false payload (Some h) l =
     clear_units h h.fragment_type (declared_of payload) (take_small (be 2 payload 0 + 2) payload l)
 
 media_plain : (h : Header) (payload : Bytes) → length payload < 65536 → length (readable (media_of h payload)) < 65536
@@ -153,9 +149,9 @@ lengths [] = 0
 lengths (x ∷ l) = x.size + lengths l
 
 module _ (s : Bytes) where
-  abbrev Here : ℕ → MaybeSection → Type 0
-  Here at no_section = Unit {0}
-  Here at (one_section x) = (1 ≤ x.size) × (at + x.size ≤ length s)
+  abbrev Here : ℕ → Option Section → Type 0
+  Here at None = Unit {0}
+  Here at (Some x) = (1 ≤ x.size) × (at + x.size ≤ length s)
 
   here : (at : ℕ) → Here at (section_at s at)
   unfolding section_at
@@ -172,9 +168,9 @@ module _ (s : Bytes) where
 
   -- what a section adds is no more than its bytes
   module _ (size : List Found → ℕ) (end-size : size [] ≡ 0) (also-size : (x : Found) (l : List Found) → 1 ≤ x.size → size (x ∷ l) ≤ size l + x.size) where
-    section_grows : (at : ℕ) → 3 ≤ length s - at → (m : MaybeSection) → Here at m → Grows size (length s) at (found at m)
-    section_grows at h no_section w = (omega arith, omega arith, λ r. omega arith)
-    section_grows at h (one_section x) w = (omega arith, omega (arith, w.1), λ r. omega (arith, also-size x r w.0))
+    section_grows : (at : ℕ) → 3 ≤ length s - at → (m : Option Section) → Here at m → Grows size (length s) at (found at m)
+    section_grows at h None w = (omega arith, omega arith, λ r. omega arith)
+    section_grows at h (Some x) w = (omega arith, omega (arith, w.1), λ r. omega (arith, also-size x r w.0))
 
     sections_grow : size (sections_of s) ≤ length s
     unfolding sections_of sections_from
@@ -212,19 +208,19 @@ type_plain h payload GenericObject l o = tt
 type_plain h payload FecRepair l o = tt
 type_plain h payload (Reserved c) l o = tt
 
-mmtp_plain : (b : Bytes) (p : Parsed) → length b < 65536 → Octets b → Plain (mmtp_in b p)
-mmtp_plain b not_mmtp l o = tt
-mmtp_plain b (some_mmtp p) l o =
+mmtp_plain : (b : Bytes) (p : Option MmtpPacket) → length b < 65536 → Octets b → Plain (mmtp_in b p)
+mmtp_plain b None l o = tt
+mmtp_plain b (Some p) l o =
     type_plain p.header (drop p.start b) p.header.payload_type (drop_small p.start b l) (octets_drop p.start b o)
 
 port_plain : (b : Bytes) (port : ℕ) → length b < 65536 → Octets b → Plain (to_port b port)
 port_plain b port l o = cond_elim Plain (port =? 123) (λ e. tt) (λ e. mmtp_plain b (mmtp_of b) l o)
 
-flow_plain : (b : Bytes) (f : MaybeFlow) → length b < 65536 → Octets b → Plain (in_flow b f)
-flow_plain b no_flow_of l o = mmtp_plain b (mmtp_of b) l o
-flow_plain b (some_flow f) l o = port_plain b f.dport l o
+flow_plain : (b : Bytes) (f : Option Flow) → length b < 65536 → Octets b → Plain (in_flow b f)
+flow_plain b None l o = mmtp_plain b (mmtp_of b) l o
+flow_plain b (Some f) l o = port_plain b f.dport l o
 
-datagram_plain : (b : Bytes) (r : IpResult) → length b < 65536 → Octets b → Plain (datagram_in b r)
+datagram_plain : (b : Bytes) (r : Result Datagram IpError) → length b < 65536 → Octets b → Plain (datagram_in b r)
 datagram_plain b (Err e) l o = tt
 datagram_plain b (Ok d) l o = flow_plain (drop d.start b) d.flow (drop_small d.start b l) (octets_drop d.start b o)
 

@@ -1,4 +1,5 @@
 -- Bytes behind those that a table declares: what a step gives, it gives with them too. Assumes nothing.
+use Rattle.std.specs.Prelude.{None, Ok, Option, Some}
 use Rattle.std.proofs.Common.{◌≡◌, ℕ, zero, suc, ◌+◌, ◌-◌, ◌≤◌, cond, eqb, ltb, leb, List, [], ◌∷◌, ◌++◌, length, get_or, take, drop, sym, refl, ap, ◌∙◌, subst, arith, length-append, length-drop, take-append-drop, ltb-false, le-ltb, leb-false, leb-true}
 use lib.ListN.{get_or-append}
 use lib.Seq.{take-append-le, drop-append-le}
@@ -21,20 +22,12 @@ use Rattle.isdb_mmt.specs.WholeValues.Whole.{whole_asset, asset_told, asset_seen
 use Rattle.isdb_mmt.specs.WholeValues.WholeSections.{whole_tot}
 use Rattle.isdb_mmt.specs.WholeValues.Walks.{AssetsWalk, LocationsWalk, PltWalks, BehindTheorem}
 use Rattle.isdb_mmt.specs.declared.part.Part.{Part}
-use Rattle.isdb_mmt.specs.declared.maybe.MaybeUsize.{MaybeUsize}
-use Rattle.isdb_mmt.specs.declared.maybe.MaybeUsize.TheVariants.{None as nowhere, Some as At}
 use Rattle.isdb_mmt.specs.declared.table.mpt.Mpt.{Mpt}
-use Rattle.isdb_mmt.specs.declared.table.mpt.MaybeMpt.TheVariants.{Some as some_mpt}
 use Rattle.isdb_mmt.specs.declared.table.plt.Plt.{Plt}
 use Rattle.isdb_mmt.specs.declared.table.tot.Tot.{Tot}
-use Rattle.isdb_mmt.specs.declared.table.tot.TotResult.TheVariants.{Ok as tot_ok}
 use Rattle.isdb_mmt.specs.declared.table.mpt.Asset.{Asset}
-use Rattle.isdb_mmt.specs.declared.table.mpt.AssetStep.{AssetStep}
-use Rattle.isdb_mmt.specs.declared.table.mpt.AssetStep.TheVariants.{Malformed as no_asset, Asset as asset}
 use Rattle.isdb_mmt.specs.declared.location.Location.{Location}
 use Rattle.isdb_mmt.specs.declared.location.Location.TheVariants.{SameFlow, Ipv4, Ipv6, Mpeg2Ts, Mpeg2TsIpv6, Url}
-use Rattle.isdb_mmt.specs.declared.location.Located.{Located}
-use Rattle.isdb_mmt.specs.declared.location.Located.TheVariants.{None as not_located, Some as located}
 use Rattle.isdb_mmt.proofs.Assets.{no_location_lem, location_within}
 use Rattle.isdb_mmt.proofs.Walks.{assets, mpt, plt}
 use Rattle.isdb_mmt.proofs.WholeParts.{parts}
@@ -77,9 +70,9 @@ part_same s r p h =
 
 -- ---- locations
 
-abbrev LocatedSame : Located → Located → Type 0
-LocatedSame not_located d = Unit {0}
-LocatedSame (located l n) d = d ≡ located l n
+abbrev LocatedSame : Option (Location × ℕ) → Option (Location × ℕ) → Type 0
+LocatedSame None d = Unit {0}
+LocatedSame (Some (l, n)) d = d ≡ Some (l, n)
 
 module _ (s r : List ℕ) where
   abbrev x : List ℕ
@@ -93,7 +86,7 @@ module _ (s r : List ℕ) where
   sized_same n l l' h =
       cond_elim (λ d. LocatedSame d (sized x n l')) (ltb (length s) n) (λ e. tt) (λ e.
       let g = ltb-false (length s) n e in
-      rw (le-ltb (length x) n (longer n g)) (ap (λ k. located k n) (h g)))
+      rw (le-ltb (length x) n (longer n g)) (ap (λ k. Some (k, n)) (h g)))
 
   url_same : LocatedSame (url_of s) (url_of x)
   unfolding url_of
@@ -153,9 +146,9 @@ module _ (s r : List ℕ) where
   whole_same : (l : Location) → UrlLies s l → whole_location x l ≡ whole_location s l
   whole_same l h = ap (λ u. record { location = l; url = u }) (url_in_same l h)
 
-abbrev PlaceSame : MaybeUsize → MaybeUsize → Type 0
-PlaceSame nowhere d = Unit {0}
-PlaceSame (At e) d = d ≡ At e
+abbrev PlaceSame : Option ℕ → Option ℕ → Type 0
+PlaceSame None d = Unit {0}
+PlaceSame (Some e) d = d ≡ Some e
 
 -- the size of a delivery's location
 size_same : (s r : List ℕ) → 1 ≤ length s → PlaceSame (delivery_size s) (delivery_size (s ++ r))
@@ -168,7 +161,7 @@ size_same s r h =
     either (eqb t 5)
     (λ e2.
     rw (e, e1, e2)
-    (cond_elim (λ d. PlaceSame d (cond (ltb (length (s ++ r)) 2) nowhere (At (get_or (s ++ r) 1 0 + 1)))) (ltb (length s) 2) (λ e3. tt) (λ e3.
+    (cond_elim (λ d. PlaceSame d (cond (ltb (length (s ++ r)) 2) None (Some (get_or (s ++ r) 1 0 + 1)))) (ltb (length s) 2) (λ e3. tt) (λ e3.
     let g = ltb-false (length s) 2 e3 in
     rw (le-ltb (length (s ++ r)) 2 (omega (arith, length-append s r)), get_or-append s r 0 1 (omega arith)) refl)))
     (λ e2. rw (e, e1, e2) tt))))
@@ -179,10 +172,10 @@ module _ (s r : List ℕ) where
   abbrev all : List ℕ
   all = s ++ r
 
-  located_told : (at : ℕ) → at ≤ length s → (d : Located) → LocatedSame d (location_of (drop at all)) → LocatedLies (drop at s) d
+  located_told : (at : ℕ) → at ≤ length s → (d : Option (Location × ℕ)) → LocatedSame d (location_of (drop at all)) → LocatedLies (drop at s) d
       → Same (location_told s at d) (location_seen all at)
-  located_told at h not_located e w = tt
-  located_told at h (located l n) e w =
+  located_told at h None e w = tt
+  located_told at h (Some (l, n)) e w =
       ap (location_told all at) e
       ∙ ap (λ (b : List ℕ). element (whole_location b l) (at + n)) (drop-append-le at s r h)
       ∙ ap (λ y. element y (at + n)) (whole_same (drop at s) r l w)
@@ -197,10 +190,10 @@ module _ (s r : List ℕ) where
 
   -- ---- locations one behind the other
 
-  behind_same : (n : ℕ) → ((at : ℕ) → at ≤ length s → PlaceSame (locations_end n s at) (locations_end n all at)) → (at : ℕ) (d : Located)
+  behind_same : (n : ℕ) → ((at : ℕ) → at ≤ length s → PlaceSame (locations_end n s at) (locations_end n all at)) → (at : ℕ) (d : Option (Location × ℕ))
       → location_of (drop at s) ≡ d → LocatedSame d (location_of (drop at all)) → PlaceSame (turn (locations_end n s) (behind_location at d)) (locations_end (suc n) all at)
-  behind_same n h at not_located e w = tt
-  behind_same n h at (located l k) e w = rw w (h (at + k) (location_within s at e))
+  behind_same n h at None e w = tt
+  behind_same n h at (Some (l, k)) e w = rw w (h (at + k) (location_within s at e))
 
   end_same : (n at : ℕ) → at ≤ length s → PlaceSame (locations_end n s at) (locations_end n all at)
   end_same zero at h = refl
@@ -209,9 +202,9 @@ module _ (s r : List ℕ) where
 
   -- ---- assets
 
-  abbrev AssetSame : AssetStep → AssetStep → Type 0
-  AssetSame no_asset d = Unit {0}
-  AssetSame (asset a next) d = d ≡ asset a next
+  abbrev AssetSame : Option (Asset × ℕ) → Option (Asset × ℕ) → Type 0
+  AssetSame None d = Unit {0}
+  AssetSame (Some (a, next)) d = d ≡ Some (a, next)
 
   fields_same : (p q end : ℕ) → p + 6 ≤ length s → q + 6 ≤ length s → AssetSame (asset_fields s p q end) (asset_fields all p q end)
   unfolding asset_fields
@@ -233,9 +226,9 @@ module _ (s r : List ℕ) where
         get_or-append s r 0 (q + 5) (omega arith),
       )))
 
-  asset_behind_lem : (p q : ℕ) → p + 6 ≤ length s → q + 6 ≤ length s → (d d' : MaybeUsize) → PlaceSame d d' → AssetSame (asset_behind s p q d) (asset_behind all p q d')
-  asset_behind_lem p q hp hq nowhere d' w = tt
-  asset_behind_lem p q hp hq (At end) d' w = rw w (fields_same p q end hp hq)
+  asset_behind_lem : (p q : ℕ) → p + 6 ≤ length s → q + 6 ≤ length s → (d d' : Option ℕ) → PlaceSame d d' → AssetSame (asset_behind s p q d) (asset_behind all p q d')
+  asset_behind_lem p q hp hq None d' w = tt
+  asset_behind_lem p q hp hq (Some end) d' w = rw w (fields_same p q end hp hq)
 
   asset_same : (p : ℕ) → AssetSame (asset_at_of s p) (asset_at_of all p)
   unfolding asset_at_of
@@ -268,9 +261,9 @@ module _ (s r : List ℕ) where
         descriptors = loop_in (part_same s r a.descriptors w.1 i);
       }
 
-  asset_told_lem : (at : ℕ) (d : AssetStep) → asset_at_of s at ≡ d → AssetSame d (asset_at_of all at) → AssetLies s d → Same (asset_told s d) (asset_seen all at)
-  asset_told_lem at no_asset e h w = tt
-  asset_told_lem at (asset a next) e h w =
+  asset_told_lem : (at : ℕ) (d : Option (Asset × ℕ)) → asset_at_of s at ≡ d → AssetSame d (asset_at_of all at) → AssetLies s d → Same (asset_told s d) (asset_seen all at)
+  asset_told_lem at None e h w = tt
+  asset_told_lem at (Some (a, next)) e h w =
       ap (asset_told all) h ∙ ap (λ y. element y next) (whole_asset_lem a w (assets s at next a e))
 
   pub asset_seen_lem : (at : ℕ) → Same (asset_seen s at) (asset_seen all at)
@@ -278,12 +271,12 @@ module _ (s r : List ℕ) where
 
   -- ---- packages and deliveries
 
-  package_told_lem : (at n : ℕ) → at + 1 + n ≤ length s → (d d' : Located) → LocatedSame d d' → LocatedLies (drop (at + 1 + n) s) d
+  package_told_lem : (at n : ℕ) → at + 1 + n ≤ length s → (d d' : Option (Location × ℕ)) → LocatedSame d d' → LocatedLies (drop (at + 1 + n) s) d
       → Same (package_told s (package_in at n d)) (package_told all (package_in at n d'))
-  package_told_lem at n h not_located d' e w = tt
-  package_told_lem at n h (located l k) d' e w =
+  package_told_lem at n h None d' e w = tt
+  package_told_lem at n h (Some (l, k)) d' e w =
       let q = at + 1 + n in
-      ap (λ (c : Located). package_told all (package_in at n c)) e
+      ap (λ (c : Option (Location × ℕ)). package_told all (package_in at n c)) e
       ∙ (λ i.
       element
       (record {
@@ -307,12 +300,12 @@ module _ (s r : List ℕ) where
       (package_told_lem at n h (location_of (drop q s)) (location_of (drop q all))
       (rw (drop-append-le q s r h) (location_same (drop q s) r)) (parts.locations (drop q s)))))
 
-  delivery_behind_lem : (at : ℕ) → at + 5 ≤ length s → (d d' : MaybeUsize) → PlaceSame d d'
+  delivery_behind_lem : (at : ℕ) → at + 5 ≤ length s → (d d' : Option ℕ) → PlaceSame d d'
       → Same (delivery_told (delivery_behind s at d)) (delivery_told (delivery_behind all at d'))
-  delivery_behind_lem at h nowhere d' w = tt
-  delivery_behind_lem at h (At n) d' w =
+  delivery_behind_lem at h None d' w = tt
+  delivery_behind_lem at h (Some n) d' w =
       rw w
-      (cond_elim (λ d. Same (delivery_told d) (delivery_told (delivery_behind all at (At n)))) (ltb (length s) (at + 7 + n)) (λ e. tt) (λ e.
+      (cond_elim (λ d. Same (delivery_told d) (delivery_told (delivery_behind all at (Some n)))) (ltb (length s) (at + 7 + n)) (λ e. tt) (λ e.
       let a = ltb-false (length s) (at + 7 + n) e in
       rw (
         le-ltb (length all) (at + 7 + n) (omega (arith, length-append s r)),
@@ -375,10 +368,10 @@ module _ (s r : List ℕ) where
   whole_tot_lem : (t : Tot) → Lies s t.descriptors → whole_tot all t ≡ whole_tot s t
   whole_tot_lem t w i = record { value = t; descriptors = loop_in (part_same s r t.descriptors w i) }
 
-mpt_lies : (s : List ℕ) (t : Mpt) → (mpt_of s).mpt ≡ some_mpt t → Lies (declared_table s) t.package_id × Lies (declared_table s) t.descriptors
+mpt_lies : (s : List ℕ) (t : Mpt) → (mpt_of s).mpt ≡ Some t → Lies (declared_table s) t.package_id × Lies (declared_table s) t.descriptors
 mpt_lies s t e = rw e at (parts.mpt s)
 
-tot_lies : (s : List ℕ) (t : Tot) → (tot_of s).result ≡ tot_ok t → Lies (declared_section s) t.descriptors
+tot_lies : (s : List ℕ) (t : Tot) → (tot_of s).result ≡ Ok t → Lies (declared_section s) t.descriptors
 tot_lies s t e = rw e at (parts.tot s)
 
 -- the declared bytes and those behind

@@ -1,7 +1,9 @@
 -- The claim over lists of calls: refusals change nothing, what is accepted and handed out is a run of the model, the session stays one
 -- that passes question 5, and what it keeps parses. Assumes nothing.
 use Rattle.std.proofs.Common.{◌≡◌, ℕ, ◌+◌, Bool, true, false, cond, not, eqb, List, [], ◌∷◌, ◌++◌, length, sym, refl, ap, ◌∙◌, arith, eqb-true}
-use mathlib.Core.Option.{Option, none, some}
+use Rattle.std.specs.Prelude.{Option as StdOption, Result, Ok, Err, None, Some, Option}
+use Rattle.isdb_mmt.specs.declared.decoder.refusal.Refusal.{Refusal}
+use Rattle.isdb_mmt.specs.declared.part.Part.{Part}
 use borrow.Author.Tests.{eqb-false}
 use Rattle.isdb_tlv.proofs.Guards.{either}
 use Rattle.isdb_mmt.specs.Decoder.Packet.{Bytes, Packet}
@@ -14,7 +16,7 @@ use Rattle.isdb_mmt.specs.Books.Book.{well_formed}
 use Rattle.isdb_mmt.specs.Books.Demand.{push_all, give_all, EverySmall, Keeps, never, keeps, Holds}
 use Rattle.isdb_mmt.specs.Memory.Limits.{asked}
 use Rattle.isdb_mmt.specs.Memory.Layout.{most_count}
-use Rattle.isdb_mmt.specs.Memory.Session.{Session, limits_of, used_of, counters_of, time_of, media_at}
+use Rattle.isdb_mmt.specs.Memory.Session.{Session, limits_of, used_of, counters_of}
 use Rattle.isdb_mmt.specs.Memory.Check.{lengths_of, sound}
 use Rattle.isdb_mmt.specs.Memory.View.{view}
 use Rattle.isdb_mmt.specs.Memory.Opening.{opened_session}
@@ -24,20 +26,10 @@ use Rattle.isdb_mmt.specs.Pushes.Leaves.{packet_leaves}
 use Rattle.isdb_tlv.specs.Guards.{◌<?◌, ◌≤?◌}
 use Rattle.isdb_mmt.specs.Decoder.Needs.{needs}
 use Rattle.isdb_mmt.specs.Pushes.Push.{Input, packet_of, most_bytes, has_places, has_areas, has_outputs, asks_of, asks_later, asks, leaves_of, reply_of, handed as handed_by}
-use Rattle.isdb_mmt.specs.Answers.Readings.{media_found, control_found, counters_read, time_read, time_at, count_read, media_names, control_names, keys_in, least_from, most_name, name_told, next_media_read, next_control_read, next_key_read, media_if, media_read, held_at, held_if, held_read, control_if, control_read, section_read, mpt_read, plt_read, tot_read, asset_read, time_number, name_number, media_number, held_number, control_number, table_number, asset_number, TableTold, refused, nothing, these, told_by}
+use Rattle.isdb_mmt.specs.Answers.Readings.{counters_read, time_read, count_read, next_media_read, next_control_read, next_key_read, media_read, held_read, control_read, section_read, mpt_read, plt_read, tot_read, asset_read, answer_number, TableTold, refused, nothing, these, told_by}
 use Rattle.isdb_mmt.specs.Answers.TableReadingLaws.{section_bytes, mpt_bytes, hands_out, AsKept}
 use Rattle.isdb_mmt.specs.Theorems.Calls.{kept_in, dropped_in, lost_in, held_in, Reading, counters, time, count, next_media_of, next_control_of, next_key_of, media_of, held, control_of, mpt, plt, tot, section, asset_of, reading_number, Call, push, read, after, pushes, accepted, handed, AllBytes, decoder, PushDetermined, Tells, none_kept, kept, After, Demand3, AllAsModel, AnswersAsModel}
-use Rattle.isdb_mmt.specs.declared.maybe.MaybeU32.{MaybeU32}
-use Rattle.isdb_mmt.specs.declared.maybe.MaybeU32.TheVariants.{None as no_u32, Some as some_u32}
-use Rattle.isdb_mmt.specs.declared.decoder.place.Found.{Found}
-use Rattle.isdb_mmt.specs.declared.decoder.place.Found.TheVariants.{At, Nothing}
 use Rattle.isdb_mmt.specs.declared.decoder.limits.Limits.{Limits}
-use Rattle.isdb_mmt.specs.declared.decoder.head.Time.{Time}
-use Rattle.isdb_mmt.specs.declared.decoder.media.Media.{Media}
-use Rattle.isdb_mmt.specs.declared.decoder.readings.TableReading.{TableReading}
-use Rattle.isdb_mmt.specs.declared.decoder.readings.TableReading.TheVariants.{Refused as table_refused, Nothing as no_table_of, Bytes as the_bytes}
-use Rattle.isdb_mmt.specs.declared.decoder.readings.AssetReading.{AssetReading}
-use Rattle.isdb_mmt.specs.declared.decoder.readings.AssetReading.TheVariants.{Refused as asset_refused, Nothing as no_asset, Asset as the_asset}
 use Rattle.isdb_mmt.specs.Theorems.Room.{most_added, SoundWithin}
 use Rattle.isdb_mmt.proofs.Brief.{plain_of, lent_opened}
 use Rattle.isdb_mmt.proofs.Ready.{Ready, ready_push, ready_opened}
@@ -183,12 +175,12 @@ never_5 s ok x e =
 -- ---- readings
 
 abbrev kept_told : Option Kept → TableTold
-kept_told none = nothing
-kept_told (some x) = these x.bytes
+kept_told None = nothing
+kept_told (Some x) = these x.bytes
 
 hands_kept : (o : Option Kept) → hands_out (section_bytes o) ≡ kept_told o
-hands_kept none = refl
-hands_kept (some x) = refl
+hands_kept None = refl
+hands_kept (Some x) = refl
 
 tells : (o : Option Kept) (xs : List Section) → Keeps o xs → Tells (kept_told o) xs
 tells _ _ never = none_kept
@@ -200,16 +192,14 @@ numbered nothing = 0
 numbered (these b) = 0
 
 -- an answer that hands out has no number
-hands_zero : (t : Bytes) (r : TableReading) (o : Option Bytes) → told_by t r ≡ hands_out o → table_number r ≡ 0
-hands_zero t (table_refused n) none e = absurd (omega (arith, ap numbered e))
-hands_zero t (table_refused n) (some b) e = absurd (omega (arith, ap numbered e))
-hands_zero t no_table_of o e = refl
-hands_zero t (the_bytes p) o e = refl
+hands_zero : (t : Bytes) (r : Result (StdOption Part) Refusal) (o : Option Bytes) → told_by t r ≡ hands_out o → answer_number r ≡ 0
+hands_zero t (Err k) None e = absurd (omega (arith, ap numbered e))
+hands_zero t (Err k) (Some b) e = absurd (omega (arith, ap numbered e))
+hands_zero t (Ok x) o e = refl
 
-asset_zero : (r : AssetReading) → ((n : ℕ) → r ≡ asset_refused n → ⊥) → asset_number r ≡ 0
-asset_zero (asset_refused n) h = absurd (h n refl)
-asset_zero no_asset h = refl
-asset_zero (the_asset a) h = refl
+not_refused_zero : {A : Type 0} (r : Result A Refusal) → ((k : Refusal) → r ≡ Err k → ⊥) → answer_number r ≡ 0
+not_refused_zero (Err k) h = absurd (h k refl)
+not_refused_zero (Ok x) h = refl
 
 module _ (s : Session) (e : sound s ≡ true) (h : Lent s) (n : ℕ) (z : Ready n (view s)) where
   abbrev l : Limits
@@ -221,46 +211,22 @@ module _ (s : Session) (e : sound s ≡ true) (h : Lent s) (n : ℕ) (z : Ready 
   pub section_tells : (k : ℕ) → told_by s.tables (section_read s k) ≡ kept_told (kept_in s k)
   section_tells k = as_view.section k ∙ hands_kept (find k (view s).store.kept) ∙ ap kept_told (sym (kept_said s k))
 
-  -- ---- the others
-
-  time_zero : (t : Time) → time_number (time_at t) ≡ 0
-  time_zero t = either t.seen (λ q. rw q) (λ q. rw q)
-
-  name_zero : (x : MaybeU32) → name_number (name_told x) ≡ 0
-  name_zero no_u32 = refl
-  name_zero (some_u32 x) = refl
-
-  media_zero : (f : Found) → media_number (media_if s f) ≡ 0
-  media_zero Nothing = refl
-  media_zero (At i) = refl
-
-  object_zero : (i : ℕ) (m : Media) → held_number (held_at l i m) ≡ 0
-  object_zero i m = either m.held (λ q. rw q) (λ q. rw q)
-
-  held_zero : (f : Found) → held_number (held_if s f) ≡ 0
-  held_zero Nothing = refl
-  held_zero (At i) = object_zero i (media_at s.state i)
-
-  control_zero : (f : Found) → control_number (control_if s f) ≡ 0
-  control_zero Nothing = refl
-  control_zero (At i) = refl
-
   pub reading_zero : (r : Reading) → reading_number s r ≡ 0
   unfolding reading_number counters_read time_read count_read next_media_read next_control_read next_key_read media_read held_read control_read
   reading_zero counters = rw e
-  reading_zero time = rw e (time_zero (time_of s.state))
+  reading_zero time = rw e
   reading_zero (count id) = rw e
-  reading_zero (next_media_of a) = rw e (name_zero (least_from no_u32 a most_name (media_names s)))
-  reading_zero (next_control_of a) = rw e (name_zero (least_from no_u32 a most_name (control_names s)))
-  reading_zero (next_key_of a b) = rw e (name_zero (least_from no_u32 a b (keys_in s)))
-  reading_zero (media_of id) = rw e (media_zero (media_found s id))
-  reading_zero (held id) = rw e (held_zero (media_found s id))
-  reading_zero (control_of id) = rw e (control_zero (control_found s id))
+  reading_zero (next_media_of a) = rw e
+  reading_zero (next_control_of a) = rw e
+  reading_zero (next_key_of a b) = rw e
+  reading_zero (media_of id) = rw e
+  reading_zero (held id) = rw e
+  reading_zero (control_of id) = rw e
   reading_zero (mpt id) = hands_zero s.tables (mpt_read s id) (mpt_bytes (find id (view s).controls)) (as_view.mpt id)
   reading_zero plt = hands_zero s.tables (plt_read s) (view s).store.plt as_view.plt
   reading_zero tot = hands_zero s.tables (tot_read s) (view s).store.tot as_view.tot
   reading_zero (section k) = hands_zero s.tables (section_read s k) (section_bytes (find k (view s).store.kept)) (as_view.section k)
-  reading_zero (asset_of p) = asset_zero (asset_read s p) (as_view.asset p)
+  reading_zero (asset_of p) = not_refused_zero (asset_read s p) (as_view.asset p)
 
 -- ---- demand 3
 

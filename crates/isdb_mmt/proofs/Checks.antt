@@ -1,12 +1,12 @@
 -- Laws of question 5: what a test of one count, one length or one place says of the whole, and what an answer yes says.
 -- Assumes nothing.
-use Rattle.std.proofs.Common.{◌≡◌, ℕ, zero, suc, ◌+◌, ◌-◌, ◌*◌, ◌<◌, ◌≤◌, Bool, true, false, cond, not, ltb, leb, List, [], ◌∷◌, ◌++◌, map, length, get_or, take, drop, sym, refl, ◌∙◌, zero-le, add-zero, mul-zero, mul-suc, add-one, arith, drop_of_length-le, length-take-le, drop-cons, w8, Fits, ltb-false, ltb-true, eq-eqb, ne_eqb, eqb-true, le-leb, leb-true}
-use native.Mathlib.Nat.{sub-zero}
+use Rattle.std.proofs.Common.{◌≡◌, ℕ, zero, suc, ◌+◌, ◌-◌, ◌*◌, ◌<◌, ◌≤◌, Bool, true, false, cond, not, leb, max, fold, sum, List, [], ◌∷◌, ◌++◌, map, length, get_or, take, drop, sym, refl, ap, ◌∙◌, add-zero, mul-zero, mul-suc, arith, length-take-le, w8, Fits, eqb-true, le-leb, leb-true}
+use Rattle.std.proofs.lemmas.List.Sums.{sum_by-cons}
 use lib.Bits.{bit_or, or_add_and, and_le_l, and_le_r}
 use Rattle.isdb_mmt.specs.Memory.Lent.{part, flag, places_from, names_from, distinct, every}
-use Rattle.isdb_mmt.specs.Memory.Session.{Session, limits_of, used_of, latest_of, counters_of, media_place_of, held_object_at, stats_of, control_place_of, section_place_of}
+use Rattle.isdb_mmt.specs.Memory.Session.{Session, limits_of, used_of, latest_of, counters_of, media_place_of, held_object_at, stats_of, section_place_of}
 use Rattle.isdb_mmt.specs.Memory.Layout.{most_media_ids, most_control_ids, most_sections, most_count, used_place, latest_place, counters_place, held_place, object_place, stats_place, media_size, media_places, control_size, control_places, section_size, section_places, state_size}
-use Rattle.isdb_mmt.specs.Memory.Check.{count_fits_of, counts_from, length_fits, stats_counts, packet_counts, table_counts, lengths_of, sound, sound_in, Sound, media_sound, control_sound, section_sound, used_sound, latest_sound, counters_sound, media_in, controls_in, sections_in, head_sound, places_sound, names_sound, PlacesThere}
+use Rattle.isdb_mmt.specs.Memory.Check.{count_fits_of, counts_from, length_fits, stats_counts, packet_counts, table_counts, lengths_of, sound, sound_in, Sound, media_sound, control_sound, section_sound, used_sound, latest_sound, counters_sound, media_in, controls_in, head_sound, places_sound, names_sound, PlacesThere}
 use Rattle.isdb_mmt.specs.Memory.Limits.{asked}
 use Rattle.isdb_mmt.specs.declared.decoder.limits.Limits.{Limits}
 use Rattle.isdb_mmt.specs.declared.decoder.limits.Lengths.{Lengths}
@@ -18,7 +18,7 @@ use Rattle.isdb_mmt.specs.declared.decoder.head.Latest.{Latest}
 use Rattle.isdb_tlv.specs.Guards.{◌≤?◌, ◌=?◌}
 use Rattle.isdb_tlv.specs.Bytes.{be}
 use Rattle.isdb_tlv.proofs.Numbers.{be_lt, be_add}
-use Rattle.isdb_tlv.proofs.Guards.{either, cond_same}
+use Rattle.isdb_tlv.proofs.Guards.{either}
 use Rattle.isdb_mmt.proofs.Lent.{length_part}
 use Rattle.isdb_mmt.proofs.Names.{true_not_false}
 use Rattle.isdb_mmt.proofs.Guards.{no, yes, both, not_both, guard_holds, guard_fails, was_both, was_guarded}
@@ -38,47 +38,22 @@ unfolding every
 every_both f [] ys = refl
 every_both f (x ∷ xs) ys = either (f x) (λ t. rw t (every_both f xs ys)) (λ z. rw z)
 
--- one turn of a walk over counts that are stored one behind the other
-module _ (f : ℕ → Bool) (n i at : ℕ) (p : List ℕ) (y : Bool) (inv : y ≡ every f (counts_from (n - i) at p)) where
-  next_count : i < n → counts_from (n - i) at p ≡ be 8 p at ∷ counts_from (n - (i + 1)) (at + 8) p
-  unfolding counts_from
-  next_count h = let e : n - i ≡ suc (n - (i + 1)) = omega arith in rw e
-
-  module _ (h : i < n) (v : ℕ) (r : Bool) (ev : v ≡ be 8 p at) (er : r ≡ f v) where
-    pub stored_fails : not r ≡ true → false ≡ y
-    unfolding every
-    stored_fails t = sym (inv ∙ rw (next_count h, ← ev, no er t))
-
-    pub stored_fits : not r ≡ false → y ≡ every f (counts_from (n - (i + 1)) (at + 8) p)
-    unfolding every
-    stored_fits t = inv ∙ rw (next_count h, ← ev, yes er t)
-
-  pub stored_end : n ≤ i → true ≡ y
-  unfolding every counts_from
-  stored_end h = let e : n - i ≡ 0 = omega arith in sym (inv ∙ rw e)
-
 -- the high half of a count decides, but for 2^53, and none is above the sum of some
 module _ (p : List ℕ) (bytes : (k : ℕ) → Fits w8 (get_or p k 0)) where
   high_fits : (at : ℕ) → be 4 p at < 2097152 → count_fits_of (be 8 p at) ≡ true
   high_fits at h = le-leb (be 8 p at) most_count (omega (arith, be_add 4 4 at p, be_lt p bytes 4 (at + 4)))
 
-  module _ (n i at sum : ℕ) (y : Bool) (inv : sum < 2097152 → y ≡ every count_fits_of (counts_from (n - i) at p)) where
-    pub high_next :
-        i < n
-        → (v : ℕ)
-        → v ≡ be 4 p at
-        → sum + v < 2097152
-        → y ≡ every count_fits_of (counts_from (n - (i + 1)) (at + 8) p)
-    high_next h v ev e =
-        stored_fits count_fits_of n i at p y (inv (omega arith)) h (be 8 p at) true refl (sym (high_fits at (rw (← ev) (omega arith)))) refl
+  pub high_all : (n at : ℕ) → sum (names_from n 8 at p) < 2097152 → every count_fits_of (counts_from n at p) ≡ true
+  unfolding every counts_from names_from
+  high_all zero at h = refl
+  high_all (suc n) at h =
+      let k : be 4 p at + sum (names_from n 8 (at + 8) p) < 2097152 = rw (sum_by-cons (λ (y : ℕ). y) (be 4 p at) (names_from n 8 (at + 8) p)) at h in
+      rw (high_fits at (omega arith)) (high_all n (at + 8) (omega arith))
 
-pub high_end :
-    (p : List ℕ) (n i at sum : ℕ) (y : Bool)
-    → (sum < 2097152 → y ≡ every count_fits_of (counts_from (n - i) at p))
-    → n ≤ i
-    → sum < 2097152
-    → y ≡ true
-high_end p n i at sum y inv h e = sym (stored_end count_fits_of n i at p y (inv e) h)
+  pub high_sum : (n at : ℕ) → sum (names_from n 8 at p) ≤ n * 4294967295
+  unfolding names_from
+  high_sum zero at = omega arith
+  high_sum (suc n) at = rw sum_by-cons (omega (arith, be_lt p bytes 4 at, high_sum n (at + 8)))
 
 -- a media place: its length, and its counts
 module _ (l : Limits) (p : List ℕ) (h r : Bool) (n : ℕ) (eh : h ≡ flag p held_place) (en : n ≡ be 4 p (object_place + 25))
@@ -122,84 +97,29 @@ module _ {A : Type 0} (f : A → Bool) (g : List ℕ → A) (size n i at : ℕ) 
   places_end h = let e : n - i ≡ 0 = omega arith in sym (inv ∙ rw e)
 
 -- of two lengths the larger one decides
-larger_fits : (a b c : ℕ) → leb (cond (ltb a b) b a) c ≡ cond (leb a c) (leb b c) false
+larger_fits : (a b c : ℕ) → leb (max a b) c ≡ cond (leb b c) (leb a c) false
 larger_fits a b c =
-    either (ltb a b)
+    either (leb (max a b) c)
+    (λ t. let h = leb-true (max a b) c t in rw (t, le-leb b c (omega arith), le-leb a c (omega arith)))
+    (λ f.
+    rw f
+    (either (leb b c)
     (λ t.
     rw t
-    (either (leb b c) (λ u. rw (u, le-leb a c (omega (arith, ltb-true a b t, leb-true b c u)))) (λ u. rw u (sym (cond_same (leb a c) false)))))
-    (λ t. rw t (either (leb a c) (λ u. rw (u, le-leb b c (omega (arith, ltb-false a b t, leb-true a c u)))) (λ u. rw u)))
+    (either (leb a c) (λ u. true_not_false (leb (max a b) c) (le-leb (max a b) c (omega (arith, leb-true b c t, leb-true a c u))) f) (λ u. sym u)))
+    (λ t. rw t)))
 
 cond_both : (a b c : Bool) → cond (cond a b false) c false ≡ cond a (cond b c false) false
 cond_both true b c = refl
 cond_both false b c = refl
 
--- sections: the longest so far, and those behind
-module _ (l : Limits) (n i at m : ℕ) (s : List ℕ) (y : Bool)
-    (inv : y ≡ cond (m ≤? l.table_area) (every (section_sound l) (map section_place_of (places_from (n - i) section_size at s))) false) where
-  pub section_next :
-      i < n
-      → (v k : ℕ)
-      → v ≡ be 4 (take (at + section_size - at) (drop at s)) 5
-      → k ≡ cond (ltb m v) v m
-      → y
-      ≡ cond (k ≤? l.table_area) (every (section_sound l) (map section_place_of (places_from (n - (i + 1)) section_size (at + section_size) s))) false
-  unfolding every section_place_of
-  section_next h v k ev ek =
-      inv
-      ∙ rw (next section_size n i at s h, ← ev, ek, larger_fits m v l.table_area)
-      (sym (cond_both (leb m l.table_area) (leb v l.table_area) _))
-
-  pub sections_end : n ≤ i → (m ≤? l.table_area) ≡ y
-  unfolding every places_from
-  sections_end h =
-      let e : n - i ≡ 0 = omega arith in
-      sym (inv ∙ rw e (either (m ≤? l.table_area) (λ t. rw t) (λ t. rw t)))
-
-pub sections_start : (l : Limits) (n : ℕ) (s : List ℕ)
-    → every (section_sound l) (map section_place_of (places_from n section_size section_places s))
-    ≡ cond (0 ≤? l.table_area) (every (section_sound l) (map section_place_of (places_from (n - 0) section_size section_places s))) false
-sections_start l n s = rw (sub-zero, le-leb 0 l.table_area zero-le)
-
--- and over the counts of table ids
-module _ (f : ℕ → Bool) (l : List ℕ) (i : ℕ) (y : Bool) (inv : y ≡ every f (drop i l)) where
-  pub count_fails : i < length l → (r : Bool) → r ≡ f (get_or l i 0) → not r ≡ true → false ≡ y
-  unfolding every
-  count_fails h r e t = sym (inv ∙ rw (drop-cons l i 0, no e t))
-
-  pub count_fits :
-      i < length l
-      → (r : Bool)
-      → r ≡ f (get_or l i 0)
-      → not r ≡ false
-      → y ≡ every f (drop (i + 1) l)
-  unfolding every
-  count_fits h r e t = inv ∙ rw (add-one, drop-cons l i 0, yes e t)
-
-  pub counts_end : length l ≤ i → true ≡ y
-  unfolding every
-  counts_end h = sym (inv ∙ rw (drop_of_length-le l {i = i} h))
-
--- the places of every sort
-module _ (s : List ℕ) (l : Limits) (u : Used) (el : l ≡ limits_of s) (eu : u ≡ used_of s) (a : Bool)
-    (ea : a ≡ every (media_sound l) (map media_place_of (places_from u.media_ids media_size media_places s))) where
-  pub some_media_fails : not a ≡ true → false ≡ places_sound s
-  unfolding places_sound media_in
-  some_media_fails t = guard_fails _ (rw (el, eu) at ea) t
-
-  module _ (ta : not a ≡ false) (b : Bool)
-      (eb : b ≡ every (control_sound l) (map control_place_of (places_from u.control_ids control_size control_places s))) where
-    pub some_control_fails : not b ≡ true → false ≡ places_sound s
-    unfolding places_sound media_in controls_in
-    some_control_fails t = guard_holds (rw (el, eu) at ea) ta (guard_fails _ (rw (el, eu) at eb) t)
-
-    pub sections_decide :
-        not b ≡ false
-        → (c : Bool)
-        → c ≡ every (section_sound l) (map section_place_of (places_from u.sections section_size section_places s))
-        → c ≡ places_sound s
-    unfolding places_sound media_in controls_in sections_in
-    sections_decide t c ec = guard_holds (rw (el, eu) at ea) ta (guard_holds (rw (el, eu) at eb) t (rw (el, eu) at ec))
+-- of some sections the longest one
+pub longest_fits : (l : Limits) (m : ℕ) (xs : List (List ℕ))
+    → (fold (λ k p. max (be 4 p 5) k) m xs ≤? l.table_area) ≡ cond (m ≤? l.table_area) (every (section_sound l) (map section_place_of xs)) false
+unfolding every section_place_of
+longest_fits l m [] = either (m ≤? l.table_area) (λ t. rw t) (λ t. rw t)
+longest_fits l m (p ∷ xs) =
+    longest_fits l (max (be 4 p 5) m) xs ∙ rw (larger_fits (be 4 p 5) m l.table_area) (cond_both (leb m l.table_area) (leb (be 4 p 5) l.table_area) _)
 
 -- the names of every sort
 module _ (s : List ℕ) (u : Used) (eu : u ≡ used_of s) where
@@ -222,60 +142,19 @@ module _ (s : List ℕ) (u : Used) (eu : u ≡ used_of s) where
     pub sections_within : section_places + u.sections * section_size ≤ length s
     sections_within = omega (arith, sections_there, h.long)
 
-  module _ (a : Bool) (ea : a ≡ distinct (names_from u.media_ids media_size media_places s)) where
-    pub media_twice : not a ≡ true → false ≡ names_sound s
-    unfolding names_sound
-    media_twice t = guard_fails _ (rw eu at ea) t
-
-    module _ (ta : not a ≡ false) (b : Bool) (eb : b ≡ distinct (names_from u.control_ids control_size control_places s)) where
-      pub control_twice : not b ≡ true → false ≡ names_sound s
-      unfolding names_sound
-      control_twice t = guard_holds (rw eu at ea) ta (guard_fails _ (rw eu at eb) t)
-
-      pub keys_decide : not b ≡ false → (c : Bool) → c ≡ distinct (names_from u.sections section_size section_places s) → c ≡ names_sound s
-      unfolding names_sound
-      keys_decide t c ec = guard_holds (rw eu at ea) ta (guard_holds (rw eu at eb) t (rw eu at ec))
-
--- what the head has
-module _ (s others : List ℕ) (lent : Lengths) (l : Limits) (k : ℕ) (el : l ≡ limits_of s) (ek : k ≡ asked l lent) where
-  pub asked_fails : (k ≡ 0 → ⊥) → false ≡ head_sound s others lent
-  unfolding head_sound
-  asked_fails t = rw (← el, ← ek, ne_eqb k 0 t)
-
-  module _ (tk : k ≡ 0) (u : Used) (a : Bool) (eu : u ≡ used_of s) (ea : a ≡ used_sound l u) where
-    pub used_fails : not a ≡ true → false ≡ head_sound s others lent
-    unfolding head_sound
-    used_fails t = rw (← el, ← ek, eq-eqb k 0 tk, ← eu) (guard_fails _ ea t)
-
-    module _ (ta : not a ≡ false) (x : Latest) (b : Bool) (ex : x ≡ latest_of s) (eb : b ≡ latest_sound l x) where
-      pub latest_fails : not b ≡ true → false ≡ head_sound s others lent
-      unfolding head_sound
-      latest_fails t = rw (← el, ← ek, eq-eqb k 0 tk, ← eu, ← ex) (guard_holds ea ta (guard_fails _ eb t))
-
-      module _ (tb : not b ≡ false) (c : Bool) (ef : c ≡ every count_fits_of (counts_from 12 counters_place s)) where
-        ec : c ≡ counters_sound (counters_of s)
-        unfolding counts_from counters_of counters_sound
-        ec = ef ∙ every_both count_fits_of (packet_counts (counters_of s)) (table_counts (counters_of s))
-
-        pub counters_fail : not c ≡ true → false ≡ head_sound s others lent
-        unfolding head_sound
-        counters_fail t =
-            rw (← el, ← ek, eq-eqb k 0 tk, ← eu, ← ex) (guard_holds ea ta (guard_holds eb tb (guard_fails _ ec t)))
-
-        pub others_decide : not c ≡ false → (d : Bool) → d ≡ every count_fits_of others → d ≡ head_sound s others lent
-        unfolding head_sound
-        others_decide t d ed =
-            rw (← el, ← ek, eq-eqb k 0 tk, ← eu, ← ex) (guard_holds ea ta (guard_holds eb tb (guard_holds ec t ed)))
+-- the counts of the head
+pub counters_is : (s : List ℕ) → every count_fits_of (counts_from 12 counters_place s) ≡ counters_sound (counters_of s)
+unfolding counts_from counters_of counters_sound
+counters_is s = every_both count_fits_of (packet_counts (counters_of s)) (table_counts (counters_of s))
 
 -- the counts of table ids, or'ed
-module _ (l : List ℕ) (i bits : ℕ) (y : Bool) (inv : bits ≤ most_count → y ≡ every count_fits_of (drop i l)) where
-  pub low_bits : i < length l → bit_or bits (get_or l i 0) ≤ most_count → y ≡ every count_fits_of (drop (i + 1) l)
-  low_bits h e =
-      let o = or_low bits (get_or l i 0) in
-      count_fits count_fits_of l i y (inv (omega arith)) h true (sym (le-leb (get_or l i 0) most_count (omega arith))) refl
-
-  pub all_low : (n : ℕ) → length l ≡ n → n ≤ i → bits ≤ most_count → y ≡ true
-  all_low n d h e = sym (counts_end count_fits_of l i y (inv e) (omega arith))
+pub low_all : (bits : ℕ) (l : List ℕ) → fold bit_or bits l ≤ most_count → (bits ≤ most_count) × (every count_fits_of l ≡ true)
+unfolding every
+low_all bits [] e = (e, refl)
+low_all bits (x ∷ l) e =
+    let k = low_all (bit_or bits x) l e in
+    let o = or_low bits x in
+    (omega arith, rw (le-leb x most_count (omega arith)) k.1)
 
 -- ---- and back: what an answer yes says
 
@@ -502,10 +381,10 @@ module _ (s : List ℕ) where
         head_there = there s others lent long (yes (ea ∙ head_front others lent) ta)
 
         module _ (b : Bool) (eb : b ≡ places_sound s) where
-          pub places_fail : not b ≡ true → false ≡ sound_in s others lent
+          pub places_fail : b ≡ false → b ≡ sound_in s others lent
           unfolding sound_in
-          places_fail t = guard_holds (ea ∙ head_front others lent) ta (guard_fails _ eb t)
+          places_fail t = t ∙ guard_holds (ea ∙ head_front others lent) ta (guard_fails _ eb (ap not t))
 
-          pub names_decide : not b ≡ false → (c : Bool) → c ≡ names_sound s → c ≡ sound_in s others lent
+          pub names_decide : b ≡ true → (c : Bool) → c ≡ names_sound s → c ≡ sound_in s others lent
           unfolding sound_in
-          names_decide t c ec = guard_holds (ea ∙ head_front others lent) ta (guard_holds eb t ec)
+          names_decide t c ec = guard_holds (ea ∙ head_front others lent) ta (guard_holds eb (ap not t) ec)

@@ -1,6 +1,7 @@
 -- After the commit the areas have what index and log stood for. Assumes nothing.
-use Rattle.std.proofs.Common.{◌≡◌, ℕ, zero, suc, ◌+◌, ◌-◌, ◌*◌, ◌<◌, ◌≤◌, true, false, not, eqb, List, [], ◌∷◌, ◌++◌, map, length, get_or, take, drop, sym, refl, ap, ◌∙◌, add-zero, mul-le-mul_right, zero-add, add-one, arith, length-append, length-take, drop-cons, eq-eqb, ne_eqb}
-use borrow.Author.Tests.{eqb-false, not-true, not-false}
+use Rattle.std.specs.Prelude.{Option, None, Some}
+use Rattle.std.proofs.Common.{◌≡◌, ℕ, zero, suc, ◌+◌, ◌-◌, ◌*◌, ◌<◌, ◌≤◌, false, eqb, List, [], ◌∷◌, ◌++◌, map, length, get_or, take, drop, sym, refl, ap, ◌∙◌, add-zero, mul-le-mul_right, zero-add, add-one, arith, length-append, length-take, drop-cons, eq-eqb, ne_eqb}
+use borrow.Author.Tests.{eqb-false}
 use Rattle.isdb_tlv.proofs.Guards.{either}
 use Rattle.isdb_mmt.specs.Decoder.Packet.{Bytes}
 use Rattle.isdb_mmt.specs.Memory.Lent.{part, over, indexed, places_from}
@@ -10,7 +11,7 @@ use Rattle.isdb_mmt.specs.Pushes.MediaPush.{with_used}
 use Rattle.isdb_tlv.specs.Fields.{written}
 use Rattle.isdb_tlv.proofs.Fields.{length_written}
 use Rattle.isdb_mmt.specs.declared.decoder.section.KeptSection.{KeptSection}
-use Rattle.isdb_mmt.specs.Pushes.TableOutcome.{place_at, index_of}
+use Rattle.isdb_mmt.specs.Pushes.TableOutcome.{place_at, index_of, recent_length}
 use Rattle.isdb_mmt.proofs.Limits.{whole_area, areas_next}
 use Rattle.isdb_mmt.proofs.Lent.{length_over, over_next, over_same}
 use Rattle.isdb_mmt.proofs.Views.{area_apart}
@@ -98,41 +99,34 @@ module _ (area : ℕ) (m : Bytes) where
       put_apart es (i + 1) (put_one (i * area) e m t) f.1 (omega (arith, r.1)) j n (omega arith) b
       ∙ one_apart i e f.0 t r.0 j n (λ q. absurd (omega arith)) b
 
-  module _ (i : ℕ) (r : Recent) (t : Bytes) (f : r.there ≡ true → r.length ≤ area) (w : (i + 1) * area ≤ length t) where
-    short_of : r.there ≡ true → length (part (r.from - 1) r.length m) ≤ area
-    short_of q = omega (arith, f q, length-take r.length (drop (r.from - 1) m))
+  short_of : (r : Recent) → r.length ≤ area → length (part (r.from - 1) r.length m) ≤ area
+  short_of r f = omega (arith, f, length-take r.length (drop (r.from - 1) m))
 
-    pub recent_length_lem : length (put_recent (i * area) r m t) ≡ length t
-    recent_length_lem =
-        either r.there
-        (λ q.
-        either (eqb r.from 0) (λ z. rw (q, z))
-        (λ z. rw (q, z) (length_over (i * area) (part (r.from - 1) r.length m) t (omega (arith, short_of q)))))
-        (λ q. rw q)
+  pub recent_length_lem : (i : ℕ) (r : Option Recent) (t : Bytes) → recent_length r ≤ area → (i + 1) * area ≤ length t → length (put_recent (i * area) r m t) ≡ length t
+  recent_length_lem i None t f w = refl
+  recent_length_lem i (Some r) t f w =
+      either (eqb r.from 0) (λ z. rw z)
+      (λ z. rw z (length_over (i * area) (part (r.from - 1) r.length m) t (omega (arith, short_of r f))))
 
-    pub recent_apart : (j n : ℕ) → (j ≡ i → ⊥) → n ≤ area → part (j * area) n (put_recent (i * area) r m t) ≡ part (j * area) n t
-    recent_apart j n d b =
-        either r.there
-        (λ q.
-        either (eqb r.from 0) (λ z. rw (q, z))
-        (λ z.
-        rw (q, z)
-        (ap (λ k. part (j * area) n (over k (part (r.from - 1) r.length m) t)) (sym (add-zero (i * area)))
-        ∙ area_apart area t (part (r.from - 1) r.length m) i 0 (omega (arith, short_of q)) w j n d b)))
-        (λ q. rw q)
+  pub recent_apart : (i : ℕ) (r : Option Recent) (t : Bytes) → recent_length r ≤ area → (i + 1) * area ≤ length t → (j n : ℕ) → (j ≡ i → ⊥) → n ≤ area
+      → part (j * area) n (put_recent (i * area) r m t) ≡ part (j * area) n t
+  recent_apart i None t f w j n d b = refl
+  recent_apart i (Some r) t f w j n d b =
+      either (eqb r.from 0) (λ z. rw z)
+      (λ z.
+      rw z
+      (ap (λ k. part (j * area) n (over k (part (r.from - 1) r.length m) t)) (sym (add-zero (i * area)))
+      ∙ area_apart area t (part (r.from - 1) r.length m) i 0 (omega (arith, short_of r f)) w j n d b))
 
   -- an MPT, a PLT or a TOT
-  pub recent_is : (i : ℕ) (r : Recent) (t₀ t : Bytes) → (r.there ≡ true → r.length ≤ area) → (i + 1) * area ≤ length t
+  pub recent_is : (i : ℕ) (r : Option Recent) (t₀ t : Bytes) → recent_length r ≤ area → (i + 1) * area ≤ length t
       → ((n : ℕ) → n ≤ area → part (i * area) n t ≡ part (i * area) n t₀)
       → put_recent (i * area) r m t ≡ bytes_over (i * area) (committed_recent m t₀ (i * area) r) t
-  recent_is i r t₀ t f w h =
-      either r.there
-      (λ q.
-      let k = f q in
+  recent_is i None t₀ t f w h = refl
+  recent_is i (Some r) t₀ t f w h =
       either (eqb r.from 0)
-      (λ z. rw (q, z) (sym (ap (λ (b : Bytes). over (i * area) b t) (sym (h r.length k)) ∙ over_same (i * area) r.length t)))
-      (λ z. rw (q, z)))
-      (λ q. rw q)
+      (λ z. rw z (sym (ap (λ (b : Bytes). over (i * area) b t) (sym (h r.length f)) ∙ over_same (i * area) r.length t)))
+      (λ z. rw z)
 
 -- ---- the loop
 
@@ -156,25 +150,6 @@ module _ (tables ix log : List ℕ) (i area : ℕ) (m : Bytes) (can : CanStoreOn
     one_put t et =
         let q : eqb (get_or log i 0) 0 ≡ false = ne_eqb (get_or log i 0) 0 (λ y. z (ef ∙ y)) in
         et ∙ rw (q, ex, ef)
-
--- ---- an MPT, a PLT or a TOT
-
-module _ (tables : List ℕ) (r : Recent) (i area : ℕ) (m : Bytes) (can : CanStoreRecent tables r i area m) where
-  pub recent_none : not r.there ≡ true → tables ≡ put_recent (i * area) r m tables
-  recent_none e = rw (not-true r.there e)
-
-  module _ (e : not r.there ≡ false) where
-    pub recent_old : r.from ≡ 0 → tables ≡ put_recent (i * area) r m tables
-    recent_old z = rw (not-false r.there e, eq-eqb r.from 0 z)
-
-    abbrev part_of_it : Part
-    part_of_it = record { start = r.from - 1; length = r.length }
-
-    pub recent_can : CanPut tables (i * area) m part_of_it
-    recent_can = record { room = omega (arith, can.room, can.small (not-false r.there e)) }
-
-    pub recent_put : (r.from ≡ 0 → ⊥) → (t : Bytes) → t ≡ over (i * area) (part_of m part_of_it) tables → t ≡ put_recent (i * area) r m tables
-    recent_put z t et = et ∙ rw (not-false r.there e, ne_eqb r.from 0 z)
 
 -- ---- a part of a message in two pieces
 

@@ -1,19 +1,17 @@
 -- The walk over the index and its log is the model's walk. Assumes nothing.
+use Rattle.std.specs.Prelude.{None, Some, Option}
 use Rattle.std.proofs.Common.{◌≡◌, ℕ, zero, suc, ◌+◌, ◌-◌, ◌*◌, ◌<◌, max, Bool, true, false, cond, not, ◌&&◌, eqb, List, [], ◌∷◌, ◌++◌, map, length, get_or, take, set, sym, refl, ap, ◌∙◌, add-zero, zero-add, arith, le-ltb, lt-ltb, ne_eqb}
-use mathlib.Core.Option.{Option, none, some}
 use lib.ListN.{length-map}
 use Rattle.isdb_tlv.specs.Guards.{◌=?◌}
 use Rattle.isdb_tlv.specs.Bytes.{be}
 use Rattle.isdb_tlv.proofs.Guards.{cond_elim}
 use Rattle.isdb_mmt.specs.declared.decoder.counts.Counters.{Counters}
 use Rattle.isdb_mmt.specs.Decoder.Packet.{Bytes}
-use Rattle.isdb_mmt.specs.Decoder.Maps.{find, put, one, is_some}
+use Rattle.isdb_mmt.specs.Decoder.Maps.{find, put, one}
 use Rattle.isdb_mmt.specs.Memory.Lent.{found_from, indexed}
 use Rattle.isdb_mmt.specs.Formats.Section.{length12}
 use Rattle.isdb_mmt.specs.Decoder.Kept.{Section, section_of, Kept, Table, empty_table, mpt_table, plt_table, tot_table, truncated_section, a_section, other_table, other_version, keep_if, keep, with_table_counts, table_counted, section_increments, changes, table_increments, mpt_after, stored, table_read}
 use Rattle.isdb_mmt.specs.Decoder.Needs.{table_area_of}
-use Rattle.isdb_mmt.specs.declared.decoder.place.Found.{Found}
-use Rattle.isdb_mmt.specs.declared.decoder.place.Found.TheVariants.{At, Nothing as not_found}
 use Rattle.isdb_mmt.specs.declared.decoder.section.KeptSection.{KeptSection}
 use Rattle.isdb_mmt.proofs.Views.{keys, entry, FoundAt, found_at, absent, indexed_set, indexed_snoc, keys_indexed}
 use Rattle.isdb_mmt.specs.declared.decoder.table_outcome.Recent.{Recent}
@@ -73,10 +71,10 @@ bytes_new m areas k at b h =
     h ∙ sym (rw (e, q))
 
 -- a section leaves the MPT and the PLT
-abbrev Same : TableOutcome → Recent → ℕ → Type 0
+abbrev Same : TableOutcome → Option Recent → ℕ → Type 0
 Same t r f = (recent_mpt r t.act f ≡ r) × (recent_plt r t.act f ≡ r)
 
-no_recent_lem : (ks : List KeptSection) (x : Section) (r : Recent) (f : ℕ) → Same (section_outcome ks x) r f
+no_recent_lem : (ks : List KeptSection) (x : Section) (r : Option Recent) (f : ℕ) → Same (section_outcome ks x) r f
 unfolding section_outcome
 no_recent_lem ks x r f =
     cond_elim (λ t. Same t r f) x.header_and_crc_good (λ e. by_version (found_from 0 (keys_of ks) x.key))
@@ -85,9 +83,9 @@ no_recent_lem ks x r f =
     by_body : (n i : ℕ) → Same (body_outcome x n i) r f
     by_body n i = cond_elim (λ t. Same t r f) x.body_ok (λ e. (refl, refl)) (λ e. (refl, refl))
 
-    by_version : (g : Found) → Same (version_outcome ks x g) r f
-    by_version not_found = by_body 0 (length ks)
-    by_version (At i) = cond_elim (λ t. Same t r f) ((get_or ks i no_section).version =? x.version) (λ e. (refl, refl)) (λ e. by_body 1 i)
+    by_version : (g : Option ℕ) → Same (version_outcome ks x g) r f
+    by_version None = by_body 0 (length ks)
+    by_version (Some i) = cond_elim (λ t. Same t r f) ((get_or ks i no_section).version =? x.version) (λ e. (refl, refl)) (λ e. by_body 1 i)
 
 module _ (m : Bytes) (a : Areas) (c : Counters) (d : PendingTables) (at : ℕ) where
   abbrev es : List Logged
@@ -108,7 +106,7 @@ module _ (m : Bytes) (a : Areas) (c : Counters) (d : PendingTables) (at : ℕ) w
 
   -- ---- a section's place
 
-  within : (key i : ℕ) → found_from 0 (keys_of ks) key ≡ At i → i < length es
+  within : (key i : ℕ) → found_from 0 (keys_of ks) key ≡ Some i → i < length es
   within key i e =
       omega (arith, found_within 0 (keys_of ks) key i e, length-map ks (λ (k : KeptSection). k.key), length-map es (λ (l : Logged). l.place))
 
@@ -126,10 +124,10 @@ module _ (m : Bytes) (a : Areas) (c : Counters) (d : PendingTables) (at : ℕ) w
     abbrev place : KeptSection
     place = record { key = key; version = v; length = length bs }
 
-    pub put_old : (i : ℕ) → found_from 0 (keys_of ks) key ≡ At i
+    pub put_old : (i : ℕ) → found_from 0 (keys_of ks) key ≡ Some i
         → put key (kept_of v bs) (kepts es) ≡ kepts (put_at es i (logged place (at + 1)))
     put_old i e =
-        let f : found_from 0 (keys (kepts es)) key ≡ At i = ap (λ (ns : List ℕ). found_from 0 ns key) keys_committed ∙ e in
+        let f : found_from 0 (keys (kepts es)) key ≡ Some i = ap (λ (ns : List ℕ). found_from 0 ns key) keys_committed ∙ e in
         let s : FoundAt (kepts es) key (i - 0) = (found_at (kepts es) key 0 i f).1 in
         let z : i - 0 ≡ i = omega arith in
         let w : i < length es = within key i e in
@@ -141,10 +139,10 @@ module _ (m : Bytes) (a : Areas) (c : Counters) (d : PendingTables) (at : ℕ) w
         ∙ sym (indexed_set (committed_entry m a.bytes a.area) es 0 i (logged place (at + 1)))
         ∙ rw (lt-ltb i (length es) w)
 
-    pub put_new : found_from 0 (keys_of ks) key ≡ not_found
+    pub put_new : found_from 0 (keys_of ks) key ≡ None
         → put key (kept_of v bs) (kepts es) ≡ kepts (put_at es (length ks) (logged place (at + 1)))
     put_new e =
-        let f : found_from 0 (keys (kepts es)) key ≡ not_found = ap (λ (ns : List ℕ). found_from 0 ns key) keys_committed ∙ e in
+        let f : found_from 0 (keys (kepts es)) key ≡ None = ap (λ (ns : List ℕ). found_from 0 ns key) keys_committed ∙ e in
         let l : length ks ≡ length es = length-map es (λ (x : Logged). x.place) in
         let n : bs ≡ bytes_at m a.bytes ((0 + length es) * a.area) (at + 1) (length bs) = bytes_new m a.bytes ((0 + length es) * a.area) at bs stood in
         (absent (kepts es) key 0 f).1 (kept_of v bs)
@@ -153,22 +151,22 @@ module _ (m : Bytes) (a : Areas) (c : Counters) (d : PendingTables) (at : ℕ) w
         ∙ rw (le-ltb (length ks) (length es) (omega arith))
 
   -- the map has what the index has
-  abbrev pub Agree : Option Kept → Found → Type 0
-  Agree none not_found = Unit {0}
-  Agree none (At i) = ⊥
-  Agree (some k) not_found = ⊥
-  Agree (some k) (At i) = k.version ≡ (get_or ks i no_section).version
+  abbrev pub Agree : Option Kept → Option ℕ → Type 0
+  Agree None None = Unit {0}
+  Agree None (Some i) = ⊥
+  Agree (Some k) None = ⊥
+  Agree (Some k) (Some i) = k.version ≡ (get_or ks i no_section).version
 
-  pub agree : (key : ℕ) (f : Found) → found_from 0 (keys_of ks) key ≡ f → Agree (find key (kepts es)) f
-  agree key not_found e =
-      let f : found_from 0 (keys (kepts es)) key ≡ not_found = ap (λ (ns : List ℕ). found_from 0 ns key) keys_committed ∙ e in
+  pub agree : (key : ℕ) (f : Option ℕ) → found_from 0 (keys_of ks) key ≡ f → Agree (find key (kepts es)) f
+  agree key None e =
+      let f : found_from 0 (keys (kepts es)) key ≡ None = ap (λ (ns : List ℕ). found_from 0 ns key) keys_committed ∙ e in
       rw (absent (kepts es) key 0 f).0 tt
-  agree key (At i) e =
-      let f : found_from 0 (keys (kepts es)) key ≡ At i = ap (λ (ns : List ℕ). found_from 0 ns key) keys_committed ∙ e in
+  agree key (Some i) e =
+      let f : found_from 0 (keys (kepts es)) key ≡ Some i = ap (λ (ns : List ℕ). found_from 0 ns key) keys_committed ∙ e in
       let s : FoundAt (kepts es) key (i - 0) = (found_at (kepts es) key 0 i f).1 in
       let z : i - 0 ≡ i = omega arith in
       let z0 : Kept = kept_of 0 [] in
-      let w : find key (kepts es) ≡ some (entry (kepts es) i z0) = s.found z0 ∙ ap (λ j. some (entry (kepts es) j z0)) z in
+      let w : find key (kepts es) ≡ Some (entry (kepts es) i z0) = s.found z0 ∙ ap (λ j. Some (entry (kepts es) j z0)) z in
       rw w (version_at es 0 i z0 (within key i e))
 
   -- ---- one table
@@ -210,30 +208,30 @@ module _ (m : Bytes) (a : Areas) (c : Counters) (d : PendingTables) (at : ℕ) w
         (section_increments (sect h ok) o).malformed (section_increments (sect h ok) o).version_changes (section_increments (sect h ok) o).breaks
         (cond (h && (other_version o v && ok)) (length bs) 0)
 
-    abbrev index : Bool → Bool → Found → TableOutcome
+    abbrev index : Bool → Bool → Option ℕ → TableOutcome
     index h ok f = cond h (version_outcome ks (sect h ok) f) (cond cb (outcome 1 0 0 0 Nothing) (outcome 0 1 0 0 Nothing))
 
-    old : (ok q : Bool) (k : Kept) (i : ℕ) → found_from 0 (keys_of ks) key ≡ At i
+    old : (ok q : Bool) (k : Kept) (i : ℕ) → found_from 0 (keys_of ks) key ≡ Some i
         → k.version ≡ (get_or ks i no_section).version → eqb (get_or ks i no_section).version v ≡ q
-        → model true ok (some k) ≡ after (index true ok (At i))
-    unfolding keep_if other_version section_increments is_some committed
+        → model true ok (Some k) ≡ after (index true ok (Some i))
+    unfolding keep_if other_version section_increments committed
     old ok true k i e w q = rw (w, q)
     old true false k i e w q =
         rw (w, q) (ap (λ (l : List (ℕ × Kept)). left l 0 0 1 br (length bs)) (put_old key v bs stood i e))
     old false false k i e w q = rw (w, q)
 
-    fresh : (ok : Bool) → found_from 0 (keys_of ks) key ≡ not_found → model true ok none ≡ after (index true ok not_found)
-    unfolding keep_if other_version section_increments is_some committed
+    fresh : (ok : Bool) → found_from 0 (keys_of ks) key ≡ None → model true ok None ≡ after (index true ok None)
+    unfolding keep_if other_version section_increments committed
     fresh true e = ap (λ (l : List (ℕ × Kept)). left l 0 0 0 br (length bs)) (put_new key v bs stood e)
     fresh false e = refl
 
-    sec : (h ok : Bool) (o : Option Kept) (f : Found) → found_from 0 (keys_of ks) key ≡ f → Agree o f
+    sec : (h ok : Bool) (o : Option Kept) (f : Option ℕ) → found_from 0 (keys_of ks) key ≡ f → Agree o f
         → model h ok o ≡ after (index h ok f)
-    unfolding keep_if other_version section_increments is_some committed
-    sec true ok none not_found e g = fresh ok e
-    sec true ok none (At i) e g = absurd g
-    sec true ok (some k) not_found e g = absurd g
-    sec true ok (some k) (At i) e g = old ok (eqb (get_or ks i no_section).version v) k i e g refl
+    unfolding keep_if other_version section_increments committed
+    sec true ok None None e g = fresh ok e
+    sec true ok None (Some i) e g = absurd g
+    sec true ok (Some k) None e g = absurd g
+    sec true ok (Some k) (Some i) e g = old ok (eqb (get_or ks i no_section).version v) k i e g refl
     sec false ok o f e g = bad cb
       where
         bad : (b : Bool)
@@ -248,9 +246,11 @@ module _ (m : Bytes) (a : Areas) (c : Counters) (d : PendingTables) (at : ℕ) w
       (found_from 0 (keys_of ks) x.key) refl (agree x.key (found_from 0 (keys_of ks) x.key) refl)
 
   -- a version change is the model's
-  changed : (o : Option Bytes) (r : Recent) → VersionOf o r → (b : Bytes) → changes o b ≡ changes_to r (get_or b 1 0)
-  changed none r w b = rw w
-  changed (some old) r w b = rw (w.0, w.1)
+  changed : (o : Option Bytes) (r : Option Recent) → VersionOf o r → (b : Bytes) → changes o b ≡ changes_to r (get_or b 1 0)
+  changed None None w b = refl
+  changed None (Some r) w b = absurd w
+  changed (Some old) None w b = absurd w
+  changed (Some old) (Some r) w b = rw w
 
   pub one_table : Versions m a d → (t : Table) → TableAt m at t → after_table (committed m a c d) t ≡ after (table_outcome ks d.mpt d.plt t)
   unfolding stored table_increments table_counted mpt_after table_area_of table_outcome committed
@@ -259,20 +259,20 @@ module _ (m : Bytes) (a : Areas) (c : Counters) (d : PendingTables) (at : ℕ) w
       let n = bytes_new m a.bytes a.mpt at b h in
       let e = changed mpt_d d.mpt w.mpt b in
       λ i.
-      mk (some (n i)) plt_d tot_d (kepts es) d.others (d.tables + 1) (d.crc_errors + 0) (d.malformed + 0) (d.changes + one (e i))
+      mk (Some (n i)) plt_d tot_d (kepts es) d.others (d.tables + 1) (d.crc_errors + 0) (d.malformed + 0) (d.changes + one (e i))
       (d.breaks + breaks) (max d.longest (length b))
   one_table w (mpt_table false breaks b) h = refl
   one_table w (plt_table true b) h =
       let n = bytes_new m a.bytes a.plt at b h in
       let e = changed plt_d d.plt w.plt b in
       λ i.
-      mk mpt_d (some (n i)) tot_d (kepts es) d.others (d.tables + 1) (d.crc_errors + 0) (d.malformed + 0) (d.changes + one (e i))
+      mk mpt_d (Some (n i)) tot_d (kepts es) d.others (d.tables + 1) (d.crc_errors + 0) (d.malformed + 0) (d.changes + one (e i))
       (d.breaks + 0) (max d.longest (length b))
   one_table w (plt_table false b) h = refl
   one_table w (tot_table true crc breaks b) h =
       let n = bytes_new m a.bytes a.tot at b h in
       λ i.
-      mk mpt_d plt_d (some (n i)) (kepts es) d.others (d.tables + 1) (d.crc_errors + one crc) (d.malformed + 0) (d.changes + 0)
+      mk mpt_d plt_d (Some (n i)) (kepts es) d.others (d.tables + 1) (d.crc_errors + one crc) (d.malformed + 0) (d.changes + 0)
       (d.breaks + breaks) (max d.longest (length b))
   one_table w (tot_table false crc breaks b) h = refl
   one_table w truncated_section h = refl
@@ -281,7 +281,7 @@ module _ (m : Bytes) (a : Areas) (c : Counters) (d : PendingTables) (at : ℕ) w
 
   -- the versions stay those of the bytes
   kept_version : (areaAt : ℕ) (b : Bytes) → PlacedAt m at b → VersionOf (committed_recent m a.bytes areaAt (recent (get_or b 1 0) (at + 1) (length b))) (recent (get_or b 1 0) (at + 1) (length b))
-  kept_version areaAt b h = (refl, ap (λ (x : Bytes). get_or x 1 0) (bytes_new m a.bytes areaAt at b h))
+  kept_version areaAt b h = ap (λ (x : Bytes). get_or x 1 0) (bytes_new m a.bytes areaAt at b h)
 
   pub versions_stay : Versions m a d → (t : Table) → TableAt m at t → Versions m a (pending_after d (table_outcome ks d.mpt d.plt t) (at + 1))
   unfolding table_outcome
@@ -295,7 +295,7 @@ module _ (m : Bytes) (a : Areas) (c : Counters) (d : PendingTables) (at : ℕ) w
   versions_stay w truncated_section h = record { mpt = w.mpt; plt = w.plt }
   versions_stay w (a_section x) h = of_section (section_outcome ks x) (no_recent_lem ks x)
     where
-      of_section : (t : TableOutcome) → ((r : Recent) (f : ℕ) → Same t r f) → Versions m a (pending_after d t (at + 1))
+      of_section : (t : TableOutcome) → ((r : Option Recent) (f : ℕ) → Same t r f) → Versions m a (pending_after d t (at + 1))
       of_section t s = record { mpt = rw (s d.mpt (at + 1)).0 w.mpt; plt = rw (s d.plt (at + 1)).1 w.plt }
   versions_stay w (other_table id) h = record { mpt = w.mpt; plt = w.plt }
 

@@ -1,18 +1,18 @@
 -- The place of a control id: what is known of it before a message packet, and after any. Assumes nothing.
 use Rattle.std.proofs.Common.{◌≡◌, ℕ, ◌+◌, ◌-◌, ◌*◌, ◌<◌, ◌≤◌, true, false, List, [], ◌∷◌, length, get_or, sym, refl, ap, ◌∙◌, subst, add-zero, arith, length-append, length-set}
 use Rattle.isdb_tlv.specs.Guards.{◌<?◌}
-use Rattle.std.specs.Prelude.{if◌then◌else◌}
+use Rattle.std.specs.Prelude.{if◌then◌else◌, Option, None, Some, is_some}
 use Rattle.isdb_mmt.specs.Decoder.Packet.{Bytes, MessagePacket, message}
 use Rattle.isdb_mmt.specs.Memory.Lent.{part, names_from, found_from}
 use Rattle.isdb_mmt.specs.Memory.Layout.{control_places, control_size}
 use Rattle.isdb_mmt.specs.Memory.Session.{Session, limits_of, used_of, counters_of, control_at, control_place_of}
 use Rattle.isdb_mmt.specs.Memory.Check.{Sound, lengths_of, controls_in, control_sound, media_in, sections_in}
 use Rattle.isdb_mmt.specs.Pushes.Leaves.{with_sections, kept_over, latest_over, message_in, message_at, message_leaves, packet_leaves, control_place_for, joined_in, bytes_over, used_for}
-use Rattle.isdb_mmt.specs.Pushes.Fragments.{laid_by, area_by, fragment_outcome, joined_by, control_with, Faults, faults_of, counted_with, fragment_counted}
+use Rattle.isdb_mmt.specs.Pushes.Fragments.{joined_as, laid_by, area_by, fragment_outcome, joined_by, control_with, Faults, faults_of, counted_with, fragment_counted}
 use Rattle.isdb_mmt.specs.Pushes.FragmentPush.{blank_place, with_reassembly, with_counts}
 use Rattle.isdb_mmt.specs.Pushes.Start.{malformed_more}
-use Rattle.isdb_mmt.specs.Decoder.Maps.{put, or_else, is_some, one}
-use Rattle.isdb_mmt.specs.Decoder.Reassembly.{idle, reassembly_after, message_completed, cut_of_all}
+use Rattle.isdb_mmt.specs.Decoder.Maps.{put, or_else, one}
+use Rattle.isdb_mmt.specs.Decoder.Reassembly.{PartialMessage, idle, reassembly_after, message_completed, cut_of_all}
 use Rattle.isdb_mmt.specs.Decoder.Model.{State, Control as ControlState, control_of, idle_control, reassembly_of, packet_counted, message_counted, reassembly_counted, pushed, gives}
 use Rattle.isdb_mmt.specs.Memory.View.{given, control_state_in, control_entry, kept_table_at, view_by, view, asset_entry, section_entry}
 use Rattle.isdb_mmt.specs.Decoder.Kept.{with_packet_counts, mpt_after_all}
@@ -26,7 +26,6 @@ use Rattle.isdb_mmt.specs.declared.decoder.counts.Counters.{Counters}
 use Rattle.isdb_mmt.specs.declared.decoder.control.Control.{Control}
 use Rattle.isdb_mmt.specs.declared.decoder.messages.FragmentOutcome.{FragmentOutcome}
 use Rattle.isdb_mmt.specs.declared.decoder.place.PlaceFor.TheVariants.{Own, Free, NoneFree}
-use Rattle.isdb_mmt.specs.declared.decoder.place.Found.TheVariants.{At, Nothing}
 use Rattle.isdb_mmt.specs.declared.decoder.messages.Joined.{Joined}
 use Rattle.isdb_mmt.specs.declared.decoder.place.PlaceFor.{PlaceFor}
 use Rattle.isdb_mmt.proofs.Lent.{length_part, length_names}
@@ -73,7 +72,7 @@ module _ (s : Session) (ok : Sound s.state s.others (lengths_of s)) (id : ℕ) w
   unfolding control_place_for control_of or_else view view_by controls_in
   sits_old i place_for_of =
       let c : Control = control_at st i in
-      let e : found_from 0 (keys (control_entries s)) id ≡ At i =
+      let e : found_from 0 (keys (control_entries s)) id ≡ Some i =
       ap (λ (ns : List ℕ). found_from 0 ns id) (control_names_lem s)
       ∙ place_for_was_old (names_from (used_of st).control_ids control_size control_places st) l.control_ids id i place_for_of in
       let z : i - 0 ≡ i = omega arith in
@@ -106,7 +105,7 @@ module _ (s : Session) (ok : Sound s.state s.others (lengths_of s)) (id : ℕ) w
   unfolding control_place_for control_of or_else view view_by
   sits_new i place_for_of =
       let w = place_for_was_new (names_from (used_of st).control_ids control_size control_places st) l.control_ids id i place_for_of in
-      let e : found_from 0 (keys (control_entries s)) id ≡ Nothing = ap (λ (ns : List ℕ). found_from 0 ns id) (control_names_lem s) ∙ w.0 in
+      let e : found_from 0 (keys (control_entries s)) id ≡ None = ap (λ (ns : List ℕ). found_from 0 ns id) (control_names_lem s) ∙ w.0 in
       let a = absent (control_entries s) id 0 e in
       record {
         is = ap (or_else idle_control) a.0 ∙ sym (blank_idle (part (i * l.message_area) 0 s.messages) (kept_table_at l s (l.sections + i) 0));
@@ -151,13 +150,20 @@ module _ (s : Session) (ok : Sound s.state s.others (lengths_of s)) (x : Message
   unfolding pushed control_of or_else
   own = ap (or_else idle_control) (find_put x.id _ v.controls)
 
+  place_with : (o : Option PartialMessage) (t : Option Bytes)
+      → control_for x.id (record { reassembly = record { number = Some x.number; partial = o }; mpt = t }) ≡ control_with x.id x.number (joined_as o) (is_some t) (table_length t)
+  unfolding control_for or_else
+  place_with None t = refl
+  place_with (Some j) t = refl
+
   pub place_after : control_for x.id (control_of x.id n)
       ≡ control_with x.id x.number (joined_by f c b) (is_some (control_of x.id n).mpt) (table_length (control_of x.id n).mpt)
-  unfolding control_for reassembly_after is_some or_else
+  unfolding control_for reassembly_after or_else
   place_after =
       ap (control_for x.id) own
+      ∙ place_with (reassembly_after (reassembly_of x.id v) x).partial (mpt_after_all (control_of x.id v).mpt (tables_given (reassembly_of x.id v) x))
       ∙ ap
-      (λ (j : Joined).
+      (λ (j : Option Joined).
       control_with x.id x.number j (is_some (mpt_after_all (control_of x.id v).mpt (tables_given (reassembly_of x.id v) x)))
       (table_length (mpt_after_all (control_of x.id v).mpt (tables_given (reassembly_of x.id v) x))))
       does.joined
@@ -268,7 +274,7 @@ no_place s ok x e =
     let st = s.state in
     let l = limits_of st in
     let w = place_for_was_full (names_from (used_of st).control_ids control_size control_places st) l.control_ids x.id e in
-    let q : found_from 0 (keys (control_entries s)) x.id ≡ Nothing = ap (λ (ns : List ℕ). found_from 0 ns x.id) (control_names_lem s) ∙ w.0 in
+    let q : found_from 0 (keys (control_entries s)) x.id ≡ None = ap (λ (ns : List ℕ). found_from 0 ns x.id) (control_names_lem s) ∙ w.0 in
     let a : length (pushed (view s) (message x)).controls ≡ length (control_entries s) + 1 =
     ap (λ (m : List (ℕ × ControlState)). length m) ((absent (control_entries s) x.id 0 q).1 _) ∙ length-append (control_entries s) (_ ∷ []) in
     record {

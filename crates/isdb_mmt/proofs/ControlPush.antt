@@ -1,6 +1,6 @@
 -- A control packet: what is asked and left is the model's. Assumes nothing.
+use Rattle.std.specs.Prelude.{None}
 use Rattle.std.proofs.Common.{◌≡◌, ℕ, ◌+◌, ◌*◌, ◌<◌, ◌≤◌, true, false, ltb, List, [], ◌++◌, map, length, get_or, take, drop, replicate, sym, refl, ap, ◌∙◌, subst, add-zero, mul-le-mul_right, arith, w8, Fits as FitsIn, ltb-false, ltb-true, le-ltb, le-leb}
-use mathlib.Core.Option.{none}
 use native.Mathlib.Nat.{zero-max}
 use lib.ListN.{length-replicate}
 use borrow.Author.Tests.{lt-leb}
@@ -30,11 +30,10 @@ use Rattle.isdb_mmt.specs.Pushes.Placed.{table_bytes, placed_sections}
 use Rattle.isdb_mmt.specs.Pushes.TableState.{TableState}
 use Rattle.isdb_mmt.specs.Pushes.PendingTables.{section_read, Logged, with_log, pending_of, Areas, committed, Versions, Walked, CanWalkSections}
 use Rattle.isdb_mmt.specs.Pushes.Commit.{put_tables, logged_from, AllFit, CanStore}
-use Rattle.isdb_mmt.specs.Pushes.Start.{no_recent, walk_start, tables_ask, signal_of, counters_with, with_sections_used, CanLeave, SectionsLeft}
+use Rattle.isdb_mmt.specs.Pushes.Start.{walk_start, tables_ask, signal_of, counters_with, with_sections_used, CanLeave, SectionsLeft}
 use Rattle.isdb_mmt.specs.declared.decoder.limits.Limits.{Limits}
 use Rattle.isdb_mmt.specs.declared.decoder.counts.Counters.{Counters}
 use Rattle.isdb_mmt.specs.declared.decoder.head.Used.{Used}
-use Rattle.isdb_mmt.specs.declared.decoder.table_outcome.Recent.{Recent}
 use Rattle.isdb_mmt.specs.declared.decoder.walk.WalkState.{WalkState}
 use Rattle.isdb_mmt.proofs.Lent.{length_part}
 use Rattle.isdb_mmt.proofs.Checks.{count_was}
@@ -72,7 +71,7 @@ module _ (state others objects messages tables : List ℕ) (b : Bytes) (can : Ca
   log₀ = replicate most_sections 0
 
   abbrev g₀ : WalkState
-  g₀ = walk_start state tables c₁ no_recent
+  g₀ = walk_start state tables c₁ None
 
   control_can : CanWalkSections ix₀ log₀ others g₀ b
   unfolding packet_counted
@@ -101,12 +100,12 @@ module _ (state others objects messages tables : List ℕ) (b : Bytes) (can : Ca
 
   -- the copies are those
   module _ (c : Counters) (ec : c ≡ c₁) (log : List ℕ) (ll : length log ≡ most_sections) (ix log' mine : List ℕ) (ei : ix ≡ ix₀)
-      (el : log' ≡ replicate (length log) 0) (em : mine ≡ others) (z : Recent) (ez : z ≡ no_recent) (g : WalkState) (eg : g ≡ walk_start state tables c z) where
+      (el : log' ≡ replicate (length log) 0) (em : mine ≡ others) (g : WalkState) (eg : g ≡ walk_start state tables c None) where
     el₀ : log' ≡ log₀
     el₀ = el ∙ ap (λ n. replicate {A = ℕ} n 0) ll
 
     eg₀ : g ≡ g₀
-    eg₀ = eg ∙ ap (λ (x : Counters). walk_start state tables x z) ec ∙ ap (λ (x : Recent). walk_start state tables c₁ x) ez
+    eg₀ = eg ∙ ap (λ (x : Counters). walk_start state tables x None) ec
 
     pub copies_can : CanWalkSections ix log' mine g b
     copies_can = rw (ei, el₀, em, eg₀) control_can
@@ -128,7 +127,7 @@ module _ (state others objects messages tables : List ℕ) (b : Bytes) (can : Ca
     bs = map (λ (x : Found). take x.size (drop x.offset b)) (sections_of b)
 
     abbrev a : Areas
-    a = areas s ok b log₀ (no_log most_sections) no_recent 0 c₁ c₁
+    a = areas s ok b log₀ (no_log most_sections) None 0 c₁ c₁
 
     abbrev before : TableState
     before = committed b a c₁ (pending_of ix₀ log₀ others g₀)
@@ -140,7 +139,7 @@ module _ (state others objects messages tables : List ℕ) (b : Bytes) (can : Ca
     same_tables = ap (map section_read) (bytes_sections b)
 
     same_store : before.store ≡ (view s).store
-    same_store = store_view s ok b log₀ (no_log most_sections) no_recent 0 c₁ c₁
+    same_store = store_view s ok b log₀ (no_log most_sections) None 0 c₁ c₁
 
     store_next : stored_all before.store ts ≡ next.store
     unfolding pushed
@@ -149,14 +148,14 @@ module _ (state others objects messages tables : List ℕ) (b : Bytes) (can : Ca
     counters_next : counted_all before.mpt before.store before.counters ts ≡ next.counters
     unfolding pushed committed packet_counted view view_by
     counters_next =
-        ap (λ (x : KeptTables). counted_all none x c₁ ts) same_store ∙ ap (λ (x : List Table). counted_all none (view s).store c₁ x) same_tables
+        ap (λ (x : KeptTables). counted_all None x c₁ ts) same_store ∙ ap (λ (x : List Table). counted_all None (view s).store c₁ x) same_tables
 
     need_next : tables_need before.store ts ≡ (needs (view s) p).table
     unfolding needs
     need_next = ap (λ (x : KeptTables). tables_need x ts) same_store ∙ ap (tables_need (view s).store) same_tables
 
     versions : Versions b a (pending_of ix₀ log₀ others g₀)
-    versions = versions_view s ok b log₀ (no_log most_sections) no_recent 0 c₁ c₁ refl
+    versions = versions_view s ok b log₀ (no_log most_sections) None 0 c₁ c₁ tt
 
     abbrev after : TableState
     after = committed b a c₁ (pending_of ix log mine r)
@@ -316,7 +315,7 @@ module _ (state others objects messages tables : List ℕ) (b : Bytes) (can : Ca
           nine_zero q = omega arith
 
       held : AllHeld b l.table_area 0 (pending_of ix₀ log₀ others g₀).index
-      held = held_view s ok b log₀ (no_log most_sections) no_recent 0 c₁ c₁
+      held = held_view s ok b log₀ (no_log most_sections) None 0 c₁ c₁
 
       all_fit : AllFit l.table_area b (with_log (index_of r.used ix) log)
       all_fit =
@@ -396,18 +395,17 @@ module _ (state others objects messages tables : List ℕ) (b : Bytes) (can : Ca
   -- ---- in the order of the code
 
   module _ (k : Counters) (ek : k ≡ counters_of state) (c : Counters) (ec : c ≡ (packet_counted k 0 0 0)) (log : List ℕ)
-      (ll : length log ≡ most_sections) (ix₁ log₁ mine₁ : List ℕ) (ei : ix₁ ≡ ix₀) (el : log₁ ≡ replicate (length log) 0) (em : mine₁ ≡ others) (z : Recent)
-      (ez : z ≡ no_recent) (g : WalkState) (eg : g ≡ walk_start state tables c z) where
+      (ll : length log ≡ most_sections) (ix₁ log₁ mine₁ : List ℕ) (ei : ix₁ ≡ ix₀) (el : log₁ ≡ replicate (length log) 0) (em : mine₁ ≡ others) (g : WalkState) (eg : g ≡ walk_start state tables c None) where
     counted_is : c ≡ c₁
     counted_is = ec ∙ ap (λ (x : Counters). packet_counted x 0 0 0) ek
 
     pub push_can : CanWalkSections ix₁ log₁ mine₁ g b
-    push_can = copies_can c counted_is log ll ix₁ log₁ mine₁ ei el em z ez g eg
+    push_can = copies_can c counted_is log ll ix₁ log₁ mine₁ ei el em g eg
 
     module _ (r : WalkState) (ix₂ log₂ mine₂ : List ℕ) (w : Walked section_read ix₁ log₁ mine₁ g (placed_sections b 0) (length b + 1) 0 r ix₂ log₂ mine₂)
         (j : Limits) (ej : j ≡ l) (x : ℕ) (ex : x ≡ tables_ask j r) where
       w₀ : Walked section_read ix₀ log₀ others g₀ (placed_sections b 0) (length b + 1) 0 r ix₂ log₂ mine₂
-      w₀ = copies_walked c counted_is log ll ix₁ log₁ mine₁ ei el em z ez g eg (length b + 1) 0 r ix₂ log₂ mine₂ w
+      w₀ = copies_walked c counted_is log ll ix₁ log₁ mine₁ ei el em g eg (length b + 1) 0 r ix₂ log₂ mine₂ w
 
       ex₀ : x ≡ tables_ask l r
       ex₀ = ex ∙ ap (λ (y : Limits). tables_ask y r) ej

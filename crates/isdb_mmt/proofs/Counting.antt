@@ -1,4 +1,5 @@
 -- The count of a packet, in the state's bytes. Assumes nothing.
+use Rattle.std.specs.Prelude.{Option, Some}
 use Rattle.std.proofs.Common.{◌≡◌, ℕ, ◌+◌, ◌≤◌, true, List, sym, refl, ap, ◌∙◌, subst, add-zero}
 use Rattle.isdb_tlv.specs.Fields.{written}
 use Rattle.isdb_mmt.specs.Decoder.Kept.{with_packet_counts}
@@ -11,8 +12,6 @@ use Rattle.isdb_mmt.specs.Pushes.Leaves.{with_counters, with_time}
 use Rattle.isdb_mmt.specs.Pushes.Route.{time_given}
 use Rattle.isdb_mmt.specs.Pushes.Counted.{Countable, StateCountable}
 use Rattle.isdb_mmt.specs.Pushes.Fragments.{CanCount}
-use Rattle.isdb_mmt.specs.declared.maybe.MaybeU64.{MaybeU64}
-use Rattle.isdb_mmt.specs.declared.maybe.MaybeU64.TheVariants.{Some as some_u64}
 use Rattle.isdb_mmt.specs.declared.decoder.counts.Counters.{Counters}
 use Rattle.isdb_mmt.proofs.Checks.{count_was}
 
@@ -66,12 +65,12 @@ module _ (l : List ℕ) (c : Counters) (e : c ≡ counters_of l) where
       (h ∙ ap (λ (x : Counters). packet_counted x ip non time) e)
 
   pub counted_after : (ip non time : ℕ) (d : Counters) → d ≡ (packet_counted c ip non time)
-      → (t : MaybeU64) (m m' : List ℕ) → m ≡ with_time (time_given t) l → m' ≡ over counters_place (written (counters_fields d)) m
+      → (t : Option ℕ) (m m' : List ℕ) → m ≡ with_time (time_given t) l → m' ≡ over counters_place (written (counters_fields d)) m
       → m' ≡ with_counters (packet_counted (counters_of l) ip non time) (with_time (time_given t) l)
   counted_after ip non time d h t m m' j k =
       counted_over ip non time d h m m' k
       ∙ ap (λ (x : List ℕ). with_counters (packet_counted (counters_of l) ip non time) x) j
 
-pub time_seen_lem : (l l' : List ℕ) (t : MaybeU64) (v : ℕ) → t ≡ some_u64 v
+pub time_seen_lem : (l l' : List ℕ) (t : Option ℕ) (v : ℕ) → t ≡ Some v
     → l' ≡ over time_place (written (time_fields (record { seen = true; timestamp = v }))) l → l' ≡ with_time (time_given t) l
-time_seen_lem l l' t v e h = h ∙ ap (λ (x : MaybeU64). with_time (time_given x) l) (sym e)
+time_seen_lem l l' t v e h = h ∙ ap (λ (x : Option ℕ). with_time (time_given x) l) (sym e)

@@ -1,4 +1,5 @@
 -- The declared bytes of a table read as the table does: its parser looks at nothing behind them. Assumes nothing.
+use Rattle.std.specs.Prelude.{Result, Some}
 use Rattle.std.proofs.Common.{◌≡◌, ℕ, zero, suc, ◌+◌, ◌-◌, ◌%◌, ◌<◌, ◌≤◌, not, eqb, ltb, leb, [], ◌∷◌, length, take, drop, refl, ap, ◌∙◌, arith, length-take-le, take_all, get_or-take, take-take, ltb-false, le-ltb, leb-false, leb-true}
 use Rattle.isdb_tlv.specs.Bytes.{be}
 use Rattle.isdb_tlv.specs.Crc.{crc_of}
@@ -17,8 +18,6 @@ use Rattle.isdb_mmt.specs.Formats.Plt.{plt_of, plt_table}
 use Rattle.isdb_mmt.specs.Decoder.Kept.{declared_section, declared_table, body_read}
 use Rattle.isdb_mmt.specs.declared.table.section.SectionHeader.{SectionHeader}
 use Rattle.isdb_mmt.specs.declared.table.section.SectionError.{SectionError}
-use Rattle.isdb_mmt.specs.declared.table.section.LongSection.{LongSection}
-use Rattle.isdb_mmt.specs.declared.maybe.MaybeUsize.TheVariants.{Some as At}
 
 part_take : (k m n : ℕ) (l : Bytes) → k + m ≤ n → take m (drop k (take n l)) ≡ take m (drop k l)
 part_take zero m n l h = take-take m n l (omega arith)
@@ -71,7 +70,7 @@ module _ (b : Bytes) where
 
   -- what reads a section by its header and body
   module _ {R : Type 0} (refused : SectionError → R) (read : SectionHeader → Bytes → R) where
-    abbrev Alike : LongSection → Type 0
+    abbrev Alike : Result SectionHeader SectionError → Type 0
     Alike x = in_section refused read (take n b) x ≡ in_section refused read b x
 
     alike : Alike (long_section_of b)
@@ -131,11 +130,11 @@ module _ (b : Bytes) where
   abbrev k : ℕ
   k = be 2 b 2 + 4
 
-  same_length : k < length b → length (take k b) ≡ k → declared_length_of (take k b) ≡ At k
+  same_length : k < length b → length (take k b) ≡ k → declared_length_of (take k b) ≡ Some k
   unfolding declared_length_of
   same_length l e = simp (e, be_take 2 k b 2 (omega arith), le-ltb k 4 (omega arith), le-ltb k k (omega arith))
 
-  was_length : k < length b → declared_length_of b ≡ At k
+  was_length : k < length b → declared_length_of b ≡ Some k
   unfolding declared_length_of
   was_length l = simp (le-ltb (length b) 4 (omega arith), le-ltb (length b) k (omega arith))
 

@@ -5,10 +5,9 @@ use lib.ListN.{length-map}
 use Rattle.isdb_tlv.specs.Bytes.{be}
 use Rattle.isdb_tlv.specs.Walk.{turn}
 use Rattle.isdb_tlv.specs.Guards.{◌<?◌}
-use Rattle.std.specs.Prelude.{if◌then◌else◌}
+use Rattle.std.specs.Prelude.{if◌then◌else◌, None, Option, Some, is_some}
 use Rattle.isdb_tlv.proofs.Guards.{cond_elim, either}
 use Rattle.isdb_mmt.specs.Formats.Part.{part_of}
-use Rattle.isdb_mmt.specs.Decoder.Maps.{is_some}
 use Rattle.isdb_mmt.specs.Formats.Timestamp.{timestamp_at, unit_size_of, mpu_at, mpus_whole, head_end, extended_of, unit_step}
 use Rattle.isdb_mmt.specs.Formats.Desc.{step_at, Split, item, split_from, split_of, counted as told, access_control, scrambler, stream_identifier, service_text, short_event_of, hevc, extended_in, extended_timestamp, descriptor_of, service_at, genre_at}
 use Rattle.isdb_mmt.specs.Formats.Nit.{tlv_step_at}
@@ -18,8 +17,6 @@ use Rattle.isdb_mmt.specs.Decoder.Kept.{declared_section}
 use Rattle.isdb_mmt.specs.WholeValues.WholeLists.{whole_raw}
 use Rattle.isdb_mmt.specs.WholeValues.Walks.{LoopTheorem, TotTheorem, RowsTheorem, ExtendedTheorem, UnitsTheorem}
 use Rattle.isdb_mmt.specs.declared.timestamp.Extended.{Extended}
-use Rattle.isdb_mmt.specs.declared.timestamp.MaybeExtended.{MaybeExtended}
-use Rattle.isdb_mmt.specs.declared.timestamp.MaybeExtended.TheVariants.{None as not_extended, Some as extended}
 use Rattle.isdb_mmt.specs.declared.timestamp.MpuStep.{MpuStep}
 use Rattle.isdb_mmt.specs.declared.timestamp.MpuStep.TheVariants.{End as no_mpu, Broken as broken_mpu, Mpu}
 use Rattle.isdb_mmt.specs.declared.desc.Step.{Step}
@@ -46,7 +43,6 @@ module _ (s : List ℕ) where
   mapped l = record { found = map (whole_raw s) l.found; whole = not (is_some l.broke) }
 
   turned : (d : Step) → mapped (turn (split_from s) (item d)) ≡ turn (λ p. mapped (split_from s p)) (onward (descriptor_told s d))
-  unfolding is_some
   turned End = refl
   turned (Broken p) = refl
   turned (Raw tag body next) = refl
@@ -142,9 +138,9 @@ module _ (s : List ℕ) (e : Extended) where
       (sym (same_whole (mpu_seen_of s e) (length s) on_mpu (mpus_whole s own) (λ p. mpu_turn p (mpu_at s own p) refl) at) ∙ w)
 
 module _ (s : List ℕ) where
-  abbrev ExtendedGood : MaybeExtended → Type 0
-  ExtendedGood not_extended = Unit {0}
-  ExtendedGood (extended e) = Ends (mpu_seen_of s e) e.start (whole_extended s e).mpus at_end
+  abbrev ExtendedGood : Option Extended → Type 0
+  ExtendedGood None = Unit {0}
+  ExtendedGood (Some e) = Ends (mpu_seen_of s e) e.start (whole_extended s e).mpus at_end
 
   extended_good : ExtendedGood (extended_of s)
   unfolding extended_of
@@ -170,9 +166,9 @@ module _ (s : List ℕ) where
   Good (BroadcasterName n) = Unit {0}
   Good (Other t b) = Unit {0}
 
-  in_good : (m : MaybeExtended) → ExtendedGood m → Good (extended_in s m)
-  in_good not_extended w = tt
-  in_good (extended e) w = w
+  in_good : (m : Option Extended) → ExtendedGood m → Good (extended_in s m)
+  in_good None w = tt
+  in_good (Some e) w = w
 
   timestamp_good : Good (extended_timestamp s)
   unfolding extended_timestamp

@@ -1,7 +1,7 @@
 -- The walk over a descriptor loop: each descriptor leads on to a place ahead and lies within the loop, so that steps from one to
 -- the next go over all of them. Assumes nothing.
+use Rattle.std.specs.Prelude.{None, Option, Some, is_some}
 use Rattle.std.proofs.Common.{◌≡◌, ℕ, suc, ◌+◌, ◌-◌, ◌%◌, ◌^◌, ◌<◌, ◌≤◌, true, false, cond, not, eqb, ltb, leb, List, [], ◌∷◌, length, get_or, sym, refl, ◌∙◌, add-zero, zero-add, arith, w8, Fits, ltb-false, eq-eqb, ne_eqb, leb-false}
-use mathlib.Core.Option.{none}
 use denote.Enum.Declared.{tag_of}
 use types.Run.{OneOf, miss}
 use Rattle.isdb_tlv.specs.Bytes.{be}
@@ -11,7 +11,6 @@ use Rattle.isdb_tlv.proofs.Numbers.{be_whole}
 use Rattle.isdb_tlv.proofs.Guards.{cond_elim, either}
 use Rattle.isdb_mmt.specs.contracts.desc.Descriptor.{the_type}
 use Rattle.isdb_mmt.specs.Formats.Part.{part_of}
-use Rattle.isdb_mmt.specs.Decoder.Maps.{is_some}
 use Rattle.isdb_mmt.specs.Formats.Desc.{length_width_of, body_at, step_at, Split, item, split_from, counted, descriptor_of, is_other_of, or_next, first_of}
 use Rattle.isdb_mmt.specs.declared.part.Part.{Part}
 use Rattle.isdb_mmt.specs.declared.desc.Step.{Step}
@@ -19,8 +18,6 @@ use Rattle.isdb_mmt.specs.declared.desc.Step.TheVariants.{End, Broken, Raw}
 use Rattle.isdb_mmt.specs.declared.desc.Counted.{Counted}
 use Rattle.isdb_mmt.specs.declared.desc.Descriptor.{Descriptor}
 use Rattle.isdb_mmt.specs.declared.desc.Descriptor.TheVariants.{MpuTimestamp, ExtendedTimestamp, AccessControl, Scrambler, StreamIdentifier, Service, ServiceList, ShortEvent, Content, Hevc, BroadcasterName, Other}
-use Rattle.isdb_mmt.specs.declared.desc.Found.{Found}
-use Rattle.isdb_mmt.specs.declared.desc.Found.TheVariants.{None as not_found, Some as found}
 
 -- a length has four bytes at most
 pub width_le : (tag : ℕ) → length_width_of tag ≤ 4
@@ -79,7 +76,7 @@ module _ (s : List ℕ) where
   pub split_at : (at : ℕ) → split_from s at ≡ turn (split_from s) (item (step_at s at))
   unfolding split_from
   split_at at =
-      walk_at (λ p. item (step_at s p)) (record { found = []; broke = none }) (length s) (λ p. ahead_of p (step_at s p) (step_inside p)) at
+      walk_at (λ p. item (step_at s p)) (record { found = []; broke = None }) (length s) (λ p. ahead_of p (step_at s p) (step_inside p)) at
 
 -- k descriptors before these
 abbrev pub plus : ℕ → Split → Counted
@@ -92,12 +89,16 @@ plus_zero l = rw zero-add
 -- the turns of the count
 module _ (s : List ℕ) (at k : ℕ) {r : Counted} (e : plus k (split_from s at) ≡ r) where
   pub count_end : step_at s at ≡ End → record { count = k; broken = false } ≡ r
-  unfolding is_some
   count_end d = rw (split_at s at, d, add-zero) at e
 
   pub count_broken : {p : ℕ} → step_at s at ≡ Broken p → record { count = k; broken = true } ≡ r
-  unfolding is_some
   count_broken d = rw (split_at s at, d, add-zero) at e
+
+  pub count_last : (d : Step) → d ≡ step_at s at → ((tag : ℕ) (body : Part) (to : ℕ) → d ≡ Raw tag body to → ⊥) → ((p : ℕ) → d ≡ Broken p → ⊥)
+      → record { count = k; broken = false } ≡ r
+  count_last End d h b = count_end (sym d)
+  count_last (Broken p) d h b = absurd (b p refl)
+  count_last (Raw tag body to) d h b = absurd (h tag body to refl)
 
   pub count_on : {tag next : ℕ} {body : Part} → step_at s at ≡ Raw tag body next → plus (k + 1) (split_from s next) ≡ r
   count_on {next = next} d =
@@ -123,18 +124,17 @@ decoded_one (Hevc p t l) h = refl
 decoded_one (BroadcasterName n) h = refl
 decoded_one (Other t b) h = absurd (miss before_other 11 tt h)
 
-or_next_lem : (d : Descriptor) (body : Part) (rest : Found) → or_next d body rest ≡ cond (not (is_other_of d)) (found d body) rest
+or_next_lem : (d : Descriptor) (body : Part) (rest : Option (Descriptor × Part)) → or_next d body rest ≡ cond (not (is_other_of d)) (Some (d, body)) rest
 or_next_lem d body rest = either (is_other_of d) (λ e. rw e) (λ e. rw e)
 
 -- the turns of the search for a tag
 module _ (tag : ℕ) (s : List ℕ) (at : ℕ) where
-  pub first_end : step_at s at ≡ End → first_of tag s at ≡ not_found
+  -- where no descriptor stands, none is found
+  pub first_none : (d : Step) → d ≡ step_at s at → ((t : ℕ) (body : Part) (next : ℕ) → d ≡ Raw t body next → ⊥) → first_of tag s at ≡ None
   unfolding first_of
-  first_end e = rw (split_at s at, e)
-
-  pub first_broken : {p : ℕ} → step_at s at ≡ Broken p → first_of tag s at ≡ not_found
-  unfolding first_of
-  first_broken e = rw (split_at s at, e)
+  first_none End e h = rw (split_at s at, ← e)
+  first_none (Broken p) e h = rw (split_at s at, ← e)
+  first_none (Raw t body next) e h = absurd (h t body next refl)
 
   module _ {t next : ℕ} {body : Part} (e : step_at s at ≡ Raw t body next) where
     pub first_raw : first_of tag s at
@@ -148,12 +148,12 @@ module _ (tag : ℕ) (s : List ℕ) (at : ℕ) where
 
     -- one of the tag, decoded as d
     module _ {d : Descriptor} (h : t ≡ tag) (m : d ≡ descriptor_of t (part_of s body)) where
-      first_same : first_of tag s at ≡ cond (not (is_other_of d)) (found d body) (first_of tag s next)
+      first_same : first_of tag s at ≡ cond (not (is_other_of d)) (Some (d, body)) (first_of tag s next)
       first_same =
           let m' : descriptor_of tag (part_of s body) ≡ d = sym (rw h at m) in
           rw (first_raw, eq-eqb t tag h, m') (or_next_lem d body (first_of tag s next))
 
-      pub first_found : not (is_other_of d) ≡ true → first_of tag s at ≡ found d body
+      pub first_found : not (is_other_of d) ≡ true → first_of tag s at ≡ Some (d, body)
       first_found n = rw (first_same, n)
 
       pub first_kept : not (is_other_of d) ≡ false → first_of tag s at ≡ first_of tag s next

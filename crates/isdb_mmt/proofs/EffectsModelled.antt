@@ -1,14 +1,13 @@
 -- The effect of units is what the model does with them: what is held, dropped, given out and needed. Assumes nothing.
-use Rattle.std.proofs.Common.{◌≡◌, ℕ, suc, ◌+◌, max, Bool, true, false, cond, not, leb, List, [], ◌∷◌, ◌++◌, map, length, sym, refl, ap, ◌∙◌, subst, arith, length-append}
-use mathlib.Core.Option.{Option, none, some}
+use Rattle.std.specs.Prelude.{Option, None, Some, is_some}
+use Rattle.std.proofs.Common.{◌≡◌, ℕ, suc, ◌+◌, max, Bool, true, false, cond, leb, List, [], ◌∷◌, ◌++◌, map, length, sym, refl, ap, ◌∙◌, subst, arith, length-append}
 use Rattle.isdb_mmt.specs.Formats.Part.{part_of}
 use Rattle.isdb_mmt.specs.Decoder.Packet.{PayloadUnit, MpuPacket, payload_unit}
-use Rattle.isdb_mmt.specs.Decoder.Maps.{is_some}
 use Rattle.isdb_mmt.specs.Decoder.Objects.{Mfu, Asset, UnitEffect, most_object, mpu_number, grown, continued, effect_of, after_unit, object_of, unit_effect, after_units, delivered_by, tagged}
 use Rattle.isdb_mmt.specs.Decoder.Needs.{unit_area, units_need, data_of}
 use Rattle.isdb_mmt.specs.Pushes.Records.{object_for}
 use Rattle.isdb_mmt.specs.Pushes.MediaPush.{held_for}
-use Rattle.isdb_mmt.specs.Pushes.MediaEffect.{unit_object, complete_unit, head_unit, dropped_unit, grown_to, grown_unit, with_unit, with_each_unit}
+use Rattle.isdb_mmt.specs.Pushes.MediaEffect.{unit_object, object_or, complete_unit, head_unit, dropped_unit, grown_to, grown_by, grown_unit, with_unit, with_each_unit}
 use Rattle.isdb_mmt.specs.declared.part.Part.{Part}
 use Rattle.isdb_mmt.specs.declared.mpu.FragmentationIndicator.{FragmentationIndicator}
 use Rattle.isdb_mmt.specs.declared.mpu.FragmentationIndicator.TheVariants.{Complete, Head, Middle, Last}
@@ -38,39 +37,49 @@ bytes_append (x ∷ xs) ys = rw (bytes_append xs ys) (omega arith)
 
 -- ---- one unit
 
+-- what is held, as an effect has it
+abbrev pub object_as : Option Mfu → Option Object
+object_as None = None
+object_as (Some h) = Some (object_for h)
+
+pub as_some : (o : Option Mfu) → is_some (object_as o) ≡ is_some o
+as_some None = refl
+as_some (Some h) = refl
+
+pub as_object : (o : Option Mfu) → object_or (object_as o) ≡ held_for o
+as_object None = refl
+as_object (Some h) = refl
+
 pub record Step (f : FragmentationIndicator) (t r : MediaEffect) (d : UnitEffect) : Type 0 where
-  pub held : r.held ≡ is_some d.held
-  pub object : r.object ≡ held_for d.held
+  pub object : r.object ≡ object_as d.held
   pub drops : r.drops ≡ t.drops + d.drops
   pub records : r.records ≡ t.records + length d.outs
   pub bytes : r.bytes ≡ t.bytes + bytes_in d.outs
   pub longest : r.longest ≡ max t.longest (unit_area f d)
 
-module _ (t : MediaEffect) (p : Part) (h g : Mfu) (eh : t.held ≡ true) (eo : t.object ≡ object_for h) where
+module _ (t : MediaEffect) (p : Part) (h g : Mfu) where
   longer : length (h.bytes ++ g.bytes) ≡ length h.bytes + length g.bytes
   longer = length-append h.bytes g.bytes
 
   step_middle : (b : Bool)
-      → Step Middle t (cond b (grown_to false t p (length h.bytes + length g.bytes)) (dropped_unit t p)) (continued b false (grown h g.bytes))
-  unfolding grown_to dropped_unit continued grown is_some
+      → Step Middle t (cond b (grown_to false (object_for h) t p (length h.bytes + length g.bytes)) (dropped_unit t p)) (continued b false (grown h g.bytes))
+  unfolding grown_to dropped_unit continued grown
   step_middle true =
       record {
-        held = refl;
-        object = rw (eo, longer);
+        object = rw longer;
         drops = omega arith;
         records = omega arith;
         bytes = omega arith;
         longest = rw longer;
       }
   step_middle false =
-      record { held = refl; object = refl; drops = refl; records = omega arith; bytes = omega arith; longest = omega arith }
+      record { object = refl; drops = refl; records = omega arith; bytes = omega arith; longest = omega arith }
 
   step_last : (b : Bool)
-      → Step Last t (cond b (grown_to true t p (length h.bytes + length g.bytes)) (dropped_unit t p)) (continued b true (grown h g.bytes))
-  unfolding grown_to dropped_unit continued grown is_some
+      → Step Last t (cond b (grown_to true (object_for h) t p (length h.bytes + length g.bytes)) (dropped_unit t p)) (continued b true (grown h g.bytes))
+  unfolding grown_to dropped_unit continued grown
   step_last true =
       record {
-        held = refl;
         object = refl;
         drops = omega arith;
         records = refl;
@@ -78,75 +87,66 @@ module _ (t : MediaEffect) (p : Part) (h g : Mfu) (eh : t.held ≡ true) (eo : t
         longest = rw longer (omega arith);
       }
   step_last false =
-      record { held = refl; object = refl; drops = refl; records = omega arith; bytes = omega arith; longest = omega arith }
+      record { object = refl; drops = refl; records = omega arith; bytes = omega arith; longest = omega arith }
 
--- `rw` would also rewrite `t`, written out: so the test alone is put in its place
-pub grown_none : (ends : Bool) (t : MediaEffect) (p : Part) (n : ℕ) → t.held ≡ false → grown_unit ends t p n ≡ t
+pub grown_none : (ends : Bool) (t : MediaEffect) (p : Part) (n : ℕ) → t.object ≡ None → grown_unit ends t p n ≡ t
 unfolding grown_unit
-grown_none ends t p n e =
-    ap (λ b. cond (not b) t (cond (leb (t.object.length + n) most_object) (grown_to ends t p (t.object.length + n)) (dropped_unit t p))) e
+grown_none ends t p n e = ap (grown_by ends t p n) e
 
-pub grown_some : (ends : Bool) (t : MediaEffect) (p : Part) (n k : ℕ) → t.held ≡ true → t.object.length ≡ k
-    → grown_unit ends t p n ≡ cond (leb (k + n) most_object) (grown_to ends t p (k + n)) (dropped_unit t p)
+pub grown_some : (ends : Bool) (t : MediaEffect) (p : Part) (n : ℕ) (o : Object) → t.object ≡ Some o
+    → grown_unit ends t p n ≡ cond (leb (o.length + n) most_object) (grown_to ends o t p (o.length + n)) (dropped_unit t p)
 unfolding grown_unit
-grown_some ends t p n k e el =
-    ap (λ b. cond (not b) t (cond (leb (t.object.length + n) most_object) (grown_to ends t p (t.object.length + n)) (dropped_unit t p))) e
-    ∙ ap (λ j. cond (leb (j + n) most_object) (grown_to ends t p (j + n)) (dropped_unit t p)) el
+grown_some ends t p n o e = ap (grown_by ends t p n) e
 
 module _ (t : MediaEffect) (u : DataUnit) (g : Mfu) (mpu : ℕ) (rap : Bool) (eg : unit_object mpu rap u (length g.bytes) ≡ object_for g) where
-  pub step_told : (f : FragmentationIndicator) (o : Option Mfu) → t.held ≡ is_some o → t.object ≡ held_for o
+  pub step_told : (f : FragmentationIndicator) (o : Option Mfu) → t.object ≡ object_as o
       → Step f t (with_unit f mpu rap t u (length g.bytes)) (effect_of f o g)
-  unfolding with_unit complete_unit head_unit effect_of is_some
-  step_told Complete o eh eo =
-      record { held = refl; object = refl; drops = rw eh; records = refl; bytes = omega arith; longest = omega arith }
-  step_told Head o eh eo =
-      record { held = refl; object = eg; drops = rw eh; records = omega arith; bytes = omega arith; longest = refl }
-  step_told Middle none eh eo =
-      subst (λ (x : MediaEffect). Step Middle t x (effect_of Middle none g)) (sym (grown_none false t u.«data» (length g.bytes) eh))
-      (record { held = eh; object = eo; drops = omega arith; records = omega arith; bytes = omega arith; longest = omega arith })
-  step_told Middle (some h) eh eo =
-      let el : t.object.length ≡ length h.bytes = ap (λ (x : Object). x.length) eo in
-      subst (λ (x : MediaEffect). Step Middle t x (effect_of Middle (some h) g))
-      (sym (grown_some false t u.«data» (length g.bytes) (length h.bytes) eh el))
-      (step_middle t u.«data» h g eh eo (leb (length h.bytes + length g.bytes) most_object))
-  step_told Last none eh eo =
-      subst (λ (x : MediaEffect). Step Last t x (effect_of Last none g)) (sym (grown_none true t u.«data» (length g.bytes) eh))
-      (record { held = eh; object = eo; drops = omega arith; records = omega arith; bytes = omega arith; longest = omega arith })
-  step_told Last (some h) eh eo =
-      let el : t.object.length ≡ length h.bytes = ap (λ (x : Object). x.length) eo in
-      subst (λ (x : MediaEffect). Step Last t x (effect_of Last (some h) g))
-      (sym (grown_some true t u.«data» (length g.bytes) (length h.bytes) eh el))
-      (step_last t u.«data» h g eh eo (leb (length h.bytes + length g.bytes) most_object))
+  unfolding with_unit complete_unit head_unit effect_of
+  step_told Complete o eo =
+      let eh = ap (λ (x : Option Object). is_some x) eo ∙ as_some o in
+      record { object = refl; drops = rw eh; records = refl; bytes = omega arith; longest = omega arith }
+  step_told Head o eo =
+      let eh = ap (λ (x : Option Object). is_some x) eo ∙ as_some o in
+      record { object = ap (λ (x : Object). Some x) eg; drops = rw eh; records = omega arith; bytes = omega arith; longest = refl }
+  step_told Middle None eo =
+      subst (λ (x : MediaEffect). Step Middle t x (effect_of Middle None g)) (sym (grown_none false t u.«data» (length g.bytes) eo))
+      (record { object = eo; drops = omega arith; records = omega arith; bytes = omega arith; longest = omega arith })
+  step_told Middle (Some h) eo =
+      subst (λ (x : MediaEffect). Step Middle t x (effect_of Middle (Some h) g))
+      (sym (grown_some false t u.«data» (length g.bytes) (object_for h) eo))
+      (step_middle t u.«data» h g (leb (length h.bytes + length g.bytes) most_object))
+  step_told Last None eo =
+      subst (λ (x : MediaEffect). Step Last t x (effect_of Last None g)) (sym (grown_none true t u.«data» (length g.bytes) eo))
+      (record { object = eo; drops = omega arith; records = omega arith; bytes = omega arith; longest = omega arith })
+  step_told Last (Some h) eo =
+      subst (λ (x : MediaEffect). Step Last t x (effect_of Last (Some h) g))
+      (sym (grown_some true t u.«data» (length g.bytes) (object_for h) eo))
+      (step_last t u.«data» h g (leb (length h.bytes + length g.bytes) most_object))
 
 -- ---- all units of a payload
 
 pub record Told (m : MpuPacket) (t : MediaEffect) (a : Asset) (r : MediaEffect) (us : List PayloadUnit) : Type 0 where
-  pub held : r.held ≡ is_some (after_units m a us).held
-  pub object : r.object ≡ held_for (after_units m a us).held
+  pub object : r.object ≡ object_as (after_units m a us).held
   pub drops : a.stats.mfus_dropped + r.drops ≡ t.drops + (after_units m a us).stats.mfus_dropped
   pub mfus : a.stats.mfus + r.records ≡ t.records + (after_units m a us).stats.mfus
   pub records : r.records ≡ t.records + length (delivered_by m a us)
   pub bytes : r.bytes ≡ t.bytes + bytes_in (delivered_by m a us)
   pub longest : r.longest ≡ max t.longest (units_need m a us)
 
-pub told_empty : (m : MpuPacket) (t : MediaEffect) (a : Asset) → t.held ≡ is_some a.held → t.object ≡ held_for a.held → Told m t a t []
+pub told_empty : (m : MpuPacket) (t : MediaEffect) (a : Asset) → t.object ≡ object_as a.held → Told m t a t []
 unfolding after_units delivered_by units_need
-told_empty m t a eh eo =
-    record { held = eh; object = eo; drops = omega arith; mfus = omega arith; records = omega arith; bytes = omega arith; longest = omega arith }
+told_empty m t a eo =
+    record { object = eo; drops = omega arith; mfus = omega arith; records = omega arith; bytes = omega arith; longest = omega arith }
 
 module _ (m : MpuPacket) (h : PayloadHeader) (q : List ℕ) where
-  one_told : (u : DataUnit) (t : MediaEffect) (a : Asset) → t.held ≡ is_some a.held → t.object ≡ held_for a.held
+  one_told : (u : DataUnit) (t : MediaEffect) (a : Asset) → t.object ≡ object_as a.held
       → Step h.fragmentation t (with_unit h.fragmentation (mpu_number m.header) m.rap t u (length (part_of q u.«data»))) (unit_effect m a (payload_unit h q u))
   unfolding unit_effect unit_object object_of
-  one_told u t a eh eo = step_told t u (object_of m (payload_unit h q u)) (mpu_number m.header) m.rap refl h.fragmentation a.held eh eo
+  one_told u t a eo = step_told t u (object_of m (payload_unit h q u)) (mpu_number m.header) m.rap refl h.fragmentation a.held eo
 
   held_is : (a : Asset) (d : UnitEffect) → d.held ≡ (after_unit a d).held
   unfolding after_unit
   held_is a d = refl
-
-  held_did : (a : Asset) (d : UnitEffect) → is_some d.held ≡ is_some (after_unit a d).held
-  unfolding after_unit
-  held_did a d = refl
 
   dropped_is : (a : Asset) (d : UnitEffect) → (after_unit a d).stats.mfus_dropped ≡ a.stats.mfus_dropped + d.drops
   unfolding after_unit
@@ -156,23 +156,22 @@ module _ (m : MpuPacket) (h : PayloadHeader) (q : List ℕ) where
   unfolding after_unit
   mfus_is a d = refl
 
-  pub effect_told : (us : List DataUnit) (t : MediaEffect) (a : Asset) → t.held ≡ is_some a.held → t.object ≡ held_for a.held
+  pub effect_told : (us : List DataUnit) (t : MediaEffect) (a : Asset) → t.object ≡ object_as a.held
       → Told m t a (with_each_unit h.fragmentation (mpu_number m.header) m.rap q t us) (map (payload_unit h q) us)
   unfolding with_each_unit after_units delivered_by units_need
-  effect_told [] t a eh eo =
-      record { held = eh; object = eo; drops = omega arith; mfus = omega arith; records = omega arith; bytes = omega arith; longest = omega arith }
-  effect_told (u ∷ us) t a eh eo =
+  effect_told [] t a eo =
+      record { object = eo; drops = omega arith; mfus = omega arith; records = omega arith; bytes = omega arith; longest = omega arith }
+  effect_told (u ∷ us) t a eo =
       let x : PayloadUnit = payload_unit h q u in
       let d : UnitEffect = unit_effect m a x in
       let t1 : MediaEffect = with_unit h.fragmentation (mpu_number m.header) m.rap t u (length (part_of q u.«data»)) in
-      let s : Step h.fragmentation t t1 d = one_told u t a eh eo in
+      let s : Step h.fragmentation t t1 d = one_told u t a eo in
       let a1 : Asset = after_unit a d in
       let r : MediaEffect = with_each_unit h.fragmentation (mpu_number m.header) m.rap q t1 us in
-      let w : Told m t1 a1 r (map (payload_unit h q) us) = effect_told us t1 a1 (s.held ∙ held_did a d) (s.object ∙ ap held_for (held_is a d)) in
+      let w : Told m t1 a1 r (map (payload_unit h q) us) = effect_told us t1 a1 (s.object ∙ ap object_as (held_is a d)) in
       let da : a1.stats.mfus_dropped ≡ a.stats.mfus_dropped + d.drops = dropped_is a d in
       let ma : a1.stats.mfus ≡ a.stats.mfus + length d.outs = mfus_is a d in
       record {
-        held = w.held;
         object = w.object;
         drops = omega (arith, w.drops, s.drops);
         mfus = omega (arith, w.mfus, s.records);

@@ -1,17 +1,15 @@
 -- The entries of a table's loop: each leads on to a place ahead and lies within the loop, so that steps from one to the next go
 -- over all of them. Assumes nothing.
+use Rattle.std.specs.Prelude.{Err, Ok, Result, is_some}
 use Rattle.std.proofs.Common.{◌≡◌, ℕ, zero, suc, ◌+◌, ◌-◌, ◌<◌, ◌≤◌, true, false, ltb, leb, List, length, refl, add-zero, add_assoc, zero-add, arith, ltb-false, leb-false, leb-true}
 use Rattle.isdb_tlv.specs.Walk.{turn}
 use Rattle.isdb_tlv.proofs.Walk.{Ahead, walk_at}
 use Rattle.isdb_tlv.proofs.Guards.{cond_elim}
 use Rattle.isdb_mmt.specs.Formats.Part.{part_of}
-use Rattle.isdb_mmt.specs.Decoder.Maps.{is_some}
 use Rattle.isdb_mmt.specs.Formats.Desc.{split_of, broken, Loop, ended}
 use Rattle.isdb_mmt.specs.Formats.Section.{length12, in_section, entry_at, entry_as, entry_item, entries_from, entries_told}
 use Rattle.isdb_mmt.specs.declared.table.section.SectionHeader.{SectionHeader}
 use Rattle.isdb_mmt.specs.declared.table.section.SectionError.{SectionError}
-use Rattle.isdb_mmt.specs.declared.table.section.LongSection.{LongSection}
-use Rattle.isdb_mmt.specs.declared.table.section.LongSection.TheVariants.{Ok as good, Err as bad}
 use Rattle.isdb_mmt.specs.declared.table.section.Entry.{Entry}
 use Rattle.isdb_mmt.specs.declared.table.section.EntryStep.{EntryStep}
 use Rattle.isdb_mmt.specs.declared.table.section.EntryStep.TheVariants.{End, Malformed as malformed, Entry as entry}
@@ -20,9 +18,9 @@ use Rattle.isdb_mmt.specs.declared.table.section.Entries.{Entries}
 -- what holds of every refusal, and of what is read of the body of every section, holds of what a table is read as
 pub section_elim : {R : Type 0} (P : R → Type 0) (refused : SectionError → R) (read : SectionHeader → List ℕ → R) (s : List ℕ)
     → ((e : SectionError) → P (refused e)) → ((h : SectionHeader) → P (read h (part_of s h.body)))
-    → (d : LongSection) → P (in_section refused read s d)
-section_elim P refused read s f g (bad e) = f e
-section_elim P refused read s f g (good h) = g h
+    → (d : Result SectionHeader SectionError) → P (in_section refused read s d)
+section_elim P refused read s f g (Err e) = f e
+section_elim P refused read s f g (Ok h) = g h
 
 -- an entry at `at`, with `k` bytes of fields: its descriptors stand behind their length and end where the next entry stands
 pub record Lies (s : List ℕ) (k at : ℕ) (e : Entry) (next : ℕ) : Type 0 where

@@ -1,6 +1,6 @@
 -- What holds of every entry of a map, and names that stand once, stay so under `put`. Assumes nothing.
+use Rattle.std.specs.Prelude.{Some}
 use Rattle.std.proofs.Common.{◌≡◌, ℕ, Bool, true, false, cond, eqb, List, [], ◌∷◌, refl, eqb-true}
-use mathlib.Core.Option.{some}
 use Rattle.isdb_mmt.specs.Decoder.Maps.{find, put, or_else}
 use Rattle.isdb_mmt.specs.Memory.Lent.{among, distinct}
 use Rattle.isdb_mmt.proofs.Views.{keys}
@@ -25,7 +25,7 @@ module _ {A : Type 0} (P : ℕ → A → Type 0) where
   every_found d k p [] h = p
   every_found d k p (e ∷ m) h = go (eqb k e.0) refl (every_found d k p m h.1)
     where
-      go : (b : Bool) → eqb k e.0 ≡ b → P k (or_else d (find k m)) → P k (or_else d (cond b (some e.1) (find k m)))
+      go : (b : Bool) → eqb k e.0 ≡ b → P k (or_else d (find k m)) → P k (or_else d (cond b (Some e.1) (find k m)))
       go true t q = rw (eqb-true k e.0 t) h.0
       go false t q = q
 

@@ -1,10 +1,9 @@
 -- What a media packet does to its id: what is held stays within its area, and no count grows by more than 2^21. Assumes nothing.
+use Rattle.std.specs.Prelude.{Option, None, Some, is_some}
 use Rattle.std.proofs.Common.{ℕ, suc, ◌+◌, ◌<◌, ◌≤◌, Bool, true, false, cond, ◌&&◌, leb, List, [], ◌∷◌, length, arith}
-use mathlib.Core.Option.{Option, none, some}
 use Rattle.isdb_tlv.proofs.Guards.{cond_elim}
 use Rattle.isdb_mmt.specs.Formats.Mpu.{follows, lost_from}
 use Rattle.isdb_mmt.specs.Decoder.Packet.{PayloadUnit, MpuPacket, readable}
-use Rattle.isdb_mmt.specs.Decoder.Maps.{is_some}
 use Rattle.isdb_mmt.specs.Decoder.Objects.{Mfu, Asset, fresh, most_object, gap, lost_by, UnitEffect, grown, continued, effect_of, after_unit, object_of, unit_effect, after_units, after_headers, new_mpu, jumped, malformed_payload, asset_after, mpu_in, completes}
 use Rattle.isdb_mmt.specs.Pushes.MediaPlace.{StatsWithin}
 use Rattle.isdb_mmt.specs.Theorems.Room.{most_added}
@@ -64,14 +63,14 @@ pub mild : (f : FragmentationIndicator) (h : Option Mfu) (u : Mfu) → Mild f (e
 unfolding effect_of continued
 mild Complete h u = record { held = omega arith; drops = one_le (is_some h); outs = omega arith }
 mild Head h u = record { held = omega arith; drops = one_le (is_some h); outs = omega arith }
-mild Middle none u = record { held = omega arith; drops = omega arith; outs = omega arith }
-mild Middle (some h) u = go (leb (length h.bytes + length u.bytes) most_object)
+mild Middle None u = record { held = omega arith; drops = omega arith; outs = omega arith }
+mild Middle (Some h) u = go (leb (length h.bytes + length u.bytes) most_object)
   where
     go : (b : Bool) → Mild Middle (continued b false (grown h u.bytes))
     go true = record { held = omega arith; drops = omega arith; outs = omega arith }
     go false = record { held = omega arith; drops = omega arith; outs = omega arith }
-mild Last none u = record { held = omega arith; drops = omega arith; outs = omega arith }
-mild Last (some h) u = go (leb (length h.bytes + length u.bytes) most_object)
+mild Last None u = record { held = omega arith; drops = omega arith; outs = omega arith }
+mild Last (Some h) u = go (leb (length h.bytes + length u.bytes) most_object)
   where
     go : (b : Bool) → Mild Last (continued b true (grown h u.bytes))
     go true = record { held = omega arith; drops = omega arith; outs = omega arith }
@@ -105,10 +104,10 @@ units_fit area m (u ∷ us) n a h k =
 
 lost_le : (o : Option ℕ) (n : ℕ) → lost_by o n ≤ 1048576
 unfolding lost_by lost_from
-lost_le none n = omega arith
-lost_le (some l) n = cond_elim (λ (x : ℕ). x ≤ 1048576) (follows l n) (λ e. omega arith) (λ e. omega arith)
+lost_le None n = omega arith
+lost_le (Some l) n = cond_elim (λ (x : ℕ). x ≤ 1048576) (follows l n) (λ e. omega arith) (λ e. omega arith)
 
-gone_le : (b : Bool) (h : Option Mfu) → held_length (cond b none h) ≤ held_length h
+gone_le : (b : Bool) (h : Option Mfu) → held_length (cond b None h) ≤ held_length h
 gone_le true h = omega arith
 gone_le false h = omega arith
 

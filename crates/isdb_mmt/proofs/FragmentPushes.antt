@@ -1,8 +1,7 @@
 -- A message packet with which no message is whole: what is asked and stored is what the model asks and leaves. Assumes nothing.
 use Rattle.std.proofs.Common.{◌≡◌, ℕ, ◌+◌, ◌*◌, ◌<◌, ◌≤◌, false, ltb, List, [], map, length, sym, refl, ap, ◌∙◌, subst, inr, add-zero, arith, ltb-false, le-ltb, lt-ltb}
-use mathlib.Core.Option.{Option}
 use Rattle.isdb_tlv.specs.Guards.{◌<?◌}
-use Rattle.std.specs.Prelude.{if◌then◌else◌}
+use Rattle.std.specs.Prelude.{if◌then◌else◌, Option, is_some}
 use Rattle.isdb_tlv.specs.Fields.{written}
 use Rattle.isdb_tlv.proofs.Fields.{length_written}
 use Rattle.isdb_tlv.proofs.Guards.{either}
@@ -14,7 +13,6 @@ use Rattle.isdb_mmt.specs.Memory.Check.{PlacesThere, Sound, lengths_of}
 use Rattle.isdb_mmt.specs.Pushes.Leaves.{control_place_for, used_for, with_control, with_sections, with_latest, with_counters, state_of_tables, bytes_over, kept_over, latest_over, message_in, message_at, message_leaves, packet_leaves}
 use Rattle.isdb_mmt.specs.Pushes.Fragments.{laid_by, area_by, fragment_counted, CanCount, fragment_outcome, completes, joined_by, control_with}
 use Rattle.isdb_mmt.specs.Pushes.FragmentPush.{blank_place, place_in, PlaceForThere, normal_latest, with_more, with_reassembly, with_counts, place_next, state_next, CanStoreReassembly, CanJoinAt, JoinedAt, CanJoin, length_if, received_fragment}
-use Rattle.isdb_mmt.specs.Decoder.Maps.{is_some}
 use Rattle.isdb_mmt.specs.Decoder.Reassembly.{PartialMessage, cut_of_all}
 use Rattle.isdb_mmt.specs.Decoder.Model.{State, Control as ControlState, control_of, reassembly_of, pushed, packet_counted, reassembly_counted, gives}
 use Rattle.isdb_mmt.specs.Memory.View.{kept_table_at, view_by, view, given}

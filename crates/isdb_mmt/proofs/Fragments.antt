@@ -1,10 +1,9 @@
 -- What becomes of a fragment, by the place of its id, is what the model does. Assumes nothing.
+use Rattle.std.specs.Prelude.{Option, None, Some, is_some}
 use Rattle.std.proofs.Common.{◌≡◌, ℕ, ◌+◌, ◌-◌, ◌*◌, ◌<◌, ◌≤◌, Bool, true, false, cond, not, ◌&&◌, ltb, leb, ◌++◌, length, drop, sym, refl, ap, ◌∙◌, arith, length-append, length-drop, ltb-false, ltb-true, le-ltb, le-leb}
-use mathlib.Core.Option.{Option, none, some}
 use borrow.Author.Tests.{lt-leb, not-true, not-false}
 use Rattle.isdb_tlv.proofs.Guards.{cond_elim}
 use Rattle.isdb_mmt.specs.Decoder.Packet.{Bytes, MessagePacket}
-use Rattle.isdb_mmt.specs.Decoder.Maps.{is_some}
 use Rattle.isdb_mmt.specs.Decoder.Objects.{gap}
 use Rattle.isdb_mmt.specs.Decoder.Reassembly.{PartialMessage, Reassembly, short, flags_of, part_before, joined_on, part_after, whole_of, reassembly_after, message_completed, continues, orphan, oversize, most_message}
 use Rattle.isdb_mmt.specs.Decoder.Needs.{partial_length, fragment_area, reassembly_needs}
@@ -12,7 +11,7 @@ use Rattle.isdb_mmt.specs.Memory.Lent.{part, over}
 use Rattle.isdb_mmt.specs.Memory.View.{given, control_state_in}
 use Rattle.isdb_mmt.specs.Pushes.MediaPlace.{gap_after}
 use Rattle.isdb_mmt.specs.Pushes.Leaves.{joined_in, bytes_over}
-use Rattle.isdb_mmt.specs.Pushes.Fragments.{in_sequence, grown_length, continued, by_division, flags_in, fragment_outcome, joined_with, none_joined, joined_by, joined_as, laid_by, area_by, whole_by_of, completes, faults_of}
+use Rattle.isdb_mmt.specs.Pushes.Fragments.{in_sequence, grown_length, continued, by_division, flags_in, fragment_outcome, joined_with, joined_by, joined_as, laid_by, area_by, whole_by_of, completes, faults_of}
 use Rattle.isdb_mmt.specs.declared.message.Division.{Division}
 use Rattle.isdb_mmt.specs.declared.message.Division.TheVariants.{Undivided as undivided, First as first, Middle as middle, Last as last}
 use Rattle.isdb_mmt.specs.declared.message.Fragment.{Fragment}
@@ -40,7 +39,7 @@ unfolding gap
 given_gap true k n = refl
 given_gap false k n = refl
 
-taken_away : {A : Type 0} (j g : Bool) (a : A) → cond g none (given j a) ≡ given (cond j (not g) false) a
+taken_away : {A : Type 0} (j g : Bool) (a : A) → cond g None (given j a) ≡ given (cond j (not g) false) a
 taken_away true true a = refl
 taken_away true false a = refl
 taken_away false true a = refl
@@ -74,7 +73,7 @@ module _ (c : Control) (m mpt : Bytes) (long : c.joining ≡ true → length m �
   part_before_lem : part_before l x ≡ given g now_joined
   unfolding part_before control_state_in in_sequence
   part_before_lem =
-      ap (λ (y : Bool). cond y none (given c.joining now_joined)) (given_gap c.seen c.sequence x.number)
+      ap (λ (y : Bool). cond y None (given c.joining now_joined)) (given_gap c.seen c.sequence x.number)
       ∙ taken_away c.joining (gap_after c.seen c.sequence x.number) now_joined
 
   was_joining : g ≡ true → c.joining ≡ true
@@ -87,7 +86,7 @@ module _ (c : Control) (m mpt : Bytes) (long : c.joining ≡ true → length m �
 
   -- a payload below 2 bytes
   short_does : short x ≡ true → Does l x c m Short
-  unfolding reassembly_after message_completed orphan oversize reassembly_needs whole_by_of joined_by area_by laid_by control_state_in is_some
+  unfolding reassembly_after message_completed orphan oversize reassembly_needs whole_by_of joined_by area_by laid_by control_state_in
   short_does e =
       record {
         joined = rw e (go c.joining long);
@@ -100,8 +99,8 @@ module _ (c : Control) (m mpt : Bytes) (long : c.joining ≡ true → length m �
       }
     where
       go : (j : Bool) → (j ≡ true → length m ≡ c.length)
-          → joined_as (given j now_joined) ≡ cond j (joined_with c.long_length c.aggregated c.length) none_joined
-      go true k = ap (joined_with c.long_length c.aggregated) (k refl)
+          → joined_as (given j now_joined) ≡ cond j (Some (joined_with c.long_length c.aggregated c.length)) None
+      go true k = ap (λ n. Some (joined_with c.long_length c.aggregated n)) (k refl)
       go false k = refl
 
       lies : (at : ℕ) (t : Bytes) (j : Bool) → (j ≡ true → m ≡ part at c.length t) → bytes_over at (joined_in (given j now_joined)) t ≡ t
@@ -131,7 +130,7 @@ module _ (c : Control) (m mpt : Bytes) (long : c.joining ≡ true → length m �
       oversize_is = rw (e, f, part_before_lem)
 
     undivided_does : (flags_of x).division ≡ undivided → Does l x c m Undivided
-    unfolding part_after whole_of whole_by_of joined_by area_by laid_by is_some
+    unfolding part_after whole_of whole_by_of joined_by area_by laid_by
     undivided_does f =
         record {
           joined = ap joined_as (after_is undivided f);
@@ -144,10 +143,10 @@ module _ (c : Control) (m mpt : Bytes) (long : c.joining ≡ true → length m �
         }
 
     first_does : (flags_of x).division ≡ first → Does l x c m First
-    unfolding part_after whole_of whole_by_of joined_by area_by laid_by is_some
+    unfolding part_after whole_of whole_by_of joined_by area_by laid_by
     first_does f =
         record {
-          joined = ap joined_as (after_is first f) ∙ ap (joined_with (flags_in b).long_length (flags_in b).aggregated) (length-drop 2 b);
+          joined = ap joined_as (after_is first f) ∙ ap (λ n. Some (joined_with (flags_in b).long_length (flags_in b).aggregated n)) (length-drop 2 b);
           area = needs_is first f ∙ length-drop 2 b;
           orphan_fragments = orphan_is first f;
           oversize = oversize_is first f;
@@ -157,12 +156,12 @@ module _ (c : Control) (m mpt : Bytes) (long : c.joining ≡ true → length m �
         }
 
     -- a continuing fragment: without a message, with one that it makes too long, with one that it fits
-    gone : g ≡ false → joined_on (given g now_joined) (drop 2 b) ≡ none
+    gone : g ≡ false → joined_on (given g now_joined) (drop 2 b) ≡ None
     unfolding joined_on
     gone off = rw off
 
     orphan_does : (d : Division) → continues d ≡ true → g ≡ false → (flags_of x).division ≡ d → Does l x c m Orphan
-    unfolding part_after whole_of whole_by_of joined_on joined_by area_by laid_by is_some
+    unfolding part_after whole_of whole_by_of joined_on joined_by area_by laid_by
     orphan_does middle k off f =
         record {
           joined = ap joined_as (after_is middle f ∙ gone off);
@@ -192,16 +191,16 @@ module _ (c : Control) (m mpt : Bytes) (long : c.joining ≡ true → length m �
 
       on_long : (v : Bool) → leb (grown_length c b) most_message ≡ v
           → joined_on (given g now_joined) (drop 2 b)
-          ≡ cond v (some (record { long = c.long_length; aggregated = c.aggregated; bytes = m ++ drop 2 b })) none
+          ≡ cond v (Some (record { long = c.long_length; aggregated = c.aggregated; bytes = m ++ drop 2 b })) None
       unfolding joined_on
       on_long v h = rw (yes, is_long, h)
 
       module _ (big : most_message < grown_length c b) where
-        no_more : joined_on (given g now_joined) (drop 2 b) ≡ none
+        no_more : joined_on (given g now_joined) (drop 2 b) ≡ None
         no_more = on_long false (lt-leb _ _ big)
 
         oversize_does : (d : Division) → continues d ≡ true → (flags_of x).division ≡ d → Does l x c m Oversize
-        unfolding part_after whole_of whole_by_of joined_by area_by laid_by is_some
+        unfolding part_after whole_of whole_by_of joined_by area_by laid_by
         oversize_does middle k f =
             record {
               joined = ap joined_as (after_is middle f ∙ no_more);
@@ -229,17 +228,17 @@ module _ (c : Control) (m mpt : Bytes) (long : c.joining ≡ true → length m �
         abbrev more : PartialMessage
         more = record { long = c.long_length; aggregated = c.aggregated; bytes = m ++ drop 2 b }
 
-        pub one_more : joined_on (given g now_joined) (drop 2 b) ≡ some more
+        pub one_more : joined_on (given g now_joined) (drop 2 b) ≡ Some more
         one_more = on_long true (le-leb _ _ fits)
 
         length_more : length (m ++ drop 2 b) ≡ grown_length c b
         length_more = length-append m (drop 2 b) ∙ is_long
 
         grown_does : (flags_of x).division ≡ middle → Does l x c m Grown
-        unfolding part_after whole_of whole_by_of joined_by area_by laid_by is_some
+        unfolding part_after whole_of whole_by_of joined_by area_by laid_by
         grown_does f =
             record {
-              joined = ap joined_as (after_is middle f ∙ one_more) ∙ ap (joined_with c.long_length c.aggregated) length_more;
+              joined = ap joined_as (after_is middle f ∙ one_more) ∙ ap (λ n. Some (joined_with c.long_length c.aggregated n)) length_more;
               area = needs_is middle f ∙ ap partial_length one_more ∙ length_more;
               orphan_fragments = orphan_is middle f ∙ rw yes;
               oversize = oversize_is middle f ∙ rw one_more (rw yes);
@@ -252,7 +251,7 @@ module _ (c : Control) (m mpt : Bytes) (long : c.joining ≡ true → length m �
             }
 
         whole_does : (flags_of x).division ≡ last → Does l x c m Whole
-        unfolding part_after whole_of whole_by_of joined_by area_by laid_by is_some
+        unfolding part_after whole_of whole_by_of joined_by area_by laid_by
         whole_does f =
             record {
               joined = ap joined_as (after_is last f);
@@ -284,7 +283,7 @@ module _ (c : Control) (m mpt : Bytes) (long : c.joining ≡ true → length m �
   outcome_does = cond_elim (Does l x c m) (ltb (length b) 2) (λ t. short_does t) (λ t. divided_does t (flags_of x).division refl)
 
 -- of the others none is whole
-pub none_whole : (f : FragmentOutcome) (c : Control) (m b : Bytes) → completes f ≡ false → whole_by_of f c m b ≡ none
+pub none_whole : (f : FragmentOutcome) (c : Control) (m b : Bytes) → completes f ≡ false → whole_by_of f c m b ≡ None
 unfolding whole_by_of
 none_whole Short c m b e = refl
 none_whole Undivided c m b e = true_not_false true refl e
@@ -328,15 +327,15 @@ module _ (f : FragmentOutcome) (c : Control) (b : Bytes) where
   first_area d e q = ap (λ (y : Bytes). length y) q ∙ rw e (length-drop 2 b)
 
   pub first_joined : (x : Fragment) (n : ℕ) (r : Joined) → f ≡ First → n ≡ area_by f c b → x ≡ flags_in b
-      → r ≡ joined_with x.long_length x.aggregated n → r ≡ joined_by f c b
+      → r ≡ joined_with x.long_length x.aggregated n → Some r ≡ joined_by f c b
   unfolding area_by joined_by
   first_joined x n r e h q k =
       let w : n ≡ length b - 2 = rw e at h in
-      k ∙ ap (λ (y : Fragment). joined_with y.long_length y.aggregated n) q
-      ∙ ap (joined_with (flags_in b).long_length (flags_in b).aggregated) w ∙ ap (λ (y : FragmentOutcome). joined_by y c b) (sym e)
+      ap (λ (y : Joined). Some y) (k ∙ ap (λ (y : Fragment). joined_with y.long_length y.aggregated n) q
+      ∙ ap (joined_with (flags_in b).long_length (flags_in b).aggregated) w) ∙ ap (λ (y : FragmentOutcome). joined_by y c b) (sym e)
 
-  pub grown_joined : (n : ℕ) (r : Joined) → f ≡ Grown → n ≡ area_by f c b → r ≡ joined_with c.long_length c.aggregated n → r ≡ joined_by f c b
+  pub grown_joined : (n : ℕ) (r : Joined) → f ≡ Grown → n ≡ area_by f c b → r ≡ joined_with c.long_length c.aggregated n → Some r ≡ joined_by f c b
   unfolding area_by joined_by
   grown_joined n r e h k =
       let w : n ≡ grown_length c b = rw e at h in
-      k ∙ ap (joined_with c.long_length c.aggregated) w ∙ ap (λ (y : FragmentOutcome). joined_by y c b) (sym e)
+      ap (λ (y : Joined). Some y) (k ∙ ap (joined_with c.long_length c.aggregated) w) ∙ ap (λ (y : FragmentOutcome). joined_by y c b) (sym e)

@@ -1,15 +1,13 @@
 -- Records written one behind the other: one turn of the walk. Assumes nothing.
+use Rattle.std.specs.Prelude.{Option, None, Some, unwrap_or, is_some}
 use Rattle.std.proofs.Common.{◌≡◌, ℕ, ◌+◌, ◌-◌, ◌*◌, ◌<◌, ◌≤◌, Bool, true, false, List, [], ◌∷◌, map, subst, length, sym, refl, ap, ◌∙◌, arith, w32, w64, Fits}
-use mathlib.Core.Option.{Option, none, some}
 use borrow.Rule.Slice.PartMut.{put_mid}
 use Rattle.isdb_tlv.specs.Bytes.{put_be}
 use Rattle.isdb_tlv.specs.Fields.{puts, four_fields, written}
-use Rattle.isdb_mmt.specs.Formats.Maybe.{has_u32, number_u32}
 use Rattle.isdb_mmt.specs.Formats.Part.{part_of}
 use Rattle.isdb_mmt.specs.Decoder.Packet.{Bytes, MpuPacket, payload_unit}
-use Rattle.isdb_mmt.specs.Decoder.Maps.{is_some}
 use Rattle.isdb_tlv.specs.Walk.{also}
-use Rattle.isdb_mmt.specs.Formats.Mpu.{has_header, header_or, unit_step, units_from, units_of}
+use Rattle.isdb_mmt.specs.Formats.Mpu.{header_or, unit_step, units_from, units_of}
 use Rattle.isdb_mmt.specs.Decoder.Objects.{Rec, Asset, mpu_number, effect_of, unit_effect, after_unit, object_of, delivered_by, tagged}
 use Rattle.isdb_mmt.specs.Decoder.Needs.{data_of}
 use Rattle.isdb_mmt.specs.Memory.Lent.{over, flag_byte}
@@ -54,8 +52,8 @@ pub row_sent : (id start flags : ℕ) (scrambled : Bool) (o : Object) (at : ℕ)
     → put_mid at (at + 36 - at) l m ≡ over at (written (row_fields id scrambled o start)) l
 row_sent id start flags scrambled o at l m f e = sent (row_fields id scrambled o start) at l (rw f at e)
 
-pub held_put : (id : ℕ) (o : HeldObject) (timed item : Bool) (flags : ℕ) (h : MfuHeader) (i : ℕ) (m : List ℕ) → timed ≡ has_header o.mfu
-    → item ≡ has_u32 o.item_id → flags ≡ record_flags o.rap false timed item → h ≡ header_or o.mfu → i ≡ number_u32 o.item_id
+pub held_put : (id : ℕ) (o : HeldObject) (timed item : Bool) (flags : ℕ) (h : MfuHeader) (i : ℕ) (m : List ℕ) → timed ≡ is_some o.mfu
+    → item ≡ is_some o.item_id → flags ≡ record_flags o.rap false timed item → h ≡ header_or o.mfu → i ≡ unwrap_or o.item_id 0
     → m ≡ written (record_fields id flags o.mpu_sequence_number h i 0 o.bytes.length) → m ≡ written (held_fields id o)
 held_put id o timed item flags h i m et ei ef eh en e = e ∙ rw (ef, et, ei, eh, en) refl
 
@@ -112,7 +110,7 @@ module _ (q : Bytes) (timed aggregated : Bool) (id mpu : ℕ) (rap : Bool) (rows
     pub giving_end : x ≡ End → Gave q timed aggregated id mpu rap rows₀ given₀ rows given
     unfolding units_of unit_recs rows_from data_from
     giving_end e =
-        let u : units_from q timed aggregated at ≡ some [] = rw (units_at q timed aggregated at, ← ex, e) in
+        let u : units_from q timed aggregated at ≡ Some [] = rw (units_at q timed aggregated at, ← ex, e) in
         let r : over k [] rows ≡ over 0 (rows_from 0 (recs_at 8)) rows₀ =
         ap (λ (o : Option (List DataUnit)). over k (rows_from d (unit_recs id mpu rap q o)) rows) (sym u) ∙ g.rows_rest in
         let s : over d [] given ≡ over 0 (data_from (recs_at 8)) given₀ =
@@ -120,9 +118,8 @@ module _ (q : Bytes) (timed aggregated : Bool) (id mpu : ℕ) (rap : Bool) (rows
         record { rows_are = sym (over_none k rows) ∙ r; data_are = sym (over_none d given) ∙ s }
 
     pub giving_bad : x ≡ not_whole → Gave q timed aggregated id mpu rap rows₀ given₀ rows given
-    unfolding is_some
     giving_bad e =
-        let u : units_from q timed aggregated at ≡ none = rw (units_at q timed aggregated at, ← ex, e) in
+        let u : units_from q timed aggregated at ≡ None = rw (units_at q timed aggregated at, ← ex, e) in
         true_not_false (is_some (units_from q timed aggregated at)) g.whole (ap is_some u)
 
     module _ (u : DataUnit) (next : ℕ) (e : x ≡ found u next) where
@@ -130,9 +127,9 @@ module _ (q : Bytes) (timed aggregated : Bool) (id mpu : ℕ) (rap : Bool) (rows
       also_is = units_also q timed aggregated at next u x ex e
 
       recs_cons : (o : Option (List DataUnit)) → is_some (also u o) ≡ true → unit_recs id mpu rap q (also u o) ≡ unit_rec id mpu rap q u ∷ unit_recs id mpu rap q o
-      unfolding is_some unit_recs
-      recs_cons none h = true_not_false false h refl
-      recs_cons (some us) h = refl
+      unfolding unit_recs
+      recs_cons None h = true_not_false false h refl
+      recs_cons (Some us) h = refl
 
       recs_next : recs_at at ≡ unit_rec id mpu rap q u ∷ recs_at next
       recs_next =
@@ -233,10 +230,10 @@ module _ (q : Bytes) (timed aggregated : Bool) (id mpu : ℕ) (rap : Bool) (rows
 -- ---- these are the records of the model
 
 pub complete_gives : (m : MpuPacket) (h : PayloadHeader) (q : Bytes) → h.fragmentation ≡ Complete → (us : List DataUnit) (a : Asset)
-    → tagged m.id (delivered_by m a (map (payload_unit h q) us)) ≡ unit_recs m.id (mpu_number m.header) m.rap q (some us)
+    → tagged m.id (delivered_by m a (map (payload_unit h q) us)) ≡ unit_recs m.id (mpu_number m.header) m.rap q (Some us)
 unfolding delivered_by tagged unit_recs unit_effect effect_of object_of
 complete_gives m h q e [] a = refl
 complete_gives m h q e (u ∷ us) a =
-    let i = subst (λ (k : FragmentationIndicator). tagged m.id (delivered_by m (after_unit a (effect_of k a.held (object_of m (payload_unit h q u)))) (map (payload_unit h q) us)) ≡ unit_recs m.id (mpu_number m.header) m.rap q (some us)) e
+    let i = subst (λ (k : FragmentationIndicator). tagged m.id (delivered_by m (after_unit a (effect_of k a.held (object_of m (payload_unit h q u)))) (map (payload_unit h q) us)) ≡ unit_recs m.id (mpu_number m.header) m.rap q (Some us)) e
     (complete_gives m h q e us (after_unit a (unit_effect m a (payload_unit h q u)))) in
     rw e (ap (λ (rs : List Rec). unit_rec m.id (mpu_number m.header) m.rap q u ∷ rs) i)

@@ -1,5 +1,5 @@
 -- A message in two pieces, one behind the other: its bytes, its parts, and a table gathered out of both. Assumes nothing.
-use Rattle.std.proofs.Common.{◌≡◌, ℕ, ◌+◌, ◌-◌, ◌<◌, ◌≤◌, ltb, List, [], ◌∷◌, ◌++◌, length, get_or, take, drop, sym, refl, ap, ◌∙◌, append-nil, zero-add, arith, length-append, length-drop, drop_of_length-le, take_all, get_or-append-add, w8, w64, Fits, ltb-false, ltb-true}
+use Rattle.std.proofs.Common.{Option, ◌≡◌, ℕ, ◌+◌, ◌-◌, ◌<◌, ◌≤◌, ltb, List, [], ◌∷◌, ◌++◌, length, get_or, take, drop, sym, refl, ap, ◌∙◌, append-nil, zero-add, arith, length-append, length-drop, drop_of_length-le, take_all, get_or-append-add, w8, w64, Fits, ltb-false, ltb-true}
 use lib.ListN.{get_or-append}
 use lib.Seq.{take-nil, take-append-le, drop-append-le, take-append-add, drop-append-add}
 use Rattle.isdb_tlv.specs.Bytes.{be}
@@ -86,7 +86,7 @@ empty_is [] e = refl
 empty_is (x ∷ l) e = absurd (omega arith)
 
 module _ (ix : List ℕ) (used : ℕ) (a b : Bytes) (can : CanDecide ix used a b) where
-  module _ (ks : List KeptSection) (m p : Recent) (r : TableOutcome) where
+  module _ (ks : List KeptSection) (m p : Option Recent) (r : TableOutcome) where
     pub outcome_first : length b ≡ 0 → r ≡ table_outcome ks m p (table_read a) → r ≡ table_outcome ks m p (table_read (a ++ b))
     outcome_first e er = er ∙ ap (λ (l : Bytes). table_outcome ks m p (table_read l)) (sym (append-nil a) ∙ ap (λ (l : Bytes). a ++ l) (sym (empty_is b e)))
 

@@ -1,7 +1,7 @@
 -- Messages that are being joined, and the tables that a whole one gives: how long they are, that their bytes are bytes, and what a message
 -- packet counts. Assumes nothing.
+use Rattle.std.specs.Prelude.{Option, None, Some}
 use Rattle.std.proofs.Common.{ℕ, ◌+◌, ◌<◌, ◌≤◌, Bool, true, false, cond, leb, List, [], ◌∷◌, ◌++◌, length, drop, arith, length-append, length-drop, leb-true}
-use mathlib.Core.Option.{Option, none, some}
 use Rattle.isdb_tlv.proofs.Guards.{cond_elim}
 use Rattle.isdb_mmt.specs.declared.decoder.counts.Counters.{Counters}
 use Rattle.isdb_mmt.specs.Formats.Part.{part_of}
@@ -56,8 +56,8 @@ octets_cut j o =
 -- ---- a message that is being joined
 
 abbrev pub JoinFits : ℕ → Option PartialMessage → Type 0
-JoinFits area none = Unit {0}
-JoinFits area (some j) = (length j.bytes ≤ area) × Octets j.bytes
+JoinFits area None = Unit {0}
+JoinFits area (Some j) = (length j.bytes ≤ area) × Octets j.bytes
 
 before_fits : (area : ℕ) (l : Reassembly) (c : MessagePacket) → JoinFits area l.partial → JoinFits area (part_before l c)
 unfolding part_before
@@ -66,15 +66,15 @@ before_fits area l c h = cond_elim (JoinFits area) (gap l.number c.number) (λ e
 -- what is joined has at most 1,048,576 bytes
 on_fits : (area : ℕ) (o : Option PartialMessage) (d : Bytes) → JoinFits area o → Octets d → JoinFits most_message (joined_on o d)
 unfolding joined_on
-on_fits area none d h q = tt
-on_fits area (some j) d h q =
+on_fits area None d h q = tt
+on_fits area (Some j) d h q =
     cond_elim (JoinFits most_message) (leb (length j.bytes + length d) most_message)
     (λ e. (omega (arith, leb-true (length j.bytes + length d) most_message e, length-append j.bytes d), octets_append j.bytes d h.1 q))
     (λ e. tt)
 
 join_within : (area big : ℕ) (o : Option PartialMessage) → JoinFits big o → partial_length o ≤ area → JoinFits area o
-join_within area big none h l = tt
-join_within area big (some j) h l = (l, h.1)
+join_within area big None h l = tt
+join_within area big (Some j) h l = (l, h.1)
 
 after_fits : (area : ℕ) (d : Division) (j : Option PartialMessage) (c : MessagePacket) → JoinFits area j → Octets c.payload
     → fragment_area d j (drop 2 c.payload) ≤ area → JoinFits area (part_after d j c)
@@ -116,8 +116,8 @@ pub record Given (c : TablesFound) : Type 0 where
 
 pub given_cut : (o : Option PartialMessage) → JoinFits most_message o → Given (cut_of_all o)
 unfolding cut_of_all
-given_cut none h = record { many = omega arith; long = omega arith; malformed = omega arith; octets = tt }
-given_cut (some j) h =
+given_cut None h = record { many = omega arith; long = omega arith; malformed = omega arith; octets = tt }
+given_cut (Some j) h =
     let f = fills_cut j in
     record {
       many = omega (arith, f.many, h.0);

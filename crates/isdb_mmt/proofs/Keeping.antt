@@ -1,6 +1,6 @@
 -- `keep` and a key's well-formed sections: what is kept is the first of the last run of equal version. Assumes nothing.
+use Rattle.std.specs.Prelude.{Option, None, Some}
 use Rattle.std.proofs.Common.{◌≡◌, ℕ, Bool, true, false, cond, not, ◌&&◌, eqb, ◌≢◌, List, [], ◌∷◌, ◌++◌, map, sym, refl, ap, ◌∙◌, append_assoc, append-nil}
-use mathlib.Core.Option.{Option, none, some}
 use mir.Facts.{eqb_no}
 use Rattle.isdb_mmt.specs.Decoder.Packet.{Bytes, MessagePacket, Packet, ip_error, ntp, non_mmtp_of, media, message, control, other}
 use Rattle.isdb_mmt.specs.Decoder.Maps.{or_else, find, put}
@@ -56,11 +56,11 @@ anew x y xs n f =
 -- one section, at one key
 
 abbrev tracked : Option Kept → Section → Option Kept
-tracked o x = cond x.header_and_crc_good (cond (other_version o x.version) (cond x.body_ok (some (kept_of x)) o) o) o
+tracked o x = cond x.header_and_crc_good (cond (other_version o x.version) (cond x.body_ok (Some (kept_of x)) o) o) o
 
 keep_same : (x : Section) (m : List (ℕ × Kept)) (h n b : Bool)
     → find x.key (cond h (keep_if n b x m) m)
-    ≡ cond h (cond n (cond b (some (kept_of x)) (find x.key m)) (find x.key m)) (find x.key m)
+    ≡ cond h (cond n (cond b (Some (kept_of x)) (find x.key m)) (find x.key m)) (find x.key m)
 unfolding keep_if
 keep_same x m true true true = find_put x.key (kept_of x) m
 keep_same x m true true false = refl
@@ -88,14 +88,14 @@ tracks : (o : Option Kept) (xs : List Section) (x : Section) → Keeps o xs
 unfolding other_version
 tracks o xs x never = go x.header_and_crc_good x.body_ok
   where
-    go : (h b : Bool) → Keeps (cond h (cond b (some (kept_of x)) none) none) (cond (h && b) (x ∷ []) [])
+    go : (h b : Bool) → Keeps (cond h (cond b (Some (kept_of x)) None) None) (cond (h && b) (x ∷ []) [])
     go true true = keeps x (record { before = []; run = []; is = refl; alike = tt; starts = tt })
     go true false = never
     go false b = never
 tracks o xs x (keeps y f) = go x.header_and_crc_good x.body_ok (eqb y.version x.version) refl
   where
     go : (h b n : Bool) → eqb y.version x.version ≡ n
-        → Keeps (cond h (cond (not n) (cond b (some (kept_of x)) (some (kept_of y))) (some (kept_of y))) (some (kept_of y)))
+        → Keeps (cond h (cond (not n) (cond b (Some (kept_of x)) (Some (kept_of y))) (Some (kept_of y))) (Some (kept_of y)))
         (xs ++ cond (h && b) (x ∷ []) [])
     go true true true e = keeps y (again y x xs (sym (eqb-true y.version x.version e)) f)
     go true true false e = keeps x (anew y x xs (eqb_no (rw e tt)) f)

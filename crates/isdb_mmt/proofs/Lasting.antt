@@ -1,7 +1,7 @@
 -- What an accepted packet leaves of limits, buffers and stored lengths: everything that is there still stands within its buffer.
 -- Assumes nothing.
+use Rattle.std.specs.Prelude.{Option, None, Some}
 use Rattle.std.proofs.Common.{◌≡◌, ℕ, ◌+◌, ◌*◌, ◌<◌, ◌≤◌, true, List, [], ◌∷◌, map, length, sym, refl, ◌∙◌, inl, arith}
-use mathlib.Core.Option.{Option, none, some}
 use Rattle.isdb_tlv.specs.Fields.{written, Fit}
 use Rattle.isdb_tlv.proofs.Fields.{length_written}
 use Rattle.isdb_mmt.specs.declared.decoder.counts.Counters.{Counters}
@@ -111,8 +111,8 @@ module _ (s : Session) (ok : Sound s.state s.others (lengths_of s)) where
       behind m h counters_place (written (counters_fields c)) (omega arith) (omega arith)
 
   timed : (t : Option ℕ) → Behind (with_time t s.state)
-  timed none = untouched
-  timed (some t) =
+  timed None = untouched
+  timed (Some t) =
       let e : length (written (time_fields (record { seen = true; timestamp = t }))) ≡ 9 = length_written (time_fields (record { seen = true; timestamp = t })) in
       behind s.state untouched time_place (written (time_fields (record { seen = true; timestamp = t }))) (omega arith) (omega arith)
 
@@ -134,12 +134,12 @@ module _ (s : Session) (ok : Sound s.state s.others (lengths_of s)) where
   -- ---- a media packet
 
   held_short : (o : Option Mfu) (area : ℕ) → held_length o ≤ area → (held_for o).length ≤ area
-  held_short none area h = omega arith
-  held_short (some u) area h = h
+  held_short None area h = omega arith
+  held_short (Some u) area h = h
 
   length_held : (o : Option Mfu) (at area : ℕ) (t : Bytes) → held_length o ≤ area → at + area ≤ length t → length (held_over at o t) ≡ length t
-  length_held none at area t h w = refl
-  length_held (some u) at area t h w = length_over at u.bytes t (omega arith)
+  length_held None at area t h w = refl
+  length_held (Some u) at area t h w = length_over at u.bytes t (omega arith)
 
   module _ (id : ℕ) (a : Asset) (tied : Tied a) (fits : Fit (media_fields (place_for_asset id a))) (room : held_length a.held ≤ l.mfu_area) where
     media_own : (i : ℕ) → i < l.media_ids → media_there_lem l s (0 + i) (place_for_asset id a)

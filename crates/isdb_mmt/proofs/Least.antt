@@ -4,40 +4,38 @@ use lib.Arith.{lt_of_le-ne}
 use borrow.Author.Tests.{lt-leb, eqb-false}
 use Rattle.isdb_tlv.specs.Bytes.{be}
 use Rattle.isdb_tlv.specs.Guards.{◌<?◌, ◌≤?◌}
-use Rattle.std.specs.Prelude.{if◌then◌else◌}
+use Rattle.std.specs.Prelude.{if◌then◌else◌, None, Option, Some}
 use Rattle.isdb_tlv.proofs.Guards.{either}
 use Rattle.isdb_mmt.specs.Memory.Lent.{names_from, among, distinct}
 use Rattle.isdb_mmt.specs.Answers.Readings.{lesser, least_from, most_name, then_above, ascending_from, ascending}
 use Rattle.isdb_mmt.specs.Answers.ReadingLaws.{rises, InOrder, Least}
-use Rattle.isdb_mmt.specs.declared.maybe.MaybeU32.{MaybeU32}
-use Rattle.isdb_mmt.specs.declared.maybe.MaybeU32.TheVariants.{None as no_u32, Some as some_u32}
 use Rattle.isdb_mmt.proofs.Names.{true_not_false, next, end}
 
 -- ---- one name
 
-module _ (x : MaybeU32) (y : ℕ) where
-  pub lesser_none : x ≡ no_u32 → some_u32 y ≡ lesser x y
+module _ (x : Option ℕ) (y : ℕ) where
+  pub lesser_none : x ≡ None → Some y ≡ lesser x y
   lesser_none e = rw e
 
-  module _ (z : ℕ) (e : x ≡ some_u32 z) where
-    pub lesser_less : y < z → some_u32 y ≡ lesser x y
+  module _ (z : ℕ) (e : x ≡ Some z) where
+    pub lesser_less : y < z → Some y ≡ lesser x y
     lesser_less h = rw (e, lt-ltb y z h)
 
-    pub lesser_not : z ≤ y → some_u32 z ≡ lesser x y
+    pub lesser_not : z ≤ y → Some z ≡ lesser x y
     lesser_not h = rw (e, le-ltb y z h)
 
 -- the least so far with one more name
-abbrev pub with_name : MaybeU32 → ℕ → ℕ → ℕ → MaybeU32
+abbrev pub with_name : Option ℕ → ℕ → ℕ → ℕ → Option ℕ
 with_name x a b y = if y <? a then x else if b <? y then x else lesser x y
 
-pub least_step : (x : MaybeU32) (a b y : ℕ) (ys : List ℕ) → least_from x a b (y ∷ ys) ≡ least_from (with_name x a b y) a b ys
+pub least_step : (x : Option ℕ) (a b y : ℕ) (ys : List ℕ) → least_from x a b (y ∷ ys) ≡ least_from (with_name x a b y) a b ys
 unfolding least_from
 least_step x a b y ys = either (ltb y a) (λ t. rw t) (λ f. either (ltb b y) (λ t. rw (f, t)) (λ g. rw (f, g)))
 
 -- ---- one turn
 
-module _ (l : List ℕ) (size n i p a b : ℕ) (y x : MaybeU32) (inv : y ≡ least_from x a b (names_from (n - i) size p l)) where
-  pub least_next : i < n → (v : ℕ) → v ≡ be 4 l p → (x' : MaybeU32) → x' ≡ with_name x a b v
+module _ (l : List ℕ) (size n i p a b : ℕ) (y x : Option ℕ) (inv : y ≡ least_from x a b (names_from (n - i) size p l)) where
+  pub least_next : i < n → (v : ℕ) → v ≡ be 4 l p → (x' : Option ℕ) → x' ≡ with_name x a b v
       → y ≡ least_from x' a b (names_from (n - (i + 1)) size (p + size) l)
   least_next h v d x' e = inv ∙ rw (next l size n i p h, e, d) (least_step x a b (be 4 l p) (names_from (n - (i + 1)) size (p + size) l))
 
@@ -45,29 +43,29 @@ module _ (l : List ℕ) (size n i p a b : ℕ) (y x : MaybeU32) (inv : y ≡ lea
   unfolding least_from
   least_end h = sym (inv ∙ rw (end l size n i p h))
 
-pub least_start : (l : List ℕ) (size n at a b : ℕ) → least_from no_u32 a b (names_from n size at l) ≡ least_from no_u32 a b (names_from (n - 0) size at l)
+pub least_start : (l : List ℕ) (size n at a b : ℕ) → least_from None a b (names_from n size at l) ≡ least_from None a b (names_from (n - 0) size at l)
 least_start l size n at a b = let e : n - 0 ≡ n = omega arith in rw e
 
 -- ---- what the scan finds
 
-abbrev AtMost : MaybeU32 → ℕ → Type 0
-AtMost no_u32 z = ⊥
-AtMost (some_u32 w) z = w ≤ z
+abbrev AtMost : Option ℕ → ℕ → Type 0
+AtMost None z = ⊥
+AtMost (Some w) z = w ≤ z
 
-lesser_keeps : (x : MaybeU32) (v z : ℕ) → AtMost x z → AtMost (lesser x v) z
-lesser_keeps no_u32 v z h = absurd h
-lesser_keeps (some_u32 w) v z h =
+lesser_keeps : (x : Option ℕ) (v z : ℕ) → AtMost x z → AtMost (lesser x v) z
+lesser_keeps None v z h = absurd h
+lesser_keeps (Some w) v z h =
     either (ltb v w) (λ t. rw t (omega (arith, h, ltb-true v w t))) (λ f. rw f h)
 
-lesser_takes : (x : MaybeU32) (v : ℕ) → AtMost (lesser x v) v
-lesser_takes no_u32 v = omega arith
-lesser_takes (some_u32 w) v = either (ltb v w) (λ t. rw t (omega arith)) (λ f. rw f (ltb-false v w f))
+lesser_takes : (x : Option ℕ) (v : ℕ) → AtMost (lesser x v) v
+lesser_takes None v = omega arith
+lesser_takes (Some w) v = either (ltb v w) (λ t. rw t (omega arith)) (λ f. rw f (ltb-false v w f))
 
-lesser_from : (x : MaybeU32) (v w : ℕ) → lesser x v ≡ some_u32 w → (x ≡ some_u32 w) ⊎ (v ≡ w)
-lesser_from no_u32 v w e = inr cc
-lesser_from (some_u32 z) v w e = either (ltb v z) (λ t. inr (cc (rw t at e))) (λ f. inl (rw f at e))
+lesser_from : (x : Option ℕ) (v w : ℕ) → lesser x v ≡ Some w → (x ≡ Some w) ⊎ (v ≡ w)
+lesser_from None v w e = inr cc
+lesser_from (Some z) v w e = either (ltb v z) (λ t. inr (cc (rw t at e))) (λ f. inl (rw f at e))
 
-module _ (x : MaybeU32) (a b v : ℕ) where
+module _ (x : Option ℕ) (a b v : ℕ) where
   step_keeps : (z : ℕ) → AtMost x z → AtMost (with_name x a b v) z
   step_keeps z h =
       either (ltb v a) (λ t. rw t h) (λ f. either (ltb b v) (λ t. rw (f, t) h) (λ g. rw (f, g) (lesser_keeps x v z h)))
@@ -75,32 +73,32 @@ module _ (x : MaybeU32) (a b v : ℕ) where
   step_takes : a ≤ v → v ≤ b → AtMost (with_name x a b v) v
   step_takes h k = rw (le-ltb v a h, le-ltb b v k) (lesser_takes x v)
 
-  step_from : (w : ℕ) → with_name x a b v ≡ some_u32 w → (x ≡ some_u32 w) ⊎ ((v ≡ w) × ((a ≤ v) × (v ≤ b)))
+  step_from : (w : ℕ) → with_name x a b v ≡ Some w → (x ≡ Some w) ⊎ ((v ≡ w) × ((a ≤ v) × (v ≤ b)))
   step_from w e =
       either (ltb v a) (λ t. inl (rw t at e))
       (λ f.
       either (ltb b v) (λ t. inl (rw (f, t) at e))
       (λ g. ⊎_elim (λ q. inl q) (λ q. inr (q, (ltb-false v a f, ltb-false b v g))) (lesser_from x v w (rw (f, g) at e))))
 
-least_keeps : (names : List ℕ) (x : MaybeU32) (a b z : ℕ) → AtMost x z → AtMost (least_from x a b names) z
+least_keeps : (names : List ℕ) (x : Option ℕ) (a b z : ℕ) → AtMost x z → AtMost (least_from x a b names) z
 unfolding least_from
 least_keeps [] x a b z h = h
 least_keeps (v ∷ ys) x a b z h =
-    subst (λ (r : MaybeU32). AtMost r z) (sym (least_step x a b v ys)) (least_keeps ys (with_name x a b v) a b z (step_keeps x a b v z h))
+    subst (λ (r : Option ℕ). AtMost r z) (sym (least_step x a b v ys)) (least_keeps ys (with_name x a b v) a b z (step_keeps x a b v z h))
 
-least_takes : (names : List ℕ) (x : MaybeU32) (a b y : ℕ) → among y names ≡ true → a ≤ y → y ≤ b → AtMost (least_from x a b names) y
+least_takes : (names : List ℕ) (x : Option ℕ) (a b y : ℕ) → among y names ≡ true → a ≤ y → y ≤ b → AtMost (least_from x a b names) y
 unfolding among
 least_takes [] x a b y m h k = true_not_false false m refl
 least_takes (v ∷ ys) x a b y m h k =
-    subst (λ (r : MaybeU32). AtMost r y) (sym (least_step x a b v ys))
+    subst (λ (r : Option ℕ). AtMost r y) (sym (least_step x a b v ys))
     (either (eqb v y)
     (λ t.
     let e : v ≡ y = eqb-true v y t in
     least_keeps ys (with_name x a b v) a b y (subst (λ q. AtMost (with_name x a b v) q) e (step_takes x a b v (omega arith) (omega arith))))
     (λ f. least_takes ys (with_name x a b v) a b y (rw f at m) h k))
 
-least_from_lem : (names : List ℕ) (x : MaybeU32) (a b w : ℕ) → least_from x a b names ≡ some_u32 w
-    → (x ≡ some_u32 w) ⊎ ((among w names ≡ true) × ((a ≤ w) × (w ≤ b)))
+least_from_lem : (names : List ℕ) (x : Option ℕ) (a b w : ℕ) → least_from x a b names ≡ Some w
+    → (x ≡ Some w) ⊎ ((among w names ≡ true) × ((a ≤ w) × (w ≤ b)))
 unfolding among least_from
 least_from_lem [] x a b w e = inl e
 least_from_lem (v ∷ ys) x a b w e =
@@ -109,23 +107,23 @@ least_from_lem (v ∷ ys) x a b w e =
     (λ q. inr (either (eqb v w) (λ t. rw t) (λ f. rw f q.0), q.1))
     (least_from_lem ys (with_name x a b v) a b w (sym (least_step x a b v ys) ∙ e))
 
-none_not_some : {A : Type 0} (w : ℕ) → no_u32 ≡ some_u32 w → A
+none_not_some : {A : Type 0} (w : ℕ) → None ≡ Some w → A
 none_not_some w e = let z : ◌≡◌ {A = ℕ} 0 1 = cc in absurd (omega arith)
 
 module _ (names : List ℕ) (a b : ℕ) where
-  pub least_is : (x : ℕ) → least_from no_u32 a b names ≡ some_u32 x → Least names a b x
+  pub least_is : (x : ℕ) → least_from None a b names ≡ Some x → Least names a b x
   least_is x e =
       let q : (among x names ≡ true) × ((a ≤ x) × (x ≤ b)) =
-      ⊎_elim (λ p. none_not_some x p) (λ p. p) (least_from_lem names no_u32 a b x e) in
+      ⊎_elim (λ p. none_not_some x p) (λ p. p) (least_from_lem names None a b x e) in
       record {
         one = q.0;
         from = q.1.0;
         to = q.1.1;
-        least = λ y m h k. subst (λ (r : MaybeU32). AtMost r y) e (least_takes names no_u32 a b y m h k);
+        least = λ y m h k. subst (λ (r : Option ℕ). AtMost r y) e (least_takes names None a b y m h k);
       }
 
-  pub least_nothing : least_from no_u32 a b names ≡ no_u32 → (y : ℕ) → among y names ≡ true → a ≤ y → y ≤ b → ⊥
-  least_nothing e y m h k = subst (λ (r : MaybeU32). AtMost r y) e (least_takes names no_u32 a b y m h k)
+  pub least_nothing : least_from None a b names ≡ None → (y : ℕ) → among y names ≡ true → a ≤ y → y ≤ b → ⊥
+  least_nothing e y m h k = subst (λ (r : Option ℕ). AtMost r y) e (least_takes names None a b y m h k)
 
 -- ---- names one after the other
 
@@ -225,44 +223,44 @@ module _ (names : List ℕ) where
   pub rising_from : (n a : ℕ) → rises a (ascending_from n a names) ≡ true
   unfolding rises ascending_from
   rising_from zero a = refl
-  rising_from (suc n) a = go (least_from no_u32 a most_name names) refl (λ x. rising_from n x)
+  rising_from (suc n) a = go (least_from None a most_name names) refl (λ x. rising_from n x)
     where
       go :
-          (r : MaybeU32)
-          → least_from no_u32 a most_name names ≡ r
+          (r : Option ℕ)
+          → least_from None a most_name names ≡ r
           → ((x : ℕ) → rises x (ascending_from n x names) ≡ true)
           → rises a (then_above (λ x. ascending_from n x names) r) ≡ true
-      go no_u32 e f = refl
-      go (some_u32 x) e f = rw (le-leb a x (least_is names a most_name x e).from) (f (x + 1))
+      go None e f = refl
+      go (Some x) e f = rw (le-leb a x (least_is names a most_name x e).from) (f (x + 1))
 
   one_of : (n a y : ℕ) → among y (ascending_from n a names) ≡ true → among y names ≡ true
   unfolding among ascending_from
   one_of zero a y m = true_not_false false m refl
-  one_of (suc n) a y m = go (least_from no_u32 a most_name names) refl (λ x. one_of n x y) m
+  one_of (suc n) a y m = go (least_from None a most_name names) refl (λ x. one_of n x y) m
     where
       go :
-          (r : MaybeU32)
-          → least_from no_u32 a most_name names ≡ r
+          (r : Option ℕ)
+          → least_from None a most_name names ≡ r
           → ((x : ℕ) → among y (ascending_from n x names) ≡ true → among y names ≡ true)
           → among y (then_above (λ x. ascending_from n x names) r) ≡ true
           → among y names ≡ true
-      go no_u32 e f k = true_not_false false k refl
-      go (some_u32 x) e f k =
+      go None e f k = true_not_false false k refl
+      go (Some x) e f k =
           either (eqb x y) (λ t. subst (λ z. among z names ≡ true) (eqb-true x y t) (least_is names a most_name x e).one)
           (λ g. f (x + 1) (rw g at k))
 
   comes : (n a y : ℕ) → above a names ≤ n → among y names ≡ true → a ≤ y → y ≤ most_name → among y (ascending_from n a names) ≡ true
   unfolding among ascending_from
   comes zero a y c m h k = absurd (omega (arith, above_one a y names m h))
-  comes (suc n) a y c m h k = go (least_from no_u32 a most_name names) refl (λ x d b. comes n x y d m b k)
+  comes (suc n) a y c m h k = go (least_from None a most_name names) refl (λ x d b. comes n x y d m b k)
     where
       go :
-          (r : MaybeU32)
-          → least_from no_u32 a most_name names ≡ r
+          (r : Option ℕ)
+          → least_from None a most_name names ≡ r
           → ((x : ℕ) → above x names ≤ n → x ≤ y → among y (ascending_from n x names) ≡ true)
           → among y (then_above (λ x. ascending_from n x names) r) ≡ true
-      go no_u32 e f = absurd (least_nothing names a most_name e y m h k)
-      go (some_u32 x) e f =
+      go None e f = absurd (least_nothing names a most_name e y m h k)
+      go (Some x) e f =
           let l = least_is names a most_name x e in
           either (eqb x y) (λ t. rw t)
           (λ g.
@@ -273,15 +271,15 @@ module _ (names : List ℕ) where
       → length (ascending_from n a names) ≡ above a names
   unfolding ascending_from
   as_many d small zero a c = omega arith
-  as_many d small (suc n) a c = go (least_from no_u32 a most_name names) refl (λ x. as_many d small n x)
+  as_many d small (suc n) a c = go (least_from None a most_name names) refl (λ x. as_many d small n x)
     where
       go :
-          (r : MaybeU32)
-          → least_from no_u32 a most_name names ≡ r
+          (r : Option ℕ)
+          → least_from None a most_name names ≡ r
           → ((x : ℕ) → above x names ≤ n → length (ascending_from n x names) ≡ above x names)
           → length (then_above (λ x. ascending_from n x names) r) ≡ above a names
-      go no_u32 e f = sym (above_none a names (λ y m h. least_nothing names a most_name e y m h (small y m)))
-      go (some_u32 x) e f =
+      go None e f = sym (above_none a names (λ y m h. least_nothing names a most_name e y m h (small y m)))
+      go (Some x) e f =
           let l = least_is names a most_name x e in
           let q = above_step a x names d l.one l.from (λ y m h. l.least y m h (small y m)) in
           ap suc (f (x + 1) (omega arith)) ∙ sym q

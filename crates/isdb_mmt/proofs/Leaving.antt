@@ -1,5 +1,6 @@
 -- What the commit of a walk stores is the model's next state, laid out. Assumes nothing.
-use Rattle.std.proofs.Common.{◌≡◌, ℕ, zero, suc, ◌+◌, ◌-◌, ◌*◌, ◌/◌, ◌%◌, ◌<◌, ◌≤◌, true, eqb, List, [], ◌∷◌, ◌++◌, map, length, get_or, take, drop, sym, refl, ap, ◌∙◌, append-nil, zero-add, arith, length-drop, get_or-drop, take_all, take-suc, drop-drop, take-add}
+use Rattle.std.specs.Prelude.{is_some, Option, None, Some}
+use Rattle.std.proofs.Common.{◌≡◌, ℕ, zero, suc, ◌+◌, ◌*◌, ◌/◌, ◌%◌, ◌<◌, ◌≤◌, eqb, List, [], ◌∷◌, ◌++◌, map, length, get_or, take, drop, sym, refl, ap, ◌∙◌, append-nil, zero-add, arith, length-drop, get_or-drop, take_all, take-suc, drop-drop, take-add}
 use borrow.Author.Tests.{eqb-false}
 use Rattle.isdb_tlv.specs.Bytes.{be}
 use Rattle.isdb_tlv.specs.Fields.{bytes_of, written}
@@ -11,11 +12,10 @@ use Rattle.isdb_mmt.specs.Memory.Lent.{part, places_from, indexed}
 use Rattle.isdb_mmt.specs.Memory.Session.{section_place_of, section_fields}
 use Rattle.isdb_mmt.specs.Memory.PlacesOf.{table_length}
 use Rattle.isdb_mmt.specs.Pushes.Leaves.{section_rows}
-use Rattle.isdb_mmt.specs.Pushes.TableOutcome.{index_of}
+use Rattle.isdb_mmt.specs.Pushes.TableOutcome.{index_of, recent_length}
 use Rattle.isdb_mmt.specs.Pushes.PendingTables.{Logged, with_log, places_of, bytes_at, committed_entry, committed_recent, pending_of, committed_counters}
 use Rattle.isdb_mmt.specs.Pushes.Commit.{EntryFits, AllFit}
-use Rattle.isdb_mmt.specs.Pushes.Start.{recent_length, counters_with}
-use Rattle.isdb_mmt.specs.Decoder.Maps.{is_some}
+use Rattle.isdb_mmt.specs.Pushes.Start.{counters_with}
 use Rattle.isdb_mmt.specs.declared.decoder.section.KeptSection.{KeptSection}
 use Rattle.isdb_mmt.specs.declared.decoder.table_outcome.Recent.{Recent}
 use Rattle.isdb_mmt.specs.declared.decoder.walk.WalkState.{WalkState}
@@ -25,6 +25,7 @@ use Rattle.isdb_mmt.proofs.Lent.{length_part}
 use Rattle.isdb_mmt.proofs.Limits.{areas_next}
 use Rattle.isdb_mmt.proofs.Brief.{octets_part}
 use Rattle.isdb_mmt.proofs.Applied.{log_places}
+use Rattle.isdb_mmt.proofs.Logging.{StandsIn}
 
 -- ---- a place written again is what it was
 
@@ -106,21 +107,17 @@ module _ (m t : Bytes) (area : ℕ) where
 
   -- ---- an MPT, a PLT or a TOT
 
-  module _ (i : ℕ) (r : Recent) (w : (i + 1) * area ≤ length t) (small : r.there ≡ true → r.length ≤ area)
-      (found_at : r.there ≡ true → (r.from ≡ 0 → ⊥) → length (part (r.from - 1) r.length m) ≡ r.length) where
-    pub recent_there : r.there ≡ is_some (committed_recent m t (i * area) r)
-    unfolding is_some
-    recent_there = either r.there (λ q. rw q) (λ q. rw q)
+  pub recent_there : (i : ℕ) (r : Option Recent) → is_some r ≡ is_some (committed_recent m t (i * area) r)
+  recent_there i None = refl
+  recent_there i (Some r) = refl
 
-    pub recent_long : recent_length r ≡ table_length (committed_recent m t (i * area) r)
-    recent_long =
-        either r.there
-        (λ q.
-        rw q
-        (either (eqb r.from 0)
-        (λ z. rw z (sym (length_part (i * area) r.length t (omega (arith, small q)))))
-        (λ z. rw z (sym (found_at q (eqb-false r.from 0 z))))))
-        (λ q. rw q)
+  pub recent_long : (i : ℕ) (r : Option Recent) → (i + 1) * area ≤ length t → recent_length r ≤ area
+      → StandsIn m r
+      → recent_length r ≡ table_length (committed_recent m t (i * area) r)
+  recent_long i None w small found_at = refl
+  recent_long i (Some r) w small found_at =
+      either (eqb r.from 0) (λ z. rw z (sym (length_part (i * area) r.length t (omega (arith, small)))))
+      (λ z. rw z (sym (found_at (eqb-false r.from 0 z))))
 
 -- ---- the counters
 

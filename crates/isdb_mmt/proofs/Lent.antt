@@ -1,6 +1,6 @@
 -- The laws of lent memory: what is read after a write there and elsewhere; fields stored one by one are the bytes that a sender
 -- would write; places of one size. Assumes nothing.
-use Rattle.std.proofs.Common.{◌≡◌, ℕ, zero, suc, ◌+◌, ◌-◌, ◌*◌, ◌/◌, ◌%◌, ◌<◌, ◌≤◌, min, ◌⊎◌, List, [], ◌∷◌, ◌++◌, map, length, get_or, take, drop, set, sym, refl, ap, ◌∙◌, inl, inr, ⊎_elim, append_assoc, append-nil, not-suc-le-zero, add-zero, mul-zero, add-one, arith, length-append, length-drop, take-append-drop, length-take, length-take-le, get_or-drop, take_all, get_or-take, take-suc, take-take, drop-drop, take_at, get_or-append-add, ext_get_or, take-add, drop_at}
+use Rattle.std.proofs.Common.{◌≡◌, ℕ, zero, suc, ◌+◌, ◌-◌, ◌*◌, ◌/◌, ◌%◌, ◌<◌, ◌≤◌, min, ◌⊎◌, List, [], ◌∷◌, ◌++◌, map, length, get_or, take, drop, set, sym, refl, ap, ◌∙◌, inl, inr, ⊎_elim, append_assoc, append-nil, not-suc-le-zero, add-zero, mul-zero, arith, length-append, length-drop, take-append-drop, length-take, length-take-le, get_or-drop, get_or-take, take-take, drop-drop, take_at, get_or-append-add, ext_get_or, drop_at}
 use lib.ListN.{get_or-append}
 use lib.Seq.{drop-length, take-append_seam, drop-append_seam, take-append-add, drop-append-add, drop-append-le, set_split}
 use borrow.Rule.Slice.PartMut.{put_mid}
@@ -154,52 +154,13 @@ set_over l i x h =
     let e : suc i ≡ i + 1 = omega arith in
     set_split l i x h ∙ ap (λ (r : List ℕ). take i l ++ x ∷ r) (ap (λ n. drop n l) e ∙ sym (drop-drop 1 i l))
 
--- one turn of a loop that copies
-pub copy_next : (at k : ℕ) (b l m m' : List ℕ) → at + length b ≤ length l → k < length b → m ≡ over at (take k b) l → m' ≡ set m (at + k) (get_or b k 0)
-    → m' ≡ over at (take (k + 1) b) l
-copy_next at k b l m m' h lt e d =
-    let t : length (take k b) ≡ k = length-take-le k b (omega arith) in
-    let lo : length (over at (take k b) l) ≡ length l = length_over at (take k b) l (omega arith) in
-    let z : List ℕ = get_or b k 0 ∷ [] in
-    d
-    ∙ rw e (set_over (over at (take k b) l) (at + k) (get_or b k 0) (omega arith))
-    ∙ ap (λ n. over (at + n) z (over at (take k b) l)) (sym t)
-    ∙ over_next at (take k b) z l (omega arith)
-    ∙ ap (λ (r : List ℕ). over at r l) (sym (rw add-one (take-suc b k 0 lt)))
+-- one turn of a loop that copies: what is left to copy, `r`, begins with `p`
+module _ (to : ℕ) (p r r' s s' : List ℕ) (h : to + length r ≤ length s) (er : r ≡ p ++ r') (es : s' ≡ over to p s) where
+  pub copy_fits : to + length p + length r' ≤ length s'
+  copy_fits = let e = ap length er ∙ length-append p r' in rw (es, length_over to p s (omega arith)) (omega arith)
 
--- one of a loop that copies blocks `p` of at most so many bytes
-module _ (at k n most : ℕ) (b l m p : List ℕ) (f : at + length b ≤ length l) (k≤ : k ≤ length b) (en : n ≡ min (length b - k) most)
-    (ep : p ≡ take n (drop k b)) (em : length m ≡ length l) where
-  length_block : length p ≡ n
-  length_block = rw ep (length_part k n b (omega arith))
-
-  pub block_fits : (length p ≤ most) × (at + k + length p ≤ length m)
-  block_fits = let e = length_block in (omega arith, omega arith)
-
-  pub block_next : m ≡ over at (take k b) l → (m' : List ℕ) → m' ≡ over (at + k) p m
-      → (k + n ≤ length b) × ((length m' ≡ length l) × (m' ≡ over at (take (k + n) b) l))
-  block_next e m' d =
-      let t : length (take k b) ≡ k = length-take-le k b k≤ in
-      let u : length p ≡ n = length_block in
-      let same : m' ≡ over at (take (k + n) b) l =
-      d ∙ rw e (ap (λ i. over (at + i) p (over at (take k b) l)) (sym t)
-      ∙ over_next at (take k b) p l (omega arith)
-      ∙ ap (λ (r : List ℕ). over at r l) (rw ep (sym (take-add k n b)))) in
-      (omega arith, (ap length d ∙ length_over (at + k) p m (omega arith) ∙ em, same))
-
--- what goes through another place first
-module _ (b z t p : List ℕ) (n : ℕ) (h : length b ≤ length z) (e : n ≡ length b) (d : t ≡ over 0 b z) (q : p ≡ take n (drop 0 t)) where
-  through : p ≡ b
-  through = q ∙ rw (e, d) (part_over 0 b z (omega arith))
-
-  pub through_fits : (at : ℕ) (s : List ℕ) → at + length b ≤ length s → at + length p ≤ length s
-  through_fits at s f = rw through f
-
-  pub through_over : (at : ℕ) (s r : List ℕ) → r ≡ over at p s → r ≡ over at b s
-  through_over at s r f = f ∙ rw through refl
-
-pub copied : (at k : ℕ) (b l m : List ℕ) → length b ≤ k → m ≡ over at (take k b) l → m ≡ over at b l
-copied at k b l m h e = rw (take_all k b h) at e
+  pub copy_next : over (to + length p) r' s' ≡ over to r s
+  copy_next = let e = ap length er ∙ length-append p r' in rw (es, er) (over_next to p r' s (omega arith))
 
 -- a field of no bytes
 pub put_none : (at v : ℕ) (l : List ℕ) → put_be 0 at v l ≡ l
@@ -240,11 +201,11 @@ puts_whole fs l e = puts_over fs 0 l (omega arith) ∙ over_whole (written fs) l
 -- ---- places
 
 -- a place's name is the number at its start
-pub name_of : (size at : ℕ) (l : List ℕ) → 4 ≤ size → be 4 (part at size l) 0 ≡ be 4 l at
-name_of size at l h = be_take 4 size (drop at l) 0 h ∙ be_drop 4 at l 0 ∙ ap (be 4 l) (add-zero at)
+pub name_of : (w size at : ℕ) (l : List ℕ) → w ≤ size → be w (part at size l) 0 ≡ be w l at
+name_of w size at l h = be_take w size (drop at l) 0 (omega arith) ∙ be_drop w at l 0 ∙ ap (be w l) (add-zero at)
 
 pub word_read : (p : ℕ) (l : List ℕ) (r : ℕ) → r ≡ be 4 (take (p + 4 - p) (drop p l)) 0 → r ≡ be 4 l p
-word_read p l r e = let d : p + 4 - p ≡ 4 = omega arith in e ∙ rw d (name_of 4 p l (omega arith))
+word_read p l r e = let d : p + 4 - p ≡ 4 = omega arith in e ∙ rw d (name_of 4 4 p l (omega arith))
 
 module _ (size : ℕ) where
   pub length_places : (n at : ℕ) (l : List ℕ) → length (places_from n size at l) ≡ n
@@ -261,7 +222,7 @@ module _ (size : ℕ) where
   unfolding places_from names_from
   names_of h zero at l = refl
   names_of h (suc n) at l =
-      let e0 = name_of size at l h in
+      let e0 = name_of 4 size at l h in
       let e1 : map (λ p. be 4 p 0) (places_from n size (at + size) l) ≡ names_from n size (at + size) l = names_of h n (at + size) l in
       λ k. e0 k ∷ e1 k
 

@@ -14,7 +14,6 @@ pub mod StdB60
 pub mod StdB60Sections
 pub mod Places
 pub mod Units
-pub mod UnitStarts
 pub mod AggregatedMessages
 pub mod StdB60Tables
 pub mod StdB60Short
@@ -90,6 +89,7 @@ pub mod Useless
 pub mod Outs
 pub mod PlaceFits
 pub mod MediaEffects
+pub mod EachPlace
 pub mod EffectsModelled
 pub mod Placed
 pub mod MediaOutcomes

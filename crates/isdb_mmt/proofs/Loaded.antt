@@ -1,4 +1,5 @@
 -- What the copies stand for at the start of a walk is the session's view. Assumes nothing.
+use Rattle.std.specs.Prelude.{Option}
 use Rattle.std.proofs.Common.{◌≡◌, ℕ, zero, suc, ◌+◌, ◌*◌, ◌≤◌, Bool, true, false, List, [], ◌∷◌, map, get_or, take, drop, replicate, refl, ap, ◌∙◌, add-zero, arith, drop-drop, leb-true}
 use Rattle.isdb_mmt.specs.Memory.Layout.{most_sections, section_places, section_size}
 use Rattle.isdb_mmt.specs.Decoder.Packet.{Bytes}
@@ -85,8 +86,13 @@ module _ (m : Bytes) (l : Limits) where
 
 -- the version of a table that lies in its area is its byte 1
 pub version_start : (m t : Bytes) (at : ℕ) (there : Bool) (n : ℕ) → VersionOf (committed_recent m t at (recent_at t at there n)) (recent_at t at there n)
-version_start m t at true n = (refl, byte_at (part at n t) 1)
-version_start m t at false n = refl
+version_start m t at true n = byte_at (part at n t) 1
+version_start m t at false n = tt
+
+-- which lies there yet
+pub recent_start : (m t : Bytes) (at : ℕ) (there : Bool) (n : ℕ) → committed_recent m t at (recent_at t at there n) ≡ given there (part at n t)
+recent_start m t at true n = refl
+recent_start m t at false n = refl
 
 -- ---- a session
 
@@ -105,7 +111,7 @@ module _ (s : Session) (ok : Sound s.state s.others (lengths_of s)) where
         room = met.tables;
       }
 
-  module _ (m : Bytes) (log : List ℕ) (z : NoLog log) (mpt : Recent) (mpt_at : ℕ) (c : Counters) (cs : Counters) where
+  module _ (m : Bytes) (log : List ℕ) (z : NoLog log) (mpt : Option Recent) (mpt_at : ℕ) (c : Counters) (cs : Counters) where
     abbrev pub areas : Areas
     areas =
         record {
@@ -129,8 +135,8 @@ module _ (s : Session) (ok : Sound s.state s.others (lengths_of s)) where
     store_view =
         λ i.
         record {
-          plt = given (latest_of s.state).plt (part (plt_at s.state) (latest_of s.state).plt_length s.tables);
-          tot = given (latest_of s.state).tot (part (tot_at s.state) (latest_of s.state).tot_length s.tables);
+          plt = recent_start m s.tables (plt_at s.state) (latest_of s.state).plt (latest_of s.state).plt_length i;
+          tot = recent_start m s.tables (tot_at s.state) (latest_of s.state).tot (latest_of s.state).tot_length i;
           kept = kept_view i;
           others = s.others;
         }

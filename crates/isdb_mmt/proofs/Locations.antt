@@ -1,19 +1,18 @@
 -- A location that was read takes at least one byte, and no more than there are. Assumes nothing.
+use Rattle.std.specs.Prelude.{None, Option, Some}
 use Rattle.std.proofs.Common.{ℕ, ◌+◌, ◌≤◌, eqb, ltb, List, length, get_or, arith, ltb-false}
 use Rattle.isdb_tlv.proofs.Guards.{cond_elim}
 use Rattle.isdb_mmt.specs.Formats.Location.{sized, url_of, location_of}
 use Rattle.isdb_mmt.specs.declared.location.Location.{Location}
-use Rattle.isdb_mmt.specs.declared.location.Located.{Located}
-use Rattle.isdb_mmt.specs.declared.location.Located.TheVariants.{None, Some}
 
 -- n bytes, of those that are there
 pub record Size (s : List ℕ) (n : ℕ) : Type 0 where
   pub some : 1 ≤ n
   pub within : n ≤ length s
 
-abbrev pub Takes : List ℕ → Located → Type 0
+abbrev pub Takes : List ℕ → Option (Location × ℕ) → Type 0
 Takes s None = Unit {0}
-Takes s (Some l n) = Size s n
+Takes s (Some (l, n)) = Size s n
 
 module _ (s : List ℕ) where
   sized_takes : (n : ℕ) (l : Location) → 1 ≤ n → Takes s (sized s n l)

@@ -1,22 +1,26 @@
 -- What the walk logs stands in the message, and is no longer than the longest: so the commit can be made. Assumes nothing.
+use Rattle.std.specs.Prelude.{None, Option, Some}
 use Rattle.std.proofs.Common.{◌≡◌, ℕ, zero, suc, ◌+◌, ◌-◌, ◌≤◌, max, true, false, ltb, List, [], ◌∷◌, ◌++◌, length, get_or, set, sym, ap, arith}
 use Rattle.isdb_tlv.specs.Guards.{◌=?◌}
 use Rattle.isdb_tlv.proofs.Guards.{cond_elim}
 use Rattle.isdb_mmt.specs.Decoder.Packet.{Bytes}
 use Rattle.isdb_mmt.specs.Memory.Lent.{part, found_from}
 use Rattle.isdb_mmt.specs.Decoder.Kept.{Section, Table, empty_table, mpt_table, plt_table, tot_table, truncated_section, a_section, other_table}
-use Rattle.isdb_mmt.specs.declared.decoder.place.Found.{Found}
-use Rattle.isdb_mmt.specs.declared.decoder.place.Found.TheVariants.{At, Nothing as not_found}
 use Rattle.isdb_mmt.specs.declared.decoder.section.KeptSection.{KeptSection}
 use Rattle.isdb_mmt.specs.declared.decoder.table_outcome.Recent.{Recent}
 use Rattle.isdb_mmt.specs.declared.decoder.table_outcome.TableAction.{TableAction}
 use Rattle.isdb_mmt.specs.declared.decoder.table_outcome.TableAction.TheVariants.{Nothing, Other, Mpt, Plt, Tot, Put}
 use Rattle.isdb_mmt.specs.declared.decoder.table_outcome.TableOutcome.{TableOutcome}
 use Rattle.isdb_mmt.specs.Pushes.Placed.{Placed, PlacedAt, AllPlaced}
-use Rattle.isdb_mmt.specs.Pushes.TableOutcome.{keys_of, no_section, body_outcome, version_outcome, section_outcome, table_outcome}
+use Rattle.isdb_mmt.specs.Pushes.TableOutcome.{keys_of, no_section, recent_length, body_outcome, version_outcome, section_outcome, table_outcome}
 use Rattle.isdb_mmt.specs.Pushes.PendingTables.{Logged, logged, places_of, PendingTables, recent, index_after, mpt_after, plt_after, tot_after, kept_length, pending_with, pending_with_all}
 use Rattle.isdb_mmt.specs.Pushes.Commit.{AllFit}
 use Rattle.isdb_mmt.proofs.Committed.{TableAt, ReadPlaced}
+
+-- what is logged stands in the message with its length
+abbrev pub StandsIn : Bytes → Option Recent → Type 0
+StandsIn m None = Unit {0}
+StandsIn m (Some r) = (r.from ≡ 0 → ⊥) → length (part (r.from - 1) r.length m) ≡ r.length
 
 module _ (m : Bytes) where
   -- what is logged stands in the message; the longest is `n`, and what is not logged fits `area`
@@ -57,9 +61,9 @@ module _ (m : Bytes) where
     put_body : (x : Section) → PlacedAt m k x.bytes → (c i : ℕ) → Fine (body_outcome x c i)
     put_body x h c i = cond_elim Fine x.body_ok (λ e. sym (ap length h)) (λ e. tt)
 
-    put_version : (x : Section) → PlacedAt m k x.bytes → (f : Found) → Fine (version_outcome ks x f)
-    put_version x h not_found = put_body x h 0 (length ks)
-    put_version x h (At i) = cond_elim Fine ((get_or ks i no_section).version =? x.version) (λ e. tt) (λ e. put_body x h 1 i)
+    put_version : (x : Section) → PlacedAt m k x.bytes → (f : Option ℕ) → Fine (version_outcome ks x f)
+    put_version x h None = put_body x h 0 (length ks)
+    put_version x h (Some i) = cond_elim Fine ((get_or ks i no_section).version =? x.version) (λ e. tt) (λ e. put_body x h 1 i)
 
     put_section : (x : Section) → PlacedAt m k x.bytes → Fine (section_outcome ks x)
     unfolding section_outcome
@@ -67,7 +71,7 @@ module _ (m : Bytes) where
         cond_elim Fine x.header_and_crc_good (λ e. put_version x h (found_from 0 (keys_of ks) x.key))
         (λ e. cond_elim Fine x.crc_bad (λ z. tt) (λ z. tt))
 
-    put_located : (r p : Recent) (t : Table) → TableAt m k t → Fine (table_outcome ks r p t)
+    put_located : (r p : Option Recent) (t : Table) → TableAt m k t → Fine (table_outcome ks r p t)
     unfolding table_outcome
     put_located r p empty_table h = tt
     put_located r p (mpt_table true n b) h = sym (ap length h)
@@ -110,19 +114,19 @@ module _ (m : Bytes) where
 
   -- ---- the MPT, the PLT and the TOT
 
-  pub record RecentHeld (area n : ℕ) (r : Recent) : Type 0 where
-    pub there : r.there ≡ true → (r.from ≡ 0 → ⊥) → length (part (r.from - 1) r.length m) ≡ r.length
-    pub small : r.there ≡ true → r.length ≤ max area n
+  pub record RecentHeld (area n : ℕ) (r : Option Recent) : Type 0 where
+    pub there : StandsIn m r
+    pub small : recent_length r ≤ max area n
 
-  recent_more : (area n k : ℕ) → n ≤ k → (r : Recent) → RecentHeld area n r → RecentHeld area k r
-  recent_more area n k h r a = record { there = a.there; small = λ e. omega (arith, a.small e) }
+  recent_more : (area n k : ℕ) → n ≤ k → (r : Option Recent) → RecentHeld area n r → RecentHeld area k r
+  recent_more area n k h r a = record { there = a.there; small = omega (arith, a.small) }
 
   recent_new : (area n k v l : ℕ) → length (part k l m) ≡ l → RecentHeld area (max n l) (recent v (k + 1) l)
   recent_new area n k v l h =
       let q : k + 1 - 1 ≡ k = omega arith in
-      record { there = λ e z. rw q h; small = λ e. omega arith }
+      record { there = λ z. rw q h; small = omega arith }
 
-  module _ (area n k : ℕ) (r : Recent) (a : RecentHeld area n r) where
+  module _ (area n k : ℕ) (r : Option Recent) (a : RecentHeld area n r) where
     keeps : (l : ℕ) → RecentHeld area (max n l) r
     keeps l = recent_more area n (max n l) (omega arith) r a
 

@@ -1,7 +1,7 @@
 -- Maps in order of first arrival: what was put under a key is found under it, and under another key what was found before.
 -- Assumes nothing.
+use Rattle.std.specs.Prelude.{Some}
 use Rattle.std.proofs.Common.{◌≡◌, ℕ, ◌≤◌, Bool, true, false, cond, eqb, List, [], ◌∷◌, refl, arith, eq-eqb}
-use mathlib.Core.Option.{some}
 pub use borrow.Author.Tests.{eqb-true}
 use Rattle.isdb_mmt.specs.Decoder.Maps.{find, put, one}
 
@@ -13,12 +13,12 @@ one_le true = omega arith
 one_le false = omega arith
 
 module _ {A : Type 0} where
-  pub find_put : (k : ℕ) (a : A) (m : List (ℕ × A)) → find k (put k a m) ≡ some a
+  pub find_put : (k : ℕ) (a : A) (m : List (ℕ × A)) → find k (put k a m) ≡ Some a
   unfolding find put
   find_put k a [] = rw eqb_self
   find_put k a (e ∷ r) = go (eqb k e.0) refl (find_put k a r)
     where
-      go : (b : Bool) → eqb k e.0 ≡ b → find k (put k a r) ≡ some a → find k (cond b ((k, a) ∷ r) (e ∷ put k a r)) ≡ some a
+      go : (b : Bool) → eqb k e.0 ≡ b → find k (put k a r) ≡ Some a → find k (cond b ((k, a) ∷ r) (e ∷ put k a r)) ≡ Some a
       go true q h = rw eqb_self
       go false q h = rw q h
 
@@ -28,6 +28,6 @@ module _ {A : Type 0} where
   find_put_other j k a (e ∷ r) n = go (eqb k e.0) refl (find_put_other j k a r n)
     where
       go : (b : Bool) → eqb k e.0 ≡ b → find j (put k a r) ≡ find j r
-          → find j (cond b ((k, a) ∷ r) (e ∷ put k a r)) ≡ cond (eqb j e.0) (some e.1) (find j r)
+          → find j (cond b ((k, a) ∷ r) (e ∷ put k a r)) ≡ cond (eqb j e.0) (Some e.1) (find j r)
       go true q h = rw (n, ← (eqb-true k e.0 q), n)
       go false q h = rw h

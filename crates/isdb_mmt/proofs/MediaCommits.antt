@@ -1,13 +1,12 @@
 -- The commit of a media packet: a payload whose units are taken, by their indicator; one that is passed on; and any other. Assumes
 -- nothing.
+use Rattle.std.specs.Prelude.{None, Some, Option, is_some}
 use Rattle.std.proofs.Common.{◌≡◌, ℕ, ◌+◌, ◌-◌, ◌*◌, ◌≤◌, Bool, true, false, cond, not, ◌&&◌, ltb, List, [], ◌∷◌, ◌++◌, map, length, take, drop, sym, refl, ap, ◌∙◌, subst, append-nil, arith, length-append, length-drop, length-take, take_all, w64, Fits, ltb-false}
-use mathlib.Core.Option.{Option, none, some}
 use Rattle.isdb_tlv.specs.Bytes.{be}
 use Rattle.isdb_tlv.specs.Fields.{written}
 use Rattle.isdb_tlv.specs.declared.mmtp.Header.{Header}
 use Rattle.isdb_mmt.specs.Formats.Part.{part_of, part_at}
 use Rattle.isdb_mmt.specs.Decoder.Packet.{Bytes, PayloadUnit, MpuPacket, header_in, payload_unit, payload_units, units_for, units_read, media_of, clear, readable}
-use Rattle.isdb_mmt.specs.Decoder.Maps.{is_some}
 use Rattle.isdb_mmt.specs.Formats.Mpu.{payload_header_fields, payload_header, declared_of, units_of}
 use Rattle.isdb_mmt.specs.Decoder.Objects.{Mfu, Asset, Rec, grown, mpu_number, gap, after_units, delivered_by, after_headers, asset_after, tagged, passes, media_gives}
 use Rattle.isdb_mmt.specs.Decoder.Needs.{held_length, units_need}
@@ -15,8 +14,8 @@ use Rattle.isdb_mmt.specs.Memory.Lent.{part, over}
 use Rattle.isdb_mmt.specs.Memory.View.{given, mfu_of, asset_of_place}
 use Rattle.isdb_mmt.specs.Formats.Mpu.{no_header}
 use Rattle.isdb_mmt.specs.Pushes.Records.{object_for, row_size, row_fields, row_of, rows_from, data_from}
-use Rattle.isdb_mmt.specs.Pushes.MediaPush.{no_object, held_for, held_over}
-use Rattle.isdb_mmt.specs.Pushes.MediaEffect.{unit_object, with_length, with_each_unit, units_effect}
+use Rattle.isdb_mmt.specs.Pushes.MediaPush.{held_over}
+use Rattle.isdb_mmt.specs.Pushes.MediaEffect.{unit_object, object_or, with_length, with_each_unit, units_effect}
 use Rattle.isdb_mmt.specs.Pushes.MediaPlace.{gap_in, normal_object, begun, start_of}
 use Rattle.isdb_mmt.specs.Pushes.MediaOutcome.{outcome_with, outcome_of_units, units_outcome, outcome_by, media_outcome}
 use Rattle.isdb_mmt.specs.Pushes.Giving.{unit_recs, Outputs, Gave}
@@ -25,11 +24,7 @@ use Rattle.isdb_mmt.specs.declared.mpu.FragmentType.{FragmentType}
 use Rattle.isdb_mmt.specs.declared.mpu.FragmentType.TheVariants.{MpuMetadata, MovieFragmentMetadata, Mfu as mfu_type, Reserved}
 use Rattle.isdb_mmt.specs.declared.mpu.FragmentationIndicator.{FragmentationIndicator}
 use Rattle.isdb_mmt.specs.declared.mpu.FragmentationIndicator.TheVariants.{Complete, Head, Middle, Last}
-use Rattle.isdb_mmt.specs.declared.maybe.MaybeU32.TheVariants.{None as no_u32}
-use Rattle.isdb_mmt.specs.declared.mpu.MaybeMfu.TheVariants.{None as no_mfu}
 use Rattle.isdb_mmt.specs.declared.mpu.PayloadHeader.{PayloadHeader}
-use Rattle.isdb_mmt.specs.declared.mpu.MaybeHeader.{MaybeHeader}
-use Rattle.isdb_mmt.specs.declared.mpu.MaybeHeader.TheVariants.{None as no_payload, Some as payload}
 use Rattle.isdb_mmt.specs.declared.mpu.Unit.{Unit as DataUnit}
 use Rattle.isdb_mmt.specs.declared.decoder.media.Object.{Object}
 use Rattle.isdb_mmt.specs.declared.decoder.media.Media.{Media}
@@ -38,8 +33,8 @@ use Rattle.isdb_mmt.specs.declared.decoder.reassembler.MediaOutcome.{MediaOutcom
 use Rattle.isdb_mmt.proofs.Names.{true_not_false}
 use Rattle.isdb_mmt.proofs.Lent.{length_part, over_none}
 use Rattle.isdb_mmt.proofs.Areas.{held_same, held_grown}
-use Rattle.isdb_mmt.proofs.EffectsModelled.{Told}
-use Rattle.isdb_mmt.proofs.Placed.{start_held, start_object, start_zero}
+use Rattle.isdb_mmt.proofs.EffectsModelled.{object_as, as_some, Told}
+use Rattle.isdb_mmt.proofs.Placed.{start_object, start_zero}
 use Rattle.isdb_mmt.proofs.MediaOutcomes.{outcome_is}
 use Rattle.isdb_mmt.proofs.Gives.{complete_gives}
 use Rattle.isdb_mmt.proofs.MediaUnits.{unit_as, units_held, complete_held, head_gives, head_held, head_fits, middle_gives, middle_none, middle_held, last_held, Ended, last_given}
@@ -51,11 +46,11 @@ pub can_end : (at : ℕ) (p : Media) (t : MediaEffect) (q objects rows bytes : B
 can_end at p t q objects rows bytes h a b ea eb = rw (ea, eb) h.fits
 
 pub end_is : (id n at : ℕ) (p : Media) (t : MediaEffect) (q objects rows bytes rows' bytes' : Bytes) (s : MediaEffect) → s ≡ start_of p n
-    → (o : Object) → o ≡ with_length t.bytes s.object → (a b : Bytes) → a ≡ part at p.object.length objects → b ≡ part_of q t.last
+    → (o : Object) → o ≡ with_length t.bytes (object_or s.object) → (a b : Bytes) → a ≡ part at p.object.length objects → b ≡ part_of q t.last
     → OnePut id false o a b rows bytes rows' bytes'
-    → OnePut id false (with_length t.bytes (start_of p n).object) (part at p.object.length objects) (part_of q t.last) rows bytes rows' bytes'
+    → OnePut id false (with_length t.bytes (object_or (start_of p n).object)) (part at p.object.length objects) (part_of q t.last) rows bytes rows' bytes'
 end_is id n at p t q objects rows bytes rows' bytes' s es o eo a b ea eb w =
-    let e : o ≡ with_length t.bytes (start_of p n).object = eo ∙ ap (λ (x : MediaEffect). with_length t.bytes x.object) es in
+    let e : o ≡ with_length t.bytes (object_or (start_of p n).object) = eo ∙ ap (λ (x : MediaEffect). with_length t.bytes (object_or x.object)) es in
     rw (← e, ← ea, ← eb) w
 
 whole_rest : (b : Bytes) → take (length b - 8) (drop 8 b) ≡ drop 8 b
@@ -79,31 +74,31 @@ pass_is id mpu rap b rows bytes rows' bytes' o eo a c ea ec w =
 
 module _ (t : MediaEffect) (y rap : Bool) (b : Bytes) where
   header_told : (x : PayloadHeader) (o : Option (List DataUnit))
-      → (outcome_of_units t x (units_effect x.fragmentation x.mpu_sequence_number rap (declared_of b) t o)).header ≡ payload x
+      → (outcome_of_units t x (units_effect x.fragmentation x.mpu_sequence_number rap (declared_of b) t o)).header ≡ Some x
   unfolding units_effect
-  header_told x none = refl
-  header_told x (some us) = refl
+  header_told x None = refl
+  header_told x (Some us) = refl
 
-  header_kind : (x : PayloadHeader) (k : FragmentType) → (units_outcome t x rap b k).header ≡ payload x
+  header_kind : (x : PayloadHeader) (k : FragmentType) → (units_outcome t x rap b k).header ≡ Some x
   unfolding units_outcome
   header_kind x mfu_type = header_told x (units_of (declared_of b) x.timed x.aggregated)
   header_kind x MpuMetadata = refl
   header_kind x MovieFragmentMetadata = refl
   header_kind x (Reserved c) = refl
 
-  header_either : (z : Bool) (x : PayloadHeader) → (cond z (outcome_with false false (payload x) t) (units_outcome t x rap b x.fragment_type)).header ≡ payload x
+  header_either : (z : Bool) (x : PayloadHeader) → (cond z (outcome_with false false (Some x) t) (units_outcome t x rap b x.fragment_type)).header ≡ Some x
   header_either true x = refl
   header_either false x = header_kind x x.fragment_type
 
-  header_of_lem : (k : MaybeHeader) → (outcome_by t y rap b k).header ≡ k
+  header_of_lem : (k : Option PayloadHeader) → (outcome_by t y rap b k).header ≡ k
   unfolding outcome_by
-  header_of_lem no_payload = refl
-  header_of_lem (payload x) = header_either y x
+  header_of_lem None = refl
+  header_of_lem (Some x) = header_either y x
 
   -- the units of a payload with the header `x`, where they are taken
   pub record TakenUnits (x : PayloadHeader) (s : MediaEffect) : Type 0 where
     pub us : List DataUnit
-    pub units : units_of (declared_of b) x.timed x.aggregated ≡ some us
+    pub units : units_of (declared_of b) x.timed x.aggregated ≡ Some us
     pub kind : x.fragment_type ≡ mfu_type
     pub survey : s ≡ with_each_unit x.fragmentation x.mpu_sequence_number rap (declared_of b) t us
 
@@ -112,8 +107,8 @@ module _ (t : MediaEffect) (y rap : Bool) (b : Bytes) where
         → (outcome_of_units t x (units_effect x.fragmentation x.mpu_sequence_number rap (declared_of b) t o)).taken ≡ true
         → TakenUnits x (outcome_of_units t x (units_effect x.fragmentation x.mpu_sequence_number rap (declared_of b) t o)).units
     unfolding units_effect
-    taken_told none e k h = true_not_false false h refl
-    taken_told (some us) e k h = record { us = us; units = e; kind = k; survey = refl }
+    taken_told None e k h = true_not_false false h refl
+    taken_told (Some us) e k h = record { us = us; units = e; kind = k; survey = refl }
 
     taken_kind : (k : FragmentType) → x.fragment_type ≡ k → (units_outcome t x rap b k).taken ≡ true → TakenUnits x (units_outcome t x rap b k).units
     unfolding units_outcome
@@ -122,12 +117,12 @@ module _ (t : MediaEffect) (y rap : Bool) (b : Bytes) where
     taken_kind MovieFragmentMetadata e h = true_not_false false h refl
     taken_kind (Reserved c) e h = true_not_false false h refl
 
-    taken_either : (z : Bool) → (cond z (outcome_with false false (payload x) t) (units_outcome t x rap b x.fragment_type)).taken ≡ true
-        → (z ≡ false) × TakenUnits x (cond z (outcome_with false false (payload x) t) (units_outcome t x rap b x.fragment_type)).units
+    taken_either : (z : Bool) → (cond z (outcome_with false false (Some x) t) (units_outcome t x rap b x.fragment_type)).taken ≡ true
+        → (z ≡ false) × TakenUnits x (cond z (outcome_with false false (Some x) t) (units_outcome t x rap b x.fragment_type)).units
     taken_either true h = true_not_false false h refl
     taken_either false h = (refl, taken_kind x.fragment_type refl h)
 
-    taken_by : (outcome_by t y rap b (payload x)).taken ≡ true → (y ≡ false) × TakenUnits x (outcome_by t y rap b (payload x)).units
+    taken_by : (outcome_by t y rap b (Some x)).taken ≡ true → (y ≡ false) × TakenUnits x (outcome_by t y rap b (Some x)).units
     unfolding outcome_by
     taken_by h = taken_either y h
 
@@ -137,7 +132,7 @@ outcome_header p n y rap b r e = ap (λ (x : MediaOutcome). x.header) e ∙ head
 
 -- ---- units that are not taken
 
-clear_none : (y : Bool) → clear y none ≡ []
+clear_none : (y : Bool) → clear y None ≡ []
 unfolding clear
 clear_none true = refl
 clear_none false = refl
@@ -147,8 +142,8 @@ module _ (t : MediaEffect) (rap : Bool) (b : Bytes) where
       → (outcome_of_units t x (units_effect x.fragmentation x.mpu_sequence_number rap (declared_of b) t o)).taken ≡ false
       → clear false (payload_units x (declared_of b) o) ≡ []
   unfolding units_effect clear
-  idle_told x none h = refl
-  idle_told x (some us) h = true_not_false true refl h
+  idle_told x None h = refl
+  idle_told x (Some us) h = true_not_false true refl h
 
   idle_kind : (x : PayloadHeader) (k : FragmentType) → (units_outcome t x rap b k).taken ≡ false → clear false (units_for x k (declared_of b)) ≡ []
   unfolding units_outcome clear
@@ -157,22 +152,22 @@ module _ (t : MediaEffect) (rap : Bool) (b : Bytes) where
   idle_kind x MovieFragmentMetadata h = refl
   idle_kind x (Reserved c) h = refl
 
-  idle_either : (y : Bool) (x : PayloadHeader) → (cond y (outcome_with false false (payload x) t) (units_outcome t x rap b x.fragment_type)).taken ≡ false
+  idle_either : (y : Bool) (x : PayloadHeader) → (cond y (outcome_with false false (Some x) t) (units_outcome t x rap b x.fragment_type)).taken ≡ false
       → clear y (units_for x x.fragment_type (declared_of b)) ≡ []
   unfolding clear
   idle_either true x h = refl
   idle_either false x h = idle_kind x x.fragment_type h
 
-  idle_by : (y : Bool) (k : MaybeHeader) → (outcome_by t y rap b k).taken ≡ false → clear y (units_read b (header_in k)) ≡ []
+  idle_by : (y : Bool) (k : Option PayloadHeader) → (outcome_by t y rap b k).taken ≡ false → clear y (units_read b (header_in k)) ≡ []
   unfolding outcome_by
-  idle_by y no_payload h = clear_none y
-  idle_by y (payload x) h = idle_either y x h
+  idle_by y None h = clear_none y
+  idle_by y (Some x) h = idle_either y x h
 
 -- ---- the object's area
 
 abbrev bytes_held : Option Mfu → Bytes
-bytes_held none = []
-bytes_held (some g) = g.bytes
+bytes_held None = []
+bytes_held (Some g) = g.bytes
 
 module _ (at : ℕ) (p : Media) (h : Header) (b objects : Bytes) (fits : p.held ≡ true → at + p.object.length ≤ length objects) where
   abbrev m : MpuPacket
@@ -187,11 +182,11 @@ module _ (at : ℕ) (p : Media) (h : Header) (b objects : Bytes) (fits : p.held 
   pub long_there : p.held ≡ true → length there ≡ p.object.length
   long_there t = length_part at p.object.length objects (fits t)
 
-  pub held_was : (g : Mfu) → (after_headers before m).held ≡ some g → (p.held ≡ true) × (g.bytes ≡ there)
-  unfolding after_headers asset_of_place mfu_of is_some
+  pub held_was : (g : Mfu) → (after_headers before m).held ≡ Some g → (p.held ≡ true) × (g.bytes ≡ there)
+  unfolding after_headers asset_of_place mfu_of
   held_was g e = go (gap before.number m.number) p.held e
     where
-      go : (z y : Bool) → cond z none (given y (mfu_of p.object there)) ≡ some g → (y ≡ true) × (g.bytes ≡ there)
+      go : (z y : Bool) → cond z None (given y (mfu_of p.object there)) ≡ Some g → (y ≡ true) × (g.bytes ≡ there)
       go true y d = true_not_false false (ap is_some d) refl
       go false true d = (refl, sym (ap bytes_held d))
       go false false d = true_not_false false (ap is_some d) refl
@@ -201,14 +196,14 @@ module _ (at : ℕ) (p : Media) (h : Header) (b objects : Bytes) (fits : p.held 
   unchanged = go (after_headers before m).held refl
     where
       go : (o : Option Mfu) → (after_headers before m).held ≡ o → held_over at o objects ≡ objects
-      go none e = refl
-      go (some g) e = held_same at p.object.length objects g (held_was g e).1
+      go None e = refl
+      go (Some g) e = held_same at p.object.length objects g (held_was g e).1
 
 start_last : (p : Media) (n : ℕ) → (start_of p n).last ≡ part_at 0 0
 unfolding start_of
 start_last p n = go p.held (gap_in p n)
   where
-    go : (x g : Bool) → (cond (not x) (begun false no_object 0) (cond g (begun false no_object 1) (begun true (normal_object p.object) 0))).last ≡ part_at 0 0
+    go : (x g : Bool) → (cond (not x) (begun None 0) (cond g (begun None 1) (begun (Some (normal_object p.object)) 0))).last ≡ part_at 0 0
     go true true = refl
     go true false = refl
     go false g = refl
@@ -231,12 +226,10 @@ unfolding data_from
 no_data bytes = sym (over_none 0 bytes)
 
 none_held : (at : ℕ) (l : Bytes) (o : Option Mfu) → is_some o ≡ false → held_over at o l ≡ l
-unfolding is_some
-none_held at l none k = refl
-none_held at l (some g) k = true_not_false true refl k
+none_held at l None k = refl
+none_held at l (Some g) k = true_not_false true refl k
 
-nothing : (o : Option Mfu) → o ≡ none → is_some o ≡ false
-unfolding is_some
+nothing : (o : Option Mfu) → o ≡ None → is_some o ≡ false
 nothing o e = ap is_some e
 
 length_grown : (g : Mfu) (d : Bytes) → length (grown g d).bytes ≡ length g.bytes + length d
@@ -272,14 +265,14 @@ module _ (x : PayloadHeader) (at : ℕ) (p : Media) (r : MediaOutcome) (h : Head
   unfolding media_outcome
   outcome_by_lem = can.can.look
 
-  header_is : payload_header b ≡ payload x
+  header_is : payload_header b ≡ Some x
   header_is =
       sym (header_of_lem t0 h.scramble_info h.rap b (payload_header b)) ∙ ap (λ (y : MediaOutcome). y.header) (sym outcome_by_lem) ∙ can.header
 
-  outcome_x : r ≡ outcome_by t0 h.scramble_info h.rap b (payload x)
+  outcome_x : r ≡ outcome_by t0 h.scramble_info h.rap b (Some x)
   outcome_x = outcome_by_lem ∙ ap (outcome_by t0 h.scramble_info h.rap b) header_is
 
-  taken_x : (h.scramble_info ≡ false) × TakenUnits t0 h.scramble_info h.rap b x (outcome_by t0 h.scramble_info h.rap b (payload x)).units
+  taken_x : (h.scramble_info ≡ false) × TakenUnits t0 h.scramble_info h.rap b x (outcome_by t0 h.scramble_info h.rap b (Some x)).units
   taken_x = taken_by t0 h.scramble_info h.rap b x (ap (λ (y : MediaOutcome). y.taken) (sym outcome_x) ∙ can.taken)
 
   abbrev us : List DataUnit
@@ -290,19 +283,19 @@ module _ (x : PayloadHeader) (at : ℕ) (p : Media) (r : MediaOutcome) (h : Head
 
   mpu_is : mpu_number pk.header ≡ x.mpu_sequence_number
   unfolding media_of
-  mpu_is = ap (λ (k : MaybeHeader). mpu_number (header_in k)) header_is
+  mpu_is = ap (λ (k : Option PayloadHeader). mpu_number (header_in k)) header_is
 
   payload_units_are : readable pk ≡ map (payload_unit x q) us
   unfolding readable media_of clear
   payload_units_are =
       ap (λ y. clear y (units_read b (header_in (payload_header b)))) taken_x.0
-      ∙ ap (λ (k : MaybeHeader). clear false (units_read b (header_in k))) header_is
+      ∙ ap (λ (k : Option PayloadHeader). clear false (units_read b (header_in k))) header_is
       ∙ ap (λ (k : FragmentType). clear false (units_for x k q)) taken_x.1.kind
       ∙ ap (λ (o : Option (List DataUnit)). clear false (payload_units x q o)) taken_x.1.units
 
-  start_there : (t0.held ≡ is_some a1.held) × (t0.object ≡ held_for a1.held)
+  start_there : t0.object ≡ object_as a1.held
   unfolding media_of
-  start_there = (start_held p (part at p.object.length objects) pk (long_there at p h b objects fits), start_object p (part at p.object.length objects) pk (long_there at p h b objects fits))
+  start_there = start_object p (part at p.object.length objects) pk (long_there at p h b objects fits)
 
   zeros : (t0.records ≡ 0) × ((t0.bytes ≡ 0) × (t0.longest ≡ 0))
   unfolding media_of
@@ -356,12 +349,11 @@ module _ (x : PayloadHeader) (at : ℕ) (p : Media) (r : MediaOutcome) (h : Head
     recs_are =
         gives_is
         ∙ complete_gives pk x q e us a1
-        ∙ ap (λ n. unit_recs h.packet_id n h.rap q (some us)) mpu_is
+        ∙ ap (λ n. unit_recs h.packet_id n h.rap q (Some us)) mpu_is
         ∙ ap (λ (o : Option (List DataUnit)). unit_recs h.packet_id x.mpu_sequence_number h.rap q o) (sym taken_x.1.units)
         ∙ ap (λ (y : Bytes). unit_recs h.packet_id x.mpu_sequence_number h.rap y (units_of y x.timed x.aggregated)) (sym eq)
 
     pub complete_can : Outputs q' x.timed x.aggregated h.packet_id x.mpu_sequence_number h.rap rows bytes
-    unfolding is_some
     complete_can =
         record {
           long = rw eq (omega (arith, length-take (be 2 b 0 + 2) b, can.can.can.long));
@@ -413,18 +405,18 @@ module _ (x : PayloadHeader) (at : ℕ) (p : Media) (r : MediaOutcome) (h : Head
 
   -- ---- Middle
   module _ (e : x.fragmentation ≡ Middle) where
-    held_told : r.units.held ≡ is_some (held_by_lem Middle)
+    held_told : is_some r.units.object ≡ is_some (held_by_lem Middle)
     held_told =
-        told.held ∙ ap (λ (ps : List PayloadUnit). is_some (after_units pk a1 ps).held) payload_units_are ∙ ap (λ (k : FragmentationIndicator). is_some (held_by_lem k)) e
+        ap (λ (o : Option Object). is_some o) told.object ∙ as_some (after_units pk a1 (readable pk)).held ∙ ap (λ (ps : List PayloadUnit). is_some (after_units pk a1 ps).held) payload_units_are ∙ ap (λ (k : FragmentationIndicator). is_some (held_by_lem k)) e
 
-    pub middle_idle : r.units.held ≡ false → Committed at false p h b objects rows bytes objects rows bytes
+    pub middle_idle : is_some r.units.object ≡ false → Committed at false p h b objects rows bytes objects rows bytes
     middle_idle z = silent Middle e (middle_gives pk q at objects us a1) objects (none_held at objects (held_by_lem Middle) (sym held_told ∙ z))
 
-    module _ (y : r.units.held ≡ true) (q' : Bytes) (eq : q' ≡ declared_of b) where
+    module _ (y : is_some r.units.object ≡ true) (q' : Bytes) (eq : q' ≡ declared_of b) where
       record Grows : Type 0 where
         pub object : Mfu
-        pub was : a1.held ≡ some object
-        pub after : held_by_lem Middle ≡ some (grown object (data_in q us))
+        pub was : a1.held ≡ Some object
+        pub after : held_by_lem Middle ≡ Some (grown object (data_in q us))
         pub long : length object.bytes ≡ p.object.length
         pub there : object.bytes ≡ part at p.object.length objects
 
@@ -432,8 +424,8 @@ module _ (x : PayloadHeader) (at : ℕ) (p : Media) (r : MediaOutcome) (h : Head
       grows = go a1.held refl
         where
           go : (o : Option Mfu) → a1.held ≡ o → Grows
-          go none k = true_not_false (is_some (held_by_lem Middle)) (sym held_told ∙ y) (nothing (held_by_lem Middle) (middle_none pk q at objects us a1 k))
-          go (some g) k =
+          go None k = true_not_false (is_some (held_by_lem Middle)) (sym held_told ∙ y) (nothing (held_by_lem Middle) (middle_none pk q at objects us a1 k))
+          go (Some g) k =
               let w = held_was at p h b objects fits g k in
               record {
                 object = g;
@@ -468,7 +460,6 @@ module _ (x : PayloadHeader) (at : ℕ) (p : Media) (r : MediaOutcome) (h : Head
           record { fits = omega (arith, can.can.low, can.can.can.object w.0) }
 
       pub middle_can : CanAppend q' x.timed x.aggregated (at + p.object.length) objects
-      unfolding is_some
       middle_can =
           let g = grows in
           let w = held_was at p h b objects fits g.object g.was in
@@ -510,7 +501,7 @@ module _ (x : PayloadHeader) (at : ℕ) (p : Media) (r : MediaOutcome) (h : Head
       end : Ended pk q at objects us a1 t0 r.units
       end =
           subst (λ (s : MediaEffect). Ended pk q at objects us a1 t0 s) (sym effect_last)
-          (last_given pk q at objects x.mpu_sequence_number h.rap us a1 t0 start_there.0 start_there.1 zeros.0
+          (last_given pk q at objects x.mpu_sequence_number h.rap us a1 t0 start_there zeros.0
           (λ z. ne (ap (λ (s : MediaEffect). s.records) effect_last ∙ z)))
 
       abbrev d : Bytes
@@ -529,12 +520,12 @@ module _ (x : PayloadHeader) (at : ℕ) (p : Media) (r : MediaOutcome) (h : Head
       there_last : g.bytes ≡ part at p.object.length objects
       there_last = (held_was at p h b objects fits g end.was).1
 
-      object_last : object_for (grown g d) ≡ with_length r.units.bytes t0.object
+      object_last : object_for (grown g d) ≡ with_length r.units.bytes (object_or t0.object)
       unfolding grown
       object_last =
           let k : length (g.bytes ++ d) ≡ r.units.bytes = length-append g.bytes d ∙ omega (arith, end.bytes, zeros.1.0) in
           ap (λ n. with_length n (object_for g)) k
-          ∙ ap (with_length r.units.bytes) (sym (start_there.1 ∙ ap held_for end.was))
+          ∙ ap (with_length r.units.bytes) (sym (ap object_or (start_there ∙ ap object_as end.was)))
 
       d_is : part_of q' r.units.last ≡ d
       d_is = ap (λ (y : Bytes). part_of y r.units.last) eq
@@ -553,7 +544,7 @@ module _ (x : PayloadHeader) (at : ℕ) (p : Media) (r : MediaOutcome) (h : Head
           }
 
       pub last_done : (rows' bytes' : Bytes)
-          → OnePut h.packet_id false (with_length r.units.bytes t0.object) (part at p.object.length objects) (part_of q' r.units.last) rows bytes rows' bytes'
+          → OnePut h.packet_id false (with_length r.units.bytes (object_or t0.object)) (part at p.object.length objects) (part_of q' r.units.last) rows bytes rows' bytes'
           → Committed at false p h b objects rows bytes objects rows' bytes'
       unfolding grown
       last_done rows' bytes' w =
@@ -574,38 +565,38 @@ module _ (x : PayloadHeader) (at : ℕ) (p : Media) (r : MediaOutcome) (h : Head
 
 -- ---- the commit
 
-abbrev is_header : MaybeHeader → Bool
-is_header no_payload = false
-is_header (payload x) = true
+abbrev is_header : Option PayloadHeader → Bool
+is_header None = false
+is_header (Some x) = true
 
 module _ {A : Type 0} (a : A) where
-  passes_no : (pass y : Bool) (k : MaybeHeader) → passes_on pass y k ≡ false → cond (pass && (y && is_some (header_in k))) (a ∷ []) [] ≡ []
-  unfolding passes_on is_some
-  passes_no true true no_payload e = refl
-  passes_no true false no_payload e = refl
-  passes_no false y no_payload e = refl
-  passes_no true true (payload x) e = true_not_false true refl e
-  passes_no true false (payload x) e = refl
-  passes_no false y (payload x) e = refl
+  passes_no : (pass y : Bool) (k : Option PayloadHeader) → passes_on pass y k ≡ false → cond (pass && (y && is_some (header_in k))) (a ∷ []) [] ≡ []
+  unfolding passes_on
+  passes_no true true None e = refl
+  passes_no true false None e = refl
+  passes_no false y None e = refl
+  passes_no true true (Some x) e = true_not_false true refl e
+  passes_no true false (Some x) e = refl
+  passes_no false y (Some x) e = refl
 
-  passes_yes : (pass y : Bool) (k : MaybeHeader) → passes_on pass y k ≡ true → cond (pass && (y && is_some (header_in k))) (a ∷ []) [] ≡ a ∷ []
-  unfolding passes_on is_some
-  passes_yes pass y no_payload e = true_not_false false e refl
-  passes_yes true true (payload x) e = refl
-  passes_yes true false (payload x) e = true_not_false false e refl
-  passes_yes false y (payload x) e = true_not_false false e refl
+  passes_yes : (pass y : Bool) (k : Option PayloadHeader) → passes_on pass y k ≡ true → cond (pass && (y && is_some (header_in k))) (a ∷ []) [] ≡ a ∷ []
+  unfolding passes_on
+  passes_yes pass y None e = true_not_false false e refl
+  passes_yes true true (Some x) e = refl
+  passes_yes true false (Some x) e = true_not_false false e refl
+  passes_yes false y (Some x) e = true_not_false false e refl
 
-clear_passes : (pass y : Bool) (k : MaybeHeader) → y ≡ false → passes_on pass y k ≡ false
+clear_passes : (pass y : Bool) (k : Option PayloadHeader) → y ≡ false → passes_on pass y k ≡ false
 unfolding passes_on
-clear_passes pass y no_payload e = refl
-clear_passes true y (payload x) e = e
-clear_passes false y (payload x) e = refl
+clear_passes pass y None e = refl
+clear_passes true y (Some x) e = e
+clear_passes false y (Some x) e = refl
 
-header_long : (b : Bytes) (x : PayloadHeader) → payload_header b ≡ payload x → 8 ≤ length b
+header_long : (b : Bytes) (x : PayloadHeader) → payload_header b ≡ Some x → 8 ≤ length b
 unfolding payload_header
 header_long b x e = go (ltb (length b) 2) (ltb (length b) (be 2 b 0 + 2)) (ltb (length b) 8) refl e
   where
-    go : (u v w : Bool) → ltb (length b) 8 ≡ w → cond u no_payload (cond v no_payload (cond w no_payload (payload (payload_header_fields b)))) ≡ payload x → 8 ≤ length b
+    go : (u v w : Bool) → ltb (length b) 8 ≡ w → cond u None (cond v None (cond w None (Some (payload_header_fields b)))) ≡ Some x → 8 ≤ length b
     go true v w k d = true_not_false false (ap is_header d) refl
     go false true w k d = true_not_false false (ap is_header d) refl
     go false false true k d = true_not_false false (ap is_header d) refl
@@ -621,8 +612,8 @@ module _ (pass : Bool) (h : Header) (b : Bytes) where
             record {
               mpu = mpu_number (header_in (payload_header b));
               rap = h.rap;
-              mfu = no_mfu;
-              item_id = no_u32;
+              mfu = None;
+              item_id = None;
               bytes = drop 8 b;
             };
       }
@@ -656,11 +647,11 @@ module _ (at : ℕ) (pass : Bool) (p : Media) (r : MediaOutcome) (h : Header) (b
   header_here = ap (λ (y : MediaOutcome). y.header) outcome_with_by ∙ header_of_lem t0' scrambled h.rap b (payload_header b)
 
   -- units that are taken are clear
-  module _ (x : PayloadHeader) (eh : r.header ≡ payload x) (et : r.taken ≡ true) where
+  module _ (x : PayloadHeader) (eh : r.header ≡ Some x) (et : r.taken ≡ true) where
     is_clear : scrambled ≡ false
     is_clear =
         (taken_by t0' scrambled h.rap b x
-        (ap (λ (k : MaybeHeader). (outcome_by t0' scrambled h.rap b k).taken) (sym (sym header_here ∙ eh)) ∙ ap (λ (y : MediaOutcome). y.taken) (sym outcome_with_by) ∙ et)).0
+        (ap (λ (k : Option PayloadHeader). (outcome_by t0' scrambled h.rap b k).taken) (sym (sym header_here ∙ eh)) ∙ ap (λ (y : MediaOutcome). y.taken) (sym outcome_with_by) ∙ et)).0
 
     same_gives : gives_from at pass p h b objects ≡ gives_from at false p h b objects
     unfolding media_gives passes
@@ -719,7 +710,7 @@ module _ (at : ℕ) (pass : Bool) (p : Media) (r : MediaOutcome) (h : Header) (b
           data_out = no_data bytes ∙ ap (λ (rs : List Rec). over 0 (data_from rs) bytes) (sym n);
         }
 
-    module _ (x : PayloadHeader) (eh : r.header ≡ payload x) (f : Bool) (ef : f ≡ passes_on pass scrambled (payload x)) where
+    module _ (x : PayloadHeader) (eh : r.header ≡ Some x) (f : Bool) (ef : f ≡ passes_on pass scrambled (Some x)) where
       passed_here : f ≡ passes_on pass scrambled (payload_header b)
       passed_here = ef ∙ ap (passes_on pass scrambled) (sym eh ∙ header_here)
 
@@ -745,7 +736,7 @@ module _ (at : ℕ) (pass : Bool) (p : Media) (r : MediaOutcome) (h : Header) (b
         unfolding unit_object
         object_passed =
             let e : mpu_number (header_in (payload_header b)) ≡ x.mpu_sequence_number =
-            ap (λ (k : MaybeHeader). mpu_number (header_in k)) (sym header_here ∙ eh) in
+            ap (λ (k : Option PayloadHeader). mpu_number (header_in k)) (sym header_here ∙ eh) in
             λ i.
             record {
               mpu_sequence_number = e i;
@@ -775,9 +766,9 @@ module _ (at : ℕ) (pass : Bool) (p : Media) (r : MediaOutcome) (h : Header) (b
                   ∙ ap (λ (rs : List Rec). over 0 (data_from rs) bytes) (sym recs_passed);
             }
 
-  pub commit_none : r.header ≡ no_payload → Committed at pass p h b objects rows bytes objects rows bytes
+  pub commit_none : r.header ≡ None → Committed at pass p h b objects rows bytes objects rows bytes
   unfolding outcome_by passes_on
   commit_none e =
-      let k : payload_header b ≡ no_payload = sym header_here ∙ e in
-      idle_when (ap (λ (y : MediaOutcome). y.taken) outcome_with_by ∙ ap (λ (z : MaybeHeader). (outcome_by t0' scrambled h.rap b z).taken) k)
+      let k : payload_header b ≡ None = sym header_here ∙ e in
+      idle_when (ap (λ (y : MediaOutcome). y.taken) outcome_with_by ∙ ap (λ (z : Option PayloadHeader). (outcome_by t0' scrambled h.rap b z).taken) k)
       (ap (passes_on pass scrambled) k)

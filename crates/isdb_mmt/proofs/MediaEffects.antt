@@ -1,22 +1,21 @@
 -- The effect of a payload's units: one turn of its walk, and that no sum overflows. Assumes nothing.
-use Rattle.std.proofs.Common.{◌≡◌, ℕ, zero, suc, ◌+◌, ◌-◌, ◌<◌, ◌≤◌, min, max, Bool, true, false, cond, not, leb, List, [], ◌∷◌, length, drop, sym, refl, ap, ◌∙◌, arith, length-take, w64, Fits}
-use mathlib.Core.Option.{Option, none, some}
+use Rattle.std.specs.Prelude.{None, Some, Option, is_some}
+use Rattle.std.proofs.Common.{◌≡◌, ℕ, zero, suc, ◌+◌, ◌-◌, ◌<◌, ◌≤◌, min, max, Bool, true, false, leb, List, [], ◌∷◌, length, drop, sym, refl, ap, ◌∙◌, arith, length-take, w64, Fits}
 use Rattle.isdb_tlv.proofs.Guards.{cond_elim}
 use Rattle.isdb_mmt.specs.Formats.Part.{part_of}
 use Rattle.isdb_mmt.specs.Decoder.Maps.{one}
 use Rattle.isdb_tlv.specs.Walk.{also}
 use Rattle.isdb_mmt.specs.Formats.Mpu.{unit_step, units_from, units_of}
 use Rattle.isdb_mmt.specs.Decoder.Objects.{most_object}
-use Rattle.isdb_mmt.specs.Pushes.MediaEffect.{unit_object, complete_unit, head_unit, dropped_unit, grown_to, grown_unit, with_unit, with_each_unit, units_effect, Roomy, Light, Ready}
+use Rattle.isdb_mmt.specs.Pushes.MediaEffect.{unit_object, complete_unit, head_unit, dropped_unit, grown_to, grown_by, grown_unit, with_unit, with_each_unit, units_effect, Roomy, Light, Ready}
 use Rattle.isdb_mmt.specs.declared.part.Part.{Part}
 use Rattle.isdb_mmt.specs.declared.mpu.FragmentationIndicator.{FragmentationIndicator}
 use Rattle.isdb_mmt.specs.declared.mpu.FragmentationIndicator.TheVariants.{Complete, Head, Middle, Last}
 use Rattle.isdb_mmt.specs.declared.mpu.Unit.{Unit as DataUnit}
 use Rattle.isdb_mmt.specs.declared.mpu.UnitStep.{UnitStep}
 use Rattle.isdb_mmt.specs.declared.mpu.UnitStep.TheVariants.{End, Malformed as not_whole, Unit as found}
+use Rattle.isdb_mmt.specs.declared.decoder.media.Object.{Object}
 use Rattle.isdb_mmt.specs.declared.decoder.reassembler.MediaEffect.{MediaEffect}
-use Rattle.isdb_mmt.specs.declared.decoder.reassembler.UnitsEffect.{UnitsEffect}
-use Rattle.isdb_mmt.specs.declared.decoder.reassembler.UnitsEffect.TheVariants.{Malformed, Units}
 use Rattle.isdb_mmt.proofs.Units.{unit_lies, units_at}
 use Rattle.isdb_mmt.proofs.Maps.{one_le}
 
@@ -29,23 +28,26 @@ one_fits n x b h e = record { fits = omega (arith, one_le b, e) }
 module _ (t : MediaEffect) (at next n : ℕ) (r : Roomy t at) (h : at + n ≤ next) (b : at < next) where
   roomy_dropped : (p : Part) → Roomy (dropped_unit t p) next
   unfolding dropped_unit
-  roomy_dropped p = record { drops = omega (arith, r.drops, one_le t.held); records = omega (arith, r.records); bytes = omega (arith, r.bytes) }
+  roomy_dropped p = record { drops = omega (arith, r.drops, one_le (is_some t.object)); records = omega (arith, r.records); bytes = omega (arith, r.bytes) }
 
-  roomy_to : (ends : Bool) (p : Part) → t.held ≡ true → Roomy (grown_to ends t p (t.object.length + n)) next
+  roomy_to : (ends : Bool) (o : Object) (p : Part) → t.object ≡ Some o → Roomy (grown_to ends o t p (o.length + n)) next
   unfolding grown_to
-  roomy_to true p e = record { drops = omega (arith, r.drops, one_le t.held); records = omega (arith, r.records); bytes = omega (arith, r.bytes) }
-  roomy_to false p e =
+  roomy_to true o p e =
+      let w : t.bytes + o.length ≤ at + 4294967296 = rw e at r.bytes in
+      record { drops = omega (arith, r.drops, one_le (is_some t.object)); records = omega (arith, r.records); bytes = omega arith }
+  roomy_to false o p e =
       let d : t.drops + 1 ≤ at + 2 = rw e at r.drops in
-      record { drops = omega arith; records = omega (arith, r.records); bytes = omega (arith, r.bytes) }
+      let w : t.bytes + o.length ≤ at + 4294967296 = rw e at r.bytes in
+      record { drops = omega arith; records = omega (arith, r.records); bytes = omega arith }
 
   roomy_grown : (ends : Bool) (p : Part) → Roomy (grown_unit ends t p n) next
   unfolding grown_unit
-  roomy_grown ends p = go t.held refl
+  roomy_grown ends p = go t.object refl
     where
-      go : (x : Bool) → t.held ≡ x → Roomy (cond (not x) t (cond (leb (t.object.length + n) most_object) (grown_to ends t p (t.object.length + n)) (dropped_unit t p))) next
-      go false e = record { drops = omega (arith, r.drops); records = omega (arith, r.records); bytes = omega (arith, r.bytes) }
-      go true e =
-          cond_elim (λ (x : MediaEffect). Roomy x next) (leb (t.object.length + n) most_object) (λ y. roomy_to ends p e) (λ y. roomy_dropped p)
+      go : (x : Option Object) → t.object ≡ x → Roomy (grown_by ends t p n x) next
+      go None e = record { drops = omega (arith, r.drops); records = omega (arith, r.records); bytes = omega (arith, r.bytes) }
+      go (Some o) e =
+          cond_elim (λ (x : MediaEffect). Roomy x next) (leb (o.length + n) most_object) (λ y. roomy_to ends o p e) (λ y. roomy_dropped p)
 
   pub roomy_next : (f : FragmentationIndicator) (mpu : ℕ) (rap : Bool) (u : DataUnit) → Roomy (with_unit f mpu rap t u n) next
   unfolding with_unit complete_unit head_unit unit_object
@@ -70,14 +72,14 @@ roomy_more t at next h r = record { drops = omega (arith, r.drops); records = om
 
 module _ (q : List ℕ) (timed aggregated : Bool) (f : FragmentationIndicator) (mpu : ℕ) (rap : Bool) where
   roomy_cons : (n : ℕ) (t : MediaEffect) (u : DataUnit) (o : Option (List DataUnit))
-      → ((vs : List DataUnit) → o ≡ some vs → Roomy (with_each_unit f mpu rap q (with_unit f mpu rap t u (length (part_of q u.«data»))) vs) n)
-      → (us : List DataUnit) → also u o ≡ some us → Roomy (with_each_unit f mpu rap q t us) n
+      → ((vs : List DataUnit) → o ≡ Some vs → Roomy (with_each_unit f mpu rap q (with_unit f mpu rap t u (length (part_of q u.«data»))) vs) n)
+      → (us : List DataUnit) → also u o ≡ Some us → Roomy (with_each_unit f mpu rap q t us) n
   unfolding with_each_unit
-  roomy_cons n t u none g us e = let z : ◌≡◌ {A = ℕ} 0 1 = cc in absurd (omega arith)
-  roomy_cons n t u (some vs) g us e = let k : u ∷ vs ≡ us = cc in rw (← k) (g vs refl)
+  roomy_cons n t u None g us e = let z : ◌≡◌ {A = ℕ} 0 1 = cc in absurd (omega arith)
+  roomy_cons n t u (Some vs) g us e = let k : u ∷ vs ≡ us = cc in rw (← k) (g vs refl)
 
   pub roomy_all : (k at : ℕ) (t : MediaEffect) (us : List DataUnit) → length q ≤ at + k → at ≤ max 8 (length q) → Roomy t at
-      → units_from q timed aggregated at ≡ some us → Roomy (with_each_unit f mpu rap q t us) (max 8 (length q))
+      → units_from q timed aggregated at ≡ Some us → Roomy (with_each_unit f mpu rap q t us) (max 8 (length q))
   unfolding with_each_unit
   roomy_all zero at t us h w r e = roomy_last (unit_step q timed aggregated at) refl
     where
@@ -92,7 +94,7 @@ module _ (q : List ℕ) (timed aggregated : Bool) (f : FragmentationIndicator) (
     where
       roomy_turn : (x : UnitStep) → unit_step q timed aggregated at ≡ x
           → ((next : ℕ) (vs : List DataUnit) (t' : MediaEffect) → length q ≤ next + k → next ≤ max 8 (length q) → Roomy t' next
-          → units_from q timed aggregated next ≡ some vs → Roomy (with_each_unit f mpu rap q t' vs) (max 8 (length q)))
+          → units_from q timed aggregated next ≡ Some vs → Roomy (with_each_unit f mpu rap q t' vs) (max 8 (length q)))
           → Roomy (with_each_unit f mpu rap q t us) (max 8 (length q))
       roomy_turn End d again =
           let j : [] ≡ us = cc (rw (units_at q timed aggregated at, d) at e) in rw (← j) (roomy_more t at (max 8 (length q)) w r)
@@ -119,20 +121,20 @@ module _ (q : List ℕ) (timed aggregated : Bool) (f : FragmentationIndicator) (
   going_first r = record { long = r.long; room = r.room; within = omega arith; rest = refl }
 
   module _ (at : ℕ) (t : MediaEffect) (g : WalkState q timed aggregated f mpu rap start at t) (x : UnitStep) (ex : x ≡ unit_step q timed aggregated at) where
-    pub going_end : x ≡ End → Units t ≡ units_effect f mpu rap q start (units_of q timed aggregated)
+    pub going_end : x ≡ End → Some t ≡ units_effect f mpu rap q start (units_of q timed aggregated)
     unfolding units_effect with_each_unit
     going_end e = rw (units_at q timed aggregated at, ← ex, e) at g.rest
 
-    pub going_bad : x ≡ not_whole → Malformed ≡ units_effect f mpu rap q start (units_of q timed aggregated)
+    pub going_bad : x ≡ not_whole → None ≡ units_effect f mpu rap q start (units_of q timed aggregated)
     unfolding units_effect
     going_bad e = rw (units_at q timed aggregated at, ← ex, e) at g.rest
 
     module _ (u : DataUnit) (next : ℕ) (e : x ≡ found u next) where
-      also_effect : (o : Option (List DataUnit)) (y : UnitsEffect) → units_effect f mpu rap q t (also u o) ≡ y
+      also_effect : (o : Option (List DataUnit)) (y : Option MediaEffect) → units_effect f mpu rap q t (also u o) ≡ y
           → units_effect f mpu rap q (with_unit f mpu rap t u (length (part_of q u.«data»))) o ≡ y
       unfolding units_effect with_each_unit
-      also_effect none y d = d
-      also_effect (some us) y d = d
+      also_effect None y d = d
+      also_effect (Some us) y d = d
 
       pub going_less : length q - next < length q - at
       going_less = let d = data_ahead q timed aggregated at next u x ex e in omega arith

@@ -1,12 +1,12 @@
 -- What a media packet leaves, seen as the model's state: only this id's entry and the count of packets differ. Assumes nothing.
+use Rattle.std.specs.Prelude.{None, Some, Option, is_some}
 use Rattle.std.proofs.Common.{◌≡◌, ℕ, ◌+◌, ◌-◌, ◌*◌, ◌^◌, ◌<◌, ◌≤◌, Bool, true, false, eqb, List, [], ◌∷◌, ◌++◌, length, get_or, set, sym, refl, ap, ◌∙◌, subst, inl, inr, add-zero, arith, length-append, eqb-true}
-use mathlib.Core.Option.{Option, none, some}
 use Rattle.isdb_tlv.specs.Bytes.{be}
 use Rattle.isdb_tlv.specs.Fields.{field, written, Fit}
 use Rattle.isdb_tlv.proofs.Fields.{length_written}
 use Rattle.isdb_tlv.proofs.Guards.{either}
 use Rattle.isdb_mmt.specs.Decoder.Packet.{MpuPacket, media as media_packet, Bytes, PayloadUnit, readable}
-use Rattle.isdb_mmt.specs.Decoder.Maps.{find, put, or_else, is_some}
+use Rattle.isdb_mmt.specs.Decoder.Maps.{find, put, or_else}
 use Rattle.isdb_mmt.specs.Decoder.Objects.{new_mpu, mpu_after, range_after, mpu_in, Mfu, Asset, fresh, asset_after, unit_effect, after_unit, after_units, gap, after_headers}
 use Rattle.isdb_mmt.specs.Decoder.Model.{asset_of, pushed, packet_counted}
 use Rattle.isdb_mmt.specs.Decoder.Needs.{held_length, needs}
@@ -16,7 +16,6 @@ use Rattle.isdb_mmt.specs.Memory.Check.{media_in, controls_in, sections_in, medi
 use Rattle.isdb_mmt.specs.Memory.View.{given, mfu_of, asset_of_place, asset_entry, control_entry, section_entry, kept_table_at, view_by, view}
 use Rattle.isdb_mmt.specs.Memory.Opening.{lent}
 use Rattle.isdb_mmt.specs.Pushes.MediaPush.{place_for_asset, held_for, first_in, held_over, with_place, one_more_of, with_used, with_packets, media_place_for, leaves_at, asset_next, media_leaves}
-use Rattle.isdb_mmt.specs.declared.decoder.place.Found.TheVariants.{At, Nothing}
 use Rattle.isdb_mmt.specs.declared.decoder.place.PlaceFor.{PlaceFor}
 use Rattle.isdb_mmt.specs.declared.decoder.place.PlaceFor.TheVariants.{Own, Free, NoneFree}
 use Rattle.isdb_mmt.specs.declared.decoder.counts.Counters.{Counters}
@@ -131,22 +130,22 @@ packets_back n l f h =
 -- ---- an asset in its place
 
 pub given_back : (o : Option ℕ) → given (is_some o) (or_else 0 o) ≡ o
-unfolding is_some or_else
-given_back none = refl
-given_back (some n) = refl
+unfolding or_else
+given_back None = refl
+given_back (Some n) = refl
 
-held_back : (o : Option Mfu) (b : List ℕ) → ((h : Mfu) → o ≡ some h → b ≡ h.bytes) → given (is_some o) (mfu_of (held_for o) b) ≡ o
-unfolding is_some mfu_of
-held_back none b e = refl
-held_back (some h) b e =
-    λ i. some (record { mpu = h.mpu; rap = h.rap; mfu = header_back h.mfu i; item_id = item_back h.item_id i; bytes = e h refl i })
+held_back : (o : Option Mfu) (b : List ℕ) → ((h : Mfu) → o ≡ Some h → b ≡ h.bytes) → given (is_some o) (mfu_of (held_for o) b) ≡ o
+unfolding mfu_of
+held_back None b e = refl
+held_back (Some h) b e =
+    λ i. Some (record { mpu = h.mpu; rap = h.rap; mfu = header_back h.mfu i; item_id = item_back h.item_id i; bytes = e h refl i })
 
 range_back : (o : Option ℕ) (f : ℕ) → given (is_some o) (f, or_else 0 o) ≡ range_for o f
-unfolding is_some or_else
-range_back none f = refl
-range_back (some n) f = refl
+unfolding or_else
+range_back None f = refl
+range_back (Some n) f = refl
 
-pub place_back : (id : ℕ) (a : Asset) (b : List ℕ) → Tied a → ((h : Mfu) → a.held ≡ some h → b ≡ h.bytes) → asset_of_place (place_for_asset id a) b ≡ a
+pub place_back : (id : ℕ) (a : Asset) (b : List ℕ) → Tied a → ((h : Mfu) → a.held ≡ Some h → b ≡ h.bytes) → asset_of_place (place_for_asset id a) b ≡ a
 unfolding asset_of_place place_for_asset
 place_back id a b t e =
     let er : given (is_some a.mpu) (first_in a.range, or_else 0 a.mpu) ≡ a.range =
@@ -170,15 +169,15 @@ no_bytes m b c e =
 
 -- ---- areas
 
-own_bytes : (o : Option Mfu) (at : ℕ) (l : List ℕ) → at + held_length o ≤ length l → (h : Mfu) → o ≡ some h
+own_bytes : (o : Option Mfu) (at : ℕ) (l : List ℕ) → at + held_length o ≤ length l → (h : Mfu) → o ≡ Some h
     → part at (held_for o).length (held_over at o l) ≡ h.bytes
-own_bytes none at l b h e = let z : ◌≡◌ {A = ℕ} 0 1 = cc in absurd (omega arith)
-own_bytes (some g) at l b h e = let q : g ≡ h = cc in part_over at g.bytes l b ∙ ap (λ (x : Mfu). x.bytes) q
+own_bytes None at l b h e = let z : ◌≡◌ {A = ℕ} 0 1 = cc in absurd (omega arith)
+own_bytes (Some g) at l b h e = let q : g ≡ h = cc in part_over at g.bytes l b ∙ ap (λ (x : Mfu). x.bytes) q
 
 held_apart : (o : Option Mfu) (area : ℕ) (l : List ℕ) (i j n : ℕ) → held_length o ≤ area → (i + 1) * area ≤ length l → (j ≡ i → ⊥) → n ≤ area
     → part (j * area) n (held_over (i * area) o l) ≡ part (j * area) n l
-held_apart none area l i j n h w ne b = refl
-held_apart (some g) area l i j n h w ne b =
+held_apart None area l i j n h w ne b = refl
+held_apart (Some g) area l i j n h w ne b =
     rw (add-zero (i * area)) at (area_apart area l g.bytes i 0 (omega arith) w j n ne b)
 
 module _ (s : Session) (ok : Sound s.state s.others (lengths_of s)) (id : ℕ) (a : Asset) (tied : Tied a)
@@ -245,7 +244,7 @@ module _ (s : Session) (ok : Sound s.state s.others (lengths_of s)) (id : ℕ) (
     found_old : FoundAt (entries s) id i
     unfolding media_place_for
     found_old =
-        let e : found_from 0 (keys (entries s)) id ≡ At i =
+        let e : found_from 0 (keys (entries s)) id ≡ Some i =
         ap (λ (ns : List ℕ). found_from 0 ns id) (entry_names s)
         ∙ place_for_was_old (names_from (used_of st).media_ids 120 184 st) (limits_of st).media_ids id i place_for_of in
         let z : i - 0 ≡ i = omega arith in
@@ -311,13 +310,13 @@ module _ (s : Session) (ok : Sound s.state s.others (lengths_of s)) (id : ℕ) (
       pub free : i < (limits_of st).media_ids
       pub small : i < 64
       pub put_last : put id a (entries s) ≡ entries s ++ ((id, a) ∷ [])
-      pub unknown : find id (entries s) ≡ none
+      pub unknown : find id (entries s) ≡ None
 
     pub new_facts : NewFacts
     unfolding media_place_for
     new_facts =
         let w = place_for_was_new (names_from (used_of st).media_ids 120 184 st) (limits_of st).media_ids id i place_for_of in
-        let e : found_from 0 (keys (entries s)) id ≡ Nothing =
+        let e : found_from 0 (keys (entries s)) id ≡ None =
         ap (λ (ns : List ℕ). found_from 0 ns id) (entry_names s) ∙ w.0 in
         let r = absent (entries s) id 0 e in
         let p = passed (limits_of st) (lengths_of s) ok.limits in
@@ -492,12 +491,12 @@ tied_fresh : Tied fresh
 unfolding fresh
 tied_fresh = refl
 
-fresh_held : fresh.held ≡ none
+fresh_held : fresh.held ≡ None
 unfolding fresh
 fresh_held = refl
 
 blank_not_held : {A : Type 0} → (place_for_asset 0 fresh).held ≡ true → A
-unfolding place_for_asset fresh is_some
+unfolding place_for_asset fresh
 blank_not_held t = let z : ◌≡◌ {A = ℕ} 0 1 = cc in absurd (omega arith)
 
 module _ (s : Session) (ok : Sound s.state s.others (lengths_of s)) (id : ℕ) where
@@ -506,7 +505,7 @@ module _ (s : Session) (ok : Sound s.state s.others (lengths_of s)) (id : ℕ) w
   before_old i place_for_of =
       let st = s.state in
       let l = limits_of st in
-      let e : found_from 0 (keys (entries s)) id ≡ At i =
+      let e : found_from 0 (keys (entries s)) id ≡ Some i =
       ap (λ (ns : List ℕ). found_from 0 ns id) (entry_names s)
       ∙ place_for_was_old (names_from (used_of st).media_ids 120 184 st) l.media_ids id i place_for_of in
       let z : i - 0 ≡ i = omega arith in
@@ -539,7 +538,7 @@ module _ (s : Session) (ok : Sound s.state s.others (lengths_of s)) (id : ℕ) w
   before_new i place_for_of =
       let st = s.state in
       let w = place_for_was_new (names_from (used_of st).media_ids 120 184 st) (limits_of st).media_ids id i place_for_of in
-      let e : found_from 0 (keys (entries s)) id ≡ Nothing = ap (λ (ns : List ℕ). found_from 0 ns id) (entry_names s) ∙ w.0 in
+      let e : found_from 0 (keys (entries s)) id ≡ None = ap (λ (ns : List ℕ). found_from 0 ns id) (entry_names s) ∙ w.0 in
       let f : or_else fresh (find id (entries s)) ≡ fresh = ap (or_else fresh) (absent (entries s) id 0 e).0 in
       let p : Media = place_for_asset 0 fresh in
       let g : asset_of_place p [] ≡ fresh = place_back 0 fresh [] tied_fresh (λ h x. absurd (none_some h (sym fresh_held ∙ x))) in
@@ -562,10 +561,10 @@ tied_place p b = either p.mpu_seen (λ t. rw t) (λ f. rw f)
 
 module _ (f : ℕ) where
   tied_on : (o : Option ℕ) (r : Option (ℕ × ℕ)) (n : ℕ) → r ≡ range_for o (first_in r)
-      → range_after (new_mpu o (some n)) r (some n) ≡ range_for (some n) (first_in (range_after (new_mpu o (some n)) r (some n)))
+      → range_after (new_mpu o (Some n)) r (Some n) ≡ range_for (Some n) (first_in (range_after (new_mpu o (Some n)) r (Some n)))
   unfolding new_mpu range_after
-  tied_on none r n e = rw e
-  tied_on (some l) r n e =
+  tied_on None r n e = rw e
+  tied_on (Some l) r n e =
       either (eqb n l) (λ t. let z = eqb-true n l t in rw (t, e, z)) (λ t. rw (t, e))
 
 tied_applied : (a : Asset) (m : MpuPacket) → Tied a → Tied (after_headers a m)
@@ -575,8 +574,8 @@ tied_applied a m t = go m.header
     go : (h : Option PayloadHeader)
         → range_after (new_mpu a.mpu (mpu_in h)) a.range (mpu_in h)
         ≡ range_for (mpu_after a.mpu (mpu_in h)) (first_in (range_after (new_mpu a.mpu (mpu_in h)) a.range (mpu_in h)))
-    go none = t
-    go (some h) = tied_on 0 a.mpu a.range h.mpu_sequence_number t
+    go None = t
+    go (Some h) = tied_on 0 a.mpu a.range h.mpu_sequence_number t
 
 tied_units : (m : MpuPacket) (us : List PayloadUnit) (a : Asset) → Tied a → Tied (after_units m a us)
 unfolding after_units after_unit
@@ -595,7 +594,7 @@ module _ (s : Session) (ok : Sound s.state s.others (lengths_of s)) (m : MpuPack
   place_for_free e =
       let st = s.state in
       let w = place_for_was_full (names_from (used_of st).media_ids 120 184 st) (limits_of st).media_ids m.id e in
-      let f : found_from 0 (keys (entries s)) m.id ≡ Nothing = ap (λ (ns : List ℕ). found_from 0 ns m.id) (entry_names s) ∙ w.0 in
+      let f : found_from 0 (keys (entries s)) m.id ≡ None = ap (λ (ns : List ℕ). found_from 0 ns m.id) (entry_names s) ∙ w.0 in
       let r = (absent (entries s) m.id 0 f).1 (asset_after (asset_of m.id (view s)) m) in
       let n : length (names_from (used_of st).media_ids 120 184 st) ≡ (used_of st).media_ids = length_names 120 (used_of st).media_ids 184 st in
       let k : length (put m.id (asset_after (asset_of m.id (view s)) m) (entries s)) ≡ length (entries s) + 1 =

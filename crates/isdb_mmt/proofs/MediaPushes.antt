@@ -1,5 +1,6 @@
 -- A media packet pushed: its place is the model's asset, its answer the first question of 8 to 10 that is answered no, and an accepted
 -- one leaves and gives out what the model does. Assumes nothing.
+use Rattle.std.specs.Prelude.{None, Some}
 use Rattle.std.proofs.Common.{◌≡◌, ℕ, suc, ◌+◌, ◌-◌, ◌*◌, ◌<◌, ◌≤◌, Bool, true, false, cond, eqb, ltb, List, length, get_or, drop, sym, refl, ap, ◌∙◌, subst, add-zero, mul-le-mul, arith, length-drop, w64, Fits, ltb-false, eq-eqb, ne_eqb, eqb-true}
 use Rattle.isdb_tlv.specs.Guards.{◌<?◌}
 use Rattle.isdb_tlv.specs.declared.mmtp.Header.{Header}
@@ -20,7 +21,6 @@ use Rattle.isdb_mmt.specs.Pushes.MediaPush.{place_for_asset, held_over, media_pl
 use Rattle.isdb_mmt.specs.Pushes.MediaPlace.{start_of, place_after_of, StatsWithin}
 use Rattle.isdb_mmt.specs.Pushes.MediaOutcome.{media_outcome, CanReadUnits}
 use Rattle.isdb_mmt.specs.Pushes.MediaCommit.{CanTakePlace, blank, place_in, index_of, passes_on, records_handed, bytes_handed, fits_number, number_of, refused, accepted, answer_by, answer_of, Small, starts_from, gives_from, CanCommit, Committed, state_after, CanCommitAll, CommittedAll, CanPushMedia}
-use Rattle.isdb_mmt.specs.declared.decoder.place.Found.TheVariants.{At, Nothing}
 use Rattle.isdb_mmt.specs.declared.decoder.place.PlaceFor.{PlaceFor}
 use Rattle.isdb_mmt.specs.declared.decoder.place.PlaceFor.TheVariants.{Own, Free, NoneFree}
 use Rattle.isdb_mmt.specs.declared.decoder.limits.Limits.{Limits}
@@ -87,7 +87,7 @@ module _ (s : Session) (ok : Sound s.state s.others (lengths_of s)) (id : ℕ) w
   found_old : (i : ℕ) → media_place_for s.state id ≡ Own i → FoundAt (entries s) id i
   unfolding media_place_for
   found_old i e =
-      let k : found_from 0 (keys (entries s)) id ≡ At i =
+      let k : found_from 0 (keys (entries s)) id ≡ Some i =
       ap (λ (ns : List ℕ). found_from 0 ns id) (entry_names s) ∙ place_for_was_old names (limits_of s.state).media_ids id i e in
       let z : i - 0 ≡ i = omega arith in
       rw z at (found_at (entries s) id 0 i k).1
@@ -134,7 +134,7 @@ module _ (s : Session) (ok : Sound s.state s.others (lengths_of s)) (id : ℕ) w
       }
 
   -- an id that has no place
-  unknown : found_from 0 names id ≡ Nothing → asset_of id (view s) ≡ fresh
+  unknown : found_from 0 names id ≡ None → asset_of id (view s) ≡ fresh
   unfolding asset_of or_else view view_by
   unknown e =
       ap (or_else fresh) (absent (entries s) id 0 (ap (λ (ns : List ℕ). found_from 0 ns id) (entry_names s) ∙ e)).0

@@ -1,22 +1,21 @@
 -- What the units of a media packet leave in the object's area and hand out, by their fragmentation indicator. Assumes nothing.
+use Rattle.std.specs.Prelude.{Option, None, Some, is_some}
 use Rattle.std.proofs.Common.{◌≡◌, ℕ, ◌+◌, ◌≤◌, max, Bool, true, false, cond, leb, List, [], ◌∷◌, ◌++◌, map, length, sym, refl, ap, ◌∙◌, subst, append_assoc, append-nil, arith, leb-true}
-use mathlib.Core.Option.{Option, none, some}
 use Rattle.isdb_mmt.specs.Formats.Part.{part_of}
 use Rattle.isdb_mmt.specs.Decoder.Packet.{Bytes, PayloadUnit, MpuPacket}
-use Rattle.isdb_mmt.specs.Decoder.Maps.{is_some}
 use Rattle.isdb_mmt.specs.Decoder.Objects.{Mfu, Asset, UnitEffect, most_object, grown, continued, effect_of, unit_effect, after_unit, object_of, after_units, delivered_by}
 use Rattle.isdb_mmt.specs.Decoder.Needs.{held_length, unit_area, units_need}
 use Rattle.isdb_mmt.specs.Memory.Lent.{over}
-use Rattle.isdb_mmt.specs.Pushes.MediaPush.{held_for, held_over}
+use Rattle.isdb_mmt.specs.Pushes.Records.{object_for}
+use Rattle.isdb_mmt.specs.Pushes.MediaPush.{held_over}
 use Rattle.isdb_mmt.specs.Pushes.MediaEffect.{with_unit, with_each_unit, head_unit, grown_to, dropped_unit}
 use Rattle.isdb_mmt.specs.Pushes.MediaCommit.{data_in}
 use Rattle.isdb_mmt.specs.declared.mpu.FragmentationIndicator.{FragmentationIndicator}
 use Rattle.isdb_mmt.specs.declared.mpu.FragmentationIndicator.TheVariants.{Complete, Head, Middle, Last}
 use Rattle.isdb_mmt.specs.declared.mpu.Unit.{Unit as DataUnit}
 use Rattle.isdb_mmt.specs.declared.decoder.reassembler.MediaEffect.{MediaEffect}
-use Rattle.isdb_mmt.specs.declared.decoder.media.Object.{Object}
 use Rattle.isdb_mmt.proofs.Names.{true_not_false}
-use Rattle.isdb_mmt.proofs.EffectsModelled.{grown_none, grown_some}
+use Rattle.isdb_mmt.proofs.EffectsModelled.{object_as, grown_none, grown_some}
 use Rattle.isdb_mmt.proofs.Fits.{mild}
 
 abbrev pub unit_as : FragmentationIndicator → Bytes → DataUnit → PayloadUnit
@@ -67,8 +66,8 @@ module _ (m : MpuPacket) (q : Bytes) (at : ℕ) (l : Bytes) where
   -- ---- Middle: each unit's data behind what is held
   no_outs : (o : Option Mfu) (g : Mfu) → (effect_of Middle o g).outs ≡ []
   unfolding effect_of continued
-  no_outs none g = refl
-  no_outs (some h) g = go (leb (length h.bytes + length g.bytes) most_object) (grown h g.bytes)
+  no_outs None g = refl
+  no_outs (Some h) g = go (leb (length h.bytes + length g.bytes) most_object) (grown h g.bytes)
     where
       go : (b : Bool) (x : Mfu) → (continued b false x).outs ≡ []
       go true x = refl
@@ -82,31 +81,31 @@ module _ (m : MpuPacket) (q : Bytes) (at : ℕ) (l : Bytes) where
       ap (λ (ds : List Mfu). ds ++ delivered_by m a1 (map (unit_as Middle q) us)) (no_outs a.held (object_of m (unit_as Middle q u)))
       ∙ middle_gives us a1
 
-  pub middle_none : (us : List DataUnit) (a : Asset) → a.held ≡ none → (after_units m a (map (unit_as Middle q) us)).held ≡ none
+  pub middle_none : (us : List DataUnit) (a : Asset) → a.held ≡ None → (after_units m a (map (unit_as Middle q) us)).held ≡ None
   unfolding after_units unit_effect after_unit effect_of
   middle_none [] a e = e
   middle_none (u ∷ us) a e =
       middle_none us (after_unit a (unit_effect m a (unit_as Middle q u)))
       (ap (λ (o : Option Mfu). (effect_of Middle o (object_of m (unit_as Middle q u))).held) e)
 
-  pub middle_held : (us : List DataUnit) (a : Asset) (g : Mfu) → a.held ≡ some g → is_some (after_units m a (map (unit_as Middle q) us)).held ≡ true
-      → (after_units m a (map (unit_as Middle q) us)).held ≡ some (grown g (data_in q us))
-  unfolding after_units unit_effect after_unit effect_of object_of continued grown is_some data_in
+  pub middle_held : (us : List DataUnit) (a : Asset) (g : Mfu) → a.held ≡ Some g → is_some (after_units m a (map (unit_as Middle q) us)).held ≡ true
+      → (after_units m a (map (unit_as Middle q) us)).held ≡ Some (grown g (data_in q us))
+  unfolding after_units unit_effect after_unit effect_of object_of continued grown data_in
   middle_held [] a g e h =
-      e ∙ (λ i. some (record { mpu = g.mpu; rap = g.rap; mfu = g.mfu; item_id = g.item_id; bytes = sym (append-nil g.bytes) i }))
+      e ∙ (λ i. Some (record { mpu = g.mpu; rap = g.rap; mfu = g.mfu; item_id = g.item_id; bytes = sym (append-nil g.bytes) i }))
   middle_held (u ∷ us) a g e h =
       go (leb (length g.bytes + length (part_of q u.«data»)) most_object)
       (ap (λ (o : Option Mfu). (effect_of Middle o (object_of m (unit_as Middle q u))).held) e)
       (λ k. middle_held us (after_unit a (unit_effect m a (unit_as Middle q u))) (grown g (part_of q u.«data»)) k h)
     where
       go : (b : Bool) → (after_unit a (unit_effect m a (unit_as Middle q u))).held ≡ (continued b false (grown g (part_of q u.«data»))).held
-          → ((after_unit a (unit_effect m a (unit_as Middle q u))).held ≡ some (grown g (part_of q u.«data»))
-          → (after_units m (after_unit a (unit_effect m a (unit_as Middle q u))) (map (unit_as Middle q) us)).held ≡ some (grown (grown g (part_of q u.«data»)) (data_in q us)))
-          → (after_units m (after_unit a (unit_effect m a (unit_as Middle q u))) (map (unit_as Middle q) us)).held ≡ some (grown g (part_of q u.«data» ++ data_in q us))
+          → ((after_unit a (unit_effect m a (unit_as Middle q u))).held ≡ Some (grown g (part_of q u.«data»))
+          → (after_units m (after_unit a (unit_effect m a (unit_as Middle q u))) (map (unit_as Middle q) us)).held ≡ Some (grown (grown g (part_of q u.«data»)) (data_in q us)))
+          → (after_units m (after_unit a (unit_effect m a (unit_as Middle q u))) (map (unit_as Middle q) us)).held ≡ Some (grown g (part_of q u.«data» ++ data_in q us))
       go true k again =
           again k
           ∙ (λ i.
-          some (record {
+          Some (record {
             mpu = g.mpu;
             rap = g.rap;
             mfu = g.mfu;
@@ -116,31 +115,31 @@ module _ (m : MpuPacket) (q : Bytes) (at : ℕ) (l : Bytes) where
       go false k again = true_not_false true refl (sym h ∙ ap is_some (middle_none us (after_unit a (unit_effect m a (unit_as Middle q u))) k))
 
   -- ---- Last: the first unit ends what is held
-  last_quiet : (mpu : ℕ) (rap : Bool) (us : List DataUnit) (t : MediaEffect) → t.held ≡ false → with_each_unit Last mpu rap q t us ≡ t
+  last_quiet : (mpu : ℕ) (rap : Bool) (us : List DataUnit) (t : MediaEffect) → t.object ≡ None → with_each_unit Last mpu rap q t us ≡ t
   unfolding with_each_unit with_unit
   last_quiet mpu rap [] t e = refl
   last_quiet mpu rap (u ∷ us) t e =
       ap (λ (x : MediaEffect). with_each_unit Last mpu rap q x us) (grown_none true t u.«data» (length (part_of q u.«data»)) e)
       ∙ last_quiet mpu rap us t e
 
-  last_none : (us : List DataUnit) (a : Asset) → a.held ≡ none
-      → (delivered_by m a (map (unit_as Last q) us) ≡ []) × ((after_units m a (map (unit_as Last q) us)).held ≡ none)
+  last_none : (us : List DataUnit) (a : Asset) → a.held ≡ None
+      → (delivered_by m a (map (unit_as Last q) us) ≡ []) × ((after_units m a (map (unit_as Last q) us)).held ≡ None)
   unfolding delivered_by after_units unit_effect after_unit effect_of
   last_none [] a e = (refl, e)
   last_none (u ∷ us) a e =
       let a1 : Asset = after_unit a (unit_effect m a (unit_as Last q u)) in
       let d : UnitEffect = unit_effect m a (unit_as Last q u) in
-      let k : a1.held ≡ none = ap (λ (o : Option Mfu). (effect_of Last o (object_of m (unit_as Last q u))).held) e in
+      let k : a1.held ≡ None = ap (λ (o : Option Mfu). (effect_of Last o (object_of m (unit_as Last q u))).held) e in
       let z : d.outs ≡ [] = ap (λ (o : Option Mfu). (effect_of Last o (object_of m (unit_as Last q u))).outs) e in
       let i = last_none us a1 k in
       (ap (λ (ds : List Mfu). ds ++ delivered_by m a1 (map (unit_as Last q) us)) z ∙ i.0, i.1)
 
-  last_ends : (o : Option Mfu) (g : Mfu) → (effect_of Last o g).held ≡ none
+  last_ends : (o : Option Mfu) (g : Mfu) → (effect_of Last o g).held ≡ None
   unfolding effect_of continued
-  last_ends none g = refl
-  last_ends (some h) g = go (leb (length h.bytes + length g.bytes) most_object) (grown h g.bytes)
+  last_ends None g = refl
+  last_ends (Some h) g = go (leb (length h.bytes + length g.bytes) most_object) (grown h g.bytes)
     where
-      go : (b : Bool) (x : Mfu) → (continued b true x).held ≡ none
+      go : (b : Bool) (x : Mfu) → (continued b true x).held ≡ None
       go true x = refl
       go false x = refl
 
@@ -154,16 +153,16 @@ module _ (m : MpuPacket) (q : Bytes) (at : ℕ) (l : Bytes) where
   -- `r` is the effect after them
   pub record Ended (us : List DataUnit) (a : Asset) (t r : MediaEffect) : Type 0 where
     pub object : Mfu
-    pub was : a.held ≡ some object
+    pub was : a.held ≡ Some object
     pub gives : delivered_by m a (map (unit_as Last q) us) ≡ grown object (part_of q r.last) ∷ []
     pub bytes : r.bytes ≡ t.bytes + (length object.bytes + length (part_of q r.last))
     pub most : length object.bytes + length (part_of q r.last) ≤ most_object
 
-  last_turn : (mpu : ℕ) (rap : Bool) (u : DataUnit) (us : List DataUnit) (a : Asset) (t : MediaEffect) (g : Mfu) → a.held ≡ some g → t.held ≡ true
-      → t.object.length ≡ length g.bytes → t.records ≡ 0 → ((with_each_unit Last mpu rap q t (u ∷ us)).records ≡ 0 → ⊥)
+  last_turn : (mpu : ℕ) (rap : Bool) (u : DataUnit) (us : List DataUnit) (a : Asset) (t : MediaEffect) (g : Mfu) → a.held ≡ Some g → t.object ≡ Some (object_for g)
+      → t.records ≡ 0 → ((with_each_unit Last mpu rap q t (u ∷ us)).records ≡ 0 → ⊥)
       → Ended (u ∷ us) a t (with_each_unit Last mpu rap q t (u ∷ us))
   unfolding with_each_unit with_unit delivered_by unit_effect after_unit effect_of object_of continued grown_to dropped_unit
-  last_turn mpu rap u us a t g e eh el z ne = go (leb (length g.bytes + length d) most_object) refl
+  last_turn mpu rap u us a t g e eo z ne = go (leb (length g.bytes + length d) most_object) refl
     where
       d : Bytes
       d = part_of q u.«data»
@@ -171,13 +170,13 @@ module _ (m : MpuPacket) (q : Bytes) (at : ℕ) (l : Bytes) where
       after : MediaEffect
       after = with_unit Last mpu rap t u (length d)
 
-      turned : after ≡ cond (leb (length g.bytes + length d) most_object) (grown_to true t u.«data» (length g.bytes + length d)) (dropped_unit t u.«data»)
-      turned = grown_some true t u.«data» (length d) (length g.bytes) eh el
+      turned : after ≡ cond (leb (length g.bytes + length d) most_object) (grown_to true (object_for g) t u.«data» (length g.bytes + length d)) (dropped_unit t u.«data»)
+      turned = grown_some true t u.«data» (length d) (object_for g) eo
 
       next : Asset
       next = after_unit a (unit_effect m a (unit_as Last q u))
 
-      gone : next.held ≡ none
+      gone : next.held ≡ None
       gone = last_ends a.held (object_of m (unit_as Last q u))
 
       outs : (unit_effect m a (unit_as Last q u)).outs ≡ (continued (leb (length g.bytes + length d) most_object) true (grown g d)).outs
@@ -185,9 +184,9 @@ module _ (m : MpuPacket) (q : Bytes) (at : ℕ) (l : Bytes) where
 
       go : (b : Bool) → leb (length g.bytes + length d) most_object ≡ b → Ended (u ∷ us) a t (with_each_unit Last mpu rap q after us)
       go true f =
-          let w : after ≡ grown_to true t u.«data» (length g.bytes + length d) = rw f at turned in
-          let r : with_each_unit Last mpu rap q after us ≡ grown_to true t u.«data» (length g.bytes + length d) =
-          ap (λ (x : MediaEffect). with_each_unit Last mpu rap q x us) w ∙ last_quiet mpu rap us (grown_to true t u.«data» (length g.bytes + length d)) refl in
+          let w : after ≡ grown_to true (object_for g) t u.«data» (length g.bytes + length d) = rw f at turned in
+          let r : with_each_unit Last mpu rap q after us ≡ grown_to true (object_for g) t u.«data» (length g.bytes + length d) =
+          ap (λ (x : MediaEffect). with_each_unit Last mpu rap q x us) w ∙ last_quiet mpu rap us (grown_to true (object_for g) t u.«data» (length g.bytes + length d)) refl in
           let y : (unit_effect m a (unit_as Last q u)).outs ≡ grown g d ∷ [] = rw f at outs in
           subst (λ (x : MediaEffect). Ended (u ∷ us) a t x) (sym r)
           (record {
@@ -205,14 +204,14 @@ module _ (m : MpuPacket) (q : Bytes) (at : ℕ) (l : Bytes) where
           ap (λ (x : MediaEffect). with_each_unit Last mpu rap q x us) w ∙ last_quiet mpu rap us (dropped_unit t u.«data») refl in
           absurd (ne (ap (λ (x : MediaEffect). x.records) r ∙ z))
 
-  pub last_given : (mpu : ℕ) (rap : Bool) (us : List DataUnit) (a : Asset) (t : MediaEffect) → t.held ≡ is_some a.held → t.object ≡ held_for a.held
+  pub last_given : (mpu : ℕ) (rap : Bool) (us : List DataUnit) (a : Asset) (t : MediaEffect) → t.object ≡ object_as a.held
       → t.records ≡ 0 → ((with_each_unit Last mpu rap q t us).records ≡ 0 → ⊥) → Ended us a t (with_each_unit Last mpu rap q t us)
-  unfolding with_each_unit with_unit is_some
-  last_given mpu rap [] a t eh eo z ne = absurd (ne z)
-  last_given mpu rap (u ∷ us) a t eh eo z ne = by_held a.held refl
+  unfolding with_each_unit with_unit
+  last_given mpu rap [] a t eo z ne = absurd (ne z)
+  last_given mpu rap (u ∷ us) a t eo z ne = by_held a.held refl
     where
       by_held : (o : Option Mfu) → a.held ≡ o → Ended (u ∷ us) a t (with_each_unit Last mpu rap q t (u ∷ us))
-      by_held none e =
-          absurd (ne (ap (λ (x : MediaEffect). x.records) (last_quiet mpu rap (u ∷ us) t (eh ∙ ap is_some e)) ∙ z))
-      by_held (some g) e =
-          last_turn mpu rap u us a t g e (eh ∙ ap is_some e) (ap (λ (o : Object). o.length) (eo ∙ ap held_for e)) z ne
+      by_held None e =
+          absurd (ne (ap (λ (x : MediaEffect). x.records) (last_quiet mpu rap (u ∷ us) t (eo ∙ ap object_as e)) ∙ z))
+      by_held (Some g) e =
+          last_turn mpu rap u us a t g e (eo ∙ ap object_as e) z ne

@@ -1,11 +1,11 @@
 -- What message packets, control packets and the others leave, seen as the model's state. Assumes nothing.
+use Rattle.std.specs.Prelude.{None, Some, Option, is_some}
 use Rattle.std.proofs.Common.{◌≡◌, ℕ, suc, ◌+◌, ◌-◌, ◌*◌, ◌<◌, ◌≤◌, Bool, true, false, List, [], ◌∷◌, ◌++◌, map, length, get_or, set, sym, refl, ap, ◌∙◌, inl, inr, mul-le-mul_right, arith, length-append, length-set}
-use mathlib.Core.Option.{Option, none, some}
 use Rattle.isdb_tlv.specs.Fields.{written, Fit}
 use Rattle.isdb_tlv.proofs.Fields.{length_written}
 use Rattle.isdb_tlv.proofs.Guards.{either}
 use Rattle.isdb_mmt.specs.Decoder.Packet.{Bytes}
-use Rattle.isdb_mmt.specs.Decoder.Maps.{put, is_some}
+use Rattle.isdb_mmt.specs.Decoder.Maps.{put}
 use Rattle.isdb_mmt.specs.Decoder.Objects.{Asset}
 use Rattle.isdb_mmt.specs.Decoder.Reassembly.{PartialMessage}
 use Rattle.isdb_mmt.specs.Decoder.Model.{State, Control as ControlState, idle_control}
@@ -19,7 +19,6 @@ use Rattle.isdb_mmt.specs.Memory.Opening.{lent}
 use Rattle.isdb_mmt.specs.Pushes.MediaPush.{with_used}
 use Rattle.isdb_mmt.specs.Memory.PlacesOf.{table_length, long_in, aggregated_in, control_for, latest_for}
 use Rattle.isdb_mmt.specs.Pushes.Leaves.{joined_in, kept_place, used_for, with_control, with_latest, state_of_tables, bytes_over, kept_over, control_place_for}
-use Rattle.isdb_mmt.specs.declared.decoder.place.Found.TheVariants.{At, Nothing}
 use Rattle.isdb_mmt.specs.declared.decoder.place.PlaceFor.TheVariants.{Own, Free}
 use Rattle.isdb_mmt.specs.declared.decoder.limits.Limits.{Limits}
 use Rattle.isdb_mmt.specs.declared.decoder.head.Used.{Used}
@@ -87,15 +86,14 @@ control_bytes c a b m t e f =
 
 join_laid : (o : Option PartialMessage) (area i : ℕ) (l : Bytes) → partial_length o ≤ area → (i + 1) * area ≤ length l
     → given (is_some o) (join_of (long_in o) (aggregated_in o) (part (i * area) (partial_length o) (bytes_over (i * area) (joined_in o) l))) ≡ o
-unfolding is_some
-join_laid none area i l h w = refl
-join_laid (some j) area i l h w =
+join_laid None area i l h w = refl
+join_laid (Some j) area i l h w =
     let e = part_over (i * area) j.bytes l (omega arith) in
-    λ k. some (record { long = j.long; aggregated = j.aggregated; bytes = e k })
+    λ k. Some (record { long = j.long; aggregated = j.aggregated; bytes = e k })
 
 pub joined_length : (o : Option PartialMessage) → table_length (joined_in o) ≡ partial_length o
-joined_length none = refl
-joined_length (some j) = refl
+joined_length None = refl
+joined_length (Some j) = refl
 
 -- ---- sound sessions
 
@@ -185,7 +183,7 @@ module _ (s : Session) (ok : Sound s.state s.others (lengths_of s)) where
         ∙ ec
 
     latest_same : (b : Bool) (k m : ℕ) → l.sections ≤ k → (b ≡ true → m ≤ area) → given b (kept_table_at l s' k m) ≡ given b (kept_table_at l s k m)
-    latest_same true k m h q = ap some (behind k m h (q refl))
+    latest_same true k m h q = ap Some (behind k m h (q refl))
     latest_same false k m h q = refl
 
     pub control_says : Says s s' n
@@ -415,7 +413,7 @@ module _ (s : Session) (ok : Sound s.state s.others (lengths_of s)) where
       located_old : FoundAt (control_entries s) id i
       unfolding control_place_for
       located_old =
-          let e : found_from 0 (keys (control_entries s)) id ≡ At i =
+          let e : found_from 0 (keys (control_entries s)) id ≡ Some i =
           ap (λ (ns : List ℕ). found_from 0 ns id) (control_names_lem s)
           ∙ place_for_was_old (names_from (used_of st).control_ids control_size control_places st) l.control_ids id i place_for_of in
           let z : i - 0 ≡ i = omega arith in
@@ -451,7 +449,7 @@ module _ (s : Session) (ok : Sound s.state s.others (lengths_of s)) where
       unfolding control_place_for
       is_last =
           let w = place_for_was_new (names_from (used_of st).control_ids control_size control_places st) l.control_ids id i place_for_of in
-          let e : found_from 0 (keys (control_entries s)) id ≡ Nothing =
+          let e : found_from 0 (keys (control_entries s)) id ≡ None =
           ap (λ (ns : List ℕ). found_from 0 ns id) (control_names_lem s) ∙ w.0 in (
             w.1.0 ∙ length_names control_size (used_of st).control_ids control_places st,
             (absent (control_entries s) id 0 e).1 c,

@@ -1,11 +1,10 @@
 -- The tables of a message that a packet makes whole: what the walk and its commit leave is the model's. Assumes nothing.
+use Rattle.std.specs.Prelude.{Option, is_some}
 use Rattle.std.proofs.Common.{◌≡◌, ℕ, ◌+◌, ◌*◌, ◌<◌, ◌≤◌, Bool, true, false, List, map, length, take, replicate, sym, refl, ap, ◌∙◌, subst, mul-le-mul_right, zero-add, arith}
-use mathlib.Core.Option.{Option}
 use native.Mathlib.Nat.{zero-max}
 use lib.ListN.{length-replicate}
 use Rattle.isdb_mmt.specs.Memory.Layout.{most_sections, most_message_area, most_count, table_ids, section_places, section_size}
 use Rattle.isdb_mmt.specs.Decoder.Packet.{Bytes}
-use Rattle.isdb_mmt.specs.Decoder.Maps.{is_some}
 use Rattle.isdb_mmt.specs.Decoder.Reassembly.{PartialMessage, cut_of}
 use Rattle.isdb_mmt.specs.Decoder.Kept.{KeptTables, Table, table_read, mpt_after_all, stored_all, counted_all}
 use Rattle.isdb_mmt.specs.Decoder.Needs.{tables_need}
@@ -16,12 +15,12 @@ use Rattle.isdb_mmt.specs.Memory.Check.{lengths_of, Sound}
 use Rattle.isdb_mmt.specs.Memory.View.{given, view}
 use Rattle.isdb_mmt.specs.Memory.PlacesOf.{table_length, latest_for}
 use Rattle.isdb_mmt.specs.Pushes.Leaves.{section_rows, bytes_over, kept_over, latest_over}
-use Rattle.isdb_mmt.specs.Pushes.TableOutcome.{index_size, index_of}
+use Rattle.isdb_mmt.specs.Pushes.TableOutcome.{index_size, index_of, recent_length}
 use Rattle.isdb_mmt.specs.Pushes.Placed.{table_bytes, placed_cut}
 use Rattle.isdb_mmt.specs.Pushes.TableState.{TableState}
 use Rattle.isdb_mmt.specs.Pushes.PendingTables.{Logged, with_log, PendingTables, pending_of, committed_recent, Areas, committed, Versions, Walked, CanWalk}
 use Rattle.isdb_mmt.specs.Pushes.Commit.{put_tables, put_recent, put_areas, logged_from, AllFit, CanStoreAreas}
-use Rattle.isdb_mmt.specs.Pushes.Start.{recent_at, plt_at, tot_at, walk_start, recent_length, latest_with, counters_with, malformed_more, CountsFit}
+use Rattle.isdb_mmt.specs.Pushes.Start.{recent_at, plt_at, tot_at, walk_start, latest_with, counters_with, malformed_more, CountsFit}
 use Rattle.isdb_mmt.specs.declared.decoder.limits.Limits.{Limits}
 use Rattle.isdb_mmt.specs.declared.decoder.table_outcome.Recent.{Recent}
 use Rattle.isdb_mmt.specs.declared.decoder.walk.WalkState.{WalkState}
@@ -32,7 +31,7 @@ use Rattle.isdb_mmt.proofs.Checks.{count_was}
 use Rattle.isdb_mmt.proofs.Placing.{bytes_cut, cut_located}
 use Rattle.isdb_mmt.proofs.Committed.{tables_located}
 use Rattle.isdb_mmt.proofs.Logging.{AllHeld, RecentHeld, Recents, recents_all}
-use Rattle.isdb_mmt.proofs.Loaded.{no_log, met, areas, version_start, store_view, held_view, versions_view}
+use Rattle.isdb_mmt.proofs.Loaded.{no_log, met, areas, version_start, recent_start, store_view, held_view, versions_view}
 use Rattle.isdb_mmt.proofs.Commits.{logged_all, put_length, put_apart, recent_length_lem, recent_apart, recent_is, store_can}
 use Rattle.isdb_mmt.proofs.Leaving.{recent_there, recent_long, counters_are}
 use Rattle.isdb_mmt.proofs.Modelled.{AsModel, walk_is, full_above, used_after, kept_grows, fits_after, length_after, committed_kept_lem, committed_rows}
@@ -49,7 +48,7 @@ module _ (s : Session) (ok : Sound s.state s.others (lengths_of s)) (i : ℕ) (h
   abbrev mpt_at : ℕ
   mpt_at = (l.sections + i) * l.table_area
 
-  abbrev mpt₀ : Recent
+  abbrev mpt₀ : Option Recent
   mpt₀ = recent_at s.tables mpt_at there len
 
   abbrev ix₀ : List ℕ
@@ -125,20 +124,25 @@ module _ (s : Session) (ok : Sound s.state s.others (lengths_of s)) (i : ℕ) (h
   store_is : stored_all before.store ts ≡ store_after
   store_is = ap (λ (x : KeptTables). stored_all x ts) same_store ∙ ap (stored_all store_before) same_tables
 
+  mpt_start : before.mpt ≡ mpt_before
+  unfolding committed
+  mpt_start = recent_start m s.tables mpt_at there len
+
   mpt_is : mpt_after_all before.mpt ts ≡ mpt_after_lem
   unfolding committed
-  mpt_is = ap (mpt_after_all mpt_before) same_tables
+  mpt_is = ap (λ (x : Option Bytes). mpt_after_all x ts) mpt_start ∙ ap (mpt_after_all mpt_before) same_tables
 
   counted_is : counted_all before.mpt before.store before.counters ts ≡ counted_all mpt_before store_before c₁ given_tables
   unfolding committed
   counted_is =
-      ap (λ (x : KeptTables). counted_all mpt_before x c₁ ts) same_store ∙ ap (λ (x : List Table). counted_all mpt_before store_before c₁ x) same_tables
+      ap (λ (x : Option Bytes). counted_all x before.store c₁ ts) mpt_start ∙ ap (λ (x : KeptTables). counted_all mpt_before x c₁ ts) same_store ∙ ap (λ (x : List Table). counted_all mpt_before store_before c₁ x) same_tables
 
   held : AllHeld m l.table_area 0 (pending_of ix₀ log₀ s.others g₀).index
   held = held_view s ok m log₀ (no_log most_sections) mpt₀ mpt_at c₁ c₀
 
   in_area : (there : Bool) (n at : ℕ) → (there ≡ true → n ≤ l.table_area) → RecentHeld m l.table_area 0 (recent_at s.tables at there n)
-  in_area there n at h = record { there = λ e z. absurd (z refl); small = λ e. omega (arith, h e) }
+  in_area true n at h = record { there = λ z. absurd (z refl); small = omega (arith, h refl) }
+  in_area false n at h = record { there = tt; small = omega arith }
 
   recents : Recents m l.table_area (pending_of ix₀ log₀ s.others g₀)
   recents =
@@ -207,8 +211,8 @@ module _ (s : Session) (ok : Sound s.state s.others (lengths_of s)) (i : ℕ) (h
             subst (λ (d : PendingTables). Recents m l.table_area d) (sym (w.to.now y).1)
             (recents_all m table_read tables_located l.table_area (placed_cut j) (pending_of ix₀ log₀ s.others g₀) (cut_located j) recents)
 
-        small_of : (x : Recent) → RecentHeld m l.table_area r.longest x → x.there ≡ true → x.length ≤ l.table_area
-        small_of x h e = omega (arith, h.small e)
+        small_of : (x : Option Recent) → RecentHeld m l.table_area r.longest x → recent_length x ≤ l.table_area
+        small_of x h = omega (arith, h.small)
 
         area_room : (k : ℕ) → k + 1 ≤ l.sections + l.control_ids + 2 → (k + 1) * l.table_area ≤ length s.tables
         area_room k h = whole_area k (l.sections + l.control_ids + 2) l.table_area (length s.tables) (omega arith) (met s ok).tables
@@ -241,7 +245,7 @@ module _ (s : Session) (ok : Sound s.state s.others (lengths_of s)) (i : ℕ) (h
             ∙ ap (λ (x : KeptTables). section_rows x.kept) store_is
 
         -- the MPT, the PLT and the TOT
-        abbrev committed_at : ℕ → Recent → Option Bytes
+        abbrev committed_at : ℕ → Option Recent → Option Bytes
         committed_at k x = committed_recent m s.tables (k * l.table_area) x
 
         abbrev plt_place : ℕ
@@ -274,14 +278,14 @@ module _ (s : Session) (ok : Sound s.state s.others (lengths_of s)) (i : ℕ) (h
         mpt_room : (mpt_place + 1) * l.table_area ≤ length s.tables
         mpt_room = area_room mpt_place (omega (arith, hi))
 
-        module _ (k : ℕ) (x : Recent) (h : RecentHeld m l.table_area r.longest x) (q : (k + 1) * l.table_area ≤ length s.tables) where
-          there_of : x.there ≡ is_some (committed_at k x)
-          there_of = recent_there m s.tables l.table_area k x q (small_of x h) h.there
+        module _ (k : ℕ) (x : Option Recent) (h : RecentHeld m l.table_area r.longest x) (q : (k + 1) * l.table_area ≤ length s.tables) where
+          there_of : is_some x ≡ is_some (committed_at k x)
+          there_of = recent_there m s.tables l.table_area k x
 
           long_of : recent_length x ≡ table_length (committed_at k x)
           long_of = recent_long m s.tables l.table_area k x q (small_of x h) h.there
 
-        pub message_mpt_there : r.mpt.there ≡ is_some mpt_after_lem
+        pub message_mpt_there : is_some r.mpt ≡ is_some mpt_after_lem
         message_mpt_there = there_of mpt_place r.mpt recents_now.mpt mpt_room ∙ ap (λ (o : Option Bytes). is_some o) mpt_committed
 
         pub message_mpt_long : recent_length r.mpt ≡ table_length mpt_after_lem
@@ -290,9 +294,9 @@ module _ (s : Session) (ok : Sound s.state s.others (lengths_of s)) (i : ℕ) (h
         pub message_latest : latest_with r ≡ latest_for store_after
         unfolding latest_for
         message_latest =
-            let a1 : r.plt.there ≡ is_some store_after.plt = there_of plt_place r.plt recents_now.plt plt_room ∙ ap (λ (o : Option Bytes). is_some o) plt_committed in
+            let a1 : is_some r.plt ≡ is_some store_after.plt = there_of plt_place r.plt recents_now.plt plt_room ∙ ap (λ (o : Option Bytes). is_some o) plt_committed in
             let a2 : recent_length r.plt ≡ table_length store_after.plt = long_of plt_place r.plt recents_now.plt plt_room ∙ ap table_length plt_committed in
-            let a3 : r.tot.there ≡ is_some store_after.tot = there_of tot_place r.tot recents_now.tot tot_room ∙ ap (λ (o : Option Bytes). is_some o) tot_committed in
+            let a3 : is_some r.tot ≡ is_some store_after.tot = there_of tot_place r.tot recents_now.tot tot_room ∙ ap (λ (o : Option Bytes). is_some o) tot_committed in
             let a4 : recent_length r.tot ≡ table_length store_after.tot = long_of tot_place r.tot recents_now.tot tot_room ∙ ap table_length tot_committed in
             λ k. record { plt = a1 k; plt_length = a2 k; tot = a3 k; tot_length = a4 k }
 

@@ -1,38 +1,30 @@
 -- The laws of names: finding one, and that none stands twice. Assumes nothing.
+use Rattle.std.specs.Prelude.{None, Option, Some}
 use Rattle.std.proofs.Common.{◌≡◌, ℕ, zero, suc, ◌+◌, ◌-◌, ◌*◌, ◌/◌, ◌%◌, ◌^◌, ◌<◌, ◌≤◌, Bool, true, false, cond, T, eqb, ◌⊎◌, List, [], ◌∷◌, ◌++◌, length, get_or, set, sym, refl, ap, ◌∙◌, subst, inl, inr, ⊎_elim, mul-le-mul_right, zero-add, add-one, arith, length-set, get_or-set_other, get_or-set_same, le-ltb, lt-ltb, eq-eqb, ne_eqb, eqb-true}
 use borrow.Author.Tests.{eqb-false}
 use Rattle.isdb_tlv.specs.Bytes.{be, with_bit_of}
 use Rattle.isdb_tlv.proofs.Messages.{bit_set}
 use Rattle.isdb_tlv.proofs.Guards.{either, cond_same}
 use Rattle.isdb_mmt.specs.Memory.Lent.{names_from, among, among_marked, distinct, cell_of, found_from, place_for_name}
-use Rattle.isdb_mmt.specs.declared.decoder.place.Found.{Found}
-use Rattle.isdb_mmt.specs.declared.decoder.place.Found.TheVariants.{At, Nothing}
 use Rattle.isdb_mmt.specs.declared.decoder.place.PlaceFor.TheVariants.{Own, Free, NoneFree}
 use Rattle.isdb_mmt.proofs.Lent.{length_names}
 
 pub true_not_false : {A : Type 0} (b : Bool) → b ≡ true → b ≡ false → A
 true_not_false b p q = absurd (subst T (sym p ∙ q) tt)
 
-abbrev pub there : Found → Bool
-there (At i) = true
-there Nothing = false
+abbrev pub there : Option ℕ → Bool
+there (Some i) = true
+there None = false
 
-abbrev pub index_in : Found → ℕ
-index_in (At i) = i
-index_in Nothing = 0
-
--- a place has its name
-pub name_in : (at size n i p m : ℕ) → 4 ≤ size → at + n * size ≤ m → i < n → p ≡ at + i * size → p + 4 ≤ m
-name_in at size n i p m k h b e = let z : (i + 1) * size ≤ n * size = mul-le-mul_right size (omega arith) in omega arith
+abbrev pub index_in : Option ℕ → ℕ
+index_in (Some i) = i
+index_in None = 0
 
 -- the next place starts within the memory that has them all
 pub next_in : (at size n i p m : ℕ) → at + n * size ≤ m → i < n → p ≡ at + i * size → (p + size ≤ m) × (p + size ≡ at + (i + 1) * size)
 next_in at size n i p m h b e =
     let k : (i + 1) * size ≤ n * size = mul-le-mul_right size (omega arith) in
     (omega arith, omega arith)
-
-pub earlier_in : (at size n i m : ℕ) → at + n * size ≤ m → i < n → at + i * size ≤ m
-earlier_in at size n i m h b = let k : i * size ≤ n * size = mul-le-mul_right size (omega arith) in omega arith
 
 module _ (l : List ℕ) (size n i p : ℕ) where
   pub next : i < n → names_from (n - i) size p l ≡ be 4 l p ∷ names_from (n - (i + 1)) size (p + size) l
@@ -43,63 +35,22 @@ module _ (l : List ℕ) (size n i p : ℕ) where
   unfolding names_from
   end h = let e : n - i ≡ 0 = omega arith in rw e
 
-  module _ (x : ℕ) (y : Found) (inv : y ≡ found_from i (names_from (n - i) size p l) x) where
-    pub find_hit : i < n → (v : ℕ) → v ≡ be 4 l p → v ≡ x → At i ≡ y
-    unfolding found_from
-    find_hit h v d e = sym (inv ∙ rw (next h) (rw (eq-eqb _ _ (sym d ∙ e))))
-
-    pub find_miss : i < n → (v : ℕ) → v ≡ be 4 l p → (v ≡ x → ⊥) → y ≡ found_from (i + 1) (names_from (n - (i + 1)) size (p + size) l) x
-    unfolding found_from
-    find_miss h v d e = inv ∙ rw (next h) (rw (ne_eqb _ _ (λ z. e (d ∙ z))))
-
-    pub find_end : n ≤ i → Nothing ≡ y
-    unfolding found_from
-    find_end h = sym (inv ∙ rw (end h))
-
-pub find_start : (l : List ℕ) (size n at x : ℕ) → found_from 0 (names_from n size at l) x ≡ found_from 0 (names_from (n - 0) size at l) x
-find_start l size n at x = let e : n - 0 ≡ n = omega arith in rw e
-
 -- ---- where a name has its place, or takes one
 
-module _ (l : List ℕ) (size n at limit x : ℕ) (f : Found) (ef : f ≡ found_from 0 (names_from n size at l) x) where
-  pub place_for_old : (i : ℕ) → f ≡ At i → Own i ≡ place_for_name (names_from n size at l) limit x
+module _ (l : List ℕ) (size n at limit x : ℕ) (f : Option ℕ) (ef : f ≡ found_from 0 (names_from n size at l) x) where
+  pub place_for_old : (i : ℕ) → f ≡ Some i → Own i ≡ place_for_name (names_from n size at l) limit x
   unfolding place_for_name
   place_for_old i e = rw (← ef, e)
 
-  pub place_for_new : f ≡ Nothing → n < limit → Free n ≡ place_for_name (names_from n size at l) limit x
+  pub place_for_new : f ≡ None → n < limit → Free n ≡ place_for_name (names_from n size at l) limit x
   unfolding place_for_name
   place_for_new e h = rw (← ef, e, length_names size n at l, lt-ltb n limit h)
 
-  pub place_for_full : f ≡ Nothing → limit ≤ n → NoneFree ≡ place_for_name (names_from n size at l) limit x
+  pub place_for_full : f ≡ None → limit ≤ n → NoneFree ≡ place_for_name (names_from n size at l) limit x
   unfolding place_for_name
   place_for_full e h = rw (← ef, e, length_names size n at l, le-ltb n limit h)
 
 -- ---- no name twice
-
--- one turn of a search among them
-module _ (l : List ℕ) (size n i p x : ℕ) (y : Bool) (inv : y ≡ among x (names_from (n - i) size p l)) where
-  module _ (h : i < n) (v : ℕ) (d : v ≡ be 4 l p) where
-    pub among_hit : v ≡ x → true ≡ y
-    unfolding among
-    among_hit e = sym (inv ∙ rw (next l size n i p h) (rw (eq-eqb _ _ (sym d ∙ e))))
-
-    pub among_miss : (v ≡ x → ⊥) → y ≡ among x (names_from (n - (i + 1)) size (p + size) l)
-    unfolding among
-    among_miss e = inv ∙ rw (next l size n i p h) (rw (ne_eqb _ _ (λ z. e (d ∙ z))))
-
-  pub among_end : n ≤ i → false ≡ y
-  unfolding among
-  among_end h = sym (inv ∙ rw (end l size n i p h))
-
-pub among_start : (l : List ℕ) (size n at x : ℕ) → among x (names_from n size at l) ≡ among x (names_from (n - 0) size at l)
-among_start l size n at x = let e : n - 0 ≡ n = omega arith in rw e
-
-module _ (names : List ℕ) (x mark : ℕ) where
-  pub unmarked : mark ≡ 0 → false ≡ among_marked mark x names
-  unmarked e = rw (eq-eqb mark 0 e)
-
-  pub marked_there : (mark ≡ 0 → ⊥) → (r : Bool) → r ≡ among x names → r ≡ among_marked mark x names
-  marked_there h r e = rw (ne_eqb mark 0 h) e
 
 among_snoc : (x y : ℕ) (xs : List ℕ) → among x (xs ++ (y ∷ [])) ≡ true → (among x xs ≡ true) ⊎ (y ≡ x)
 unfolding among
@@ -203,9 +154,6 @@ module _ (n : ℕ) (l : List ℕ) (size at i x p : ℕ) (ep : p ≡ at + i * siz
   pub apart_next : among x (names_from i size at l) ≡ false → distinct (names_from i size at l) ≡ true → distinct (names_from (i + 1) size at l) ≡ true
   apart_next a d = rw (add-one i, names_snoc l size i at, ← ep, ← ex) (distinct_snoc x (names_from i size at l) d a)
 
-pub all_pairs : (l : List ℕ) (size n at i : ℕ) → distinct (names_from i size at l) ≡ true → i ≤ n → n ≤ i → true ≡ distinct (names_from n size at l)
-all_pairs l size n at i d h m = let e : n ≡ i = omega arith in rw e (sym d)
-
 module _ (cell : ℕ → ℕ) (words : ℕ) (l : List ℕ) (size n at i : ℕ) where
   pub none_marked : (marks : List ℕ) → i ≡ 0 → length marks ≡ words → Marked cell words (names_from i size at l) marks
   unfolding names_from among distinct
@@ -240,10 +188,6 @@ module _ (cell : ℕ → ℕ) (words : ℕ) (l : List ℕ) (size n at i : ℕ) w
               (among_snoc z x (names_from i size at l) (rw s at a));
           apart = d;
         })
-
-pub all_apart : (cell : ℕ → ℕ) (words : ℕ) (l : List ℕ) (size n at i : ℕ) (marks : List ℕ) → Marked cell words (names_from i size at l) marks → i ≤ n → n ≤ i
-    → true ≡ distinct (names_from n size at l)
-all_apart cell words l size n at i marks k h m = all_pairs l size n at i k.apart h m
 
 -- marks in one word
 abbrev pub few_cell : ℕ → ℕ

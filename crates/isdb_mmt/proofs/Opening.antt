@@ -1,7 +1,6 @@
 -- Laws of an opening: memory that is set to zeros, and what an opened state holds. Assumes nothing.
-use Rattle.std.proofs.Common.{◌≡◌, ℕ, zero, suc, ◌+◌, ◌-◌, ◌*◌, ◌<◌, ◌≤◌, Bool, true, false, List, [], ◌++◌, length, get_or, take, drop, set, replicate, sym, refl, ap, ◌∙◌, append_assoc, append-nil, zero-le, suc-add, zero-add, arith, length-append, length-set, drop_of_length-le, length-take-le, le-leb}
+use Rattle.std.proofs.Common.{◌≡◌, ℕ, zero, suc, ◌+◌, ◌-◌, ◌*◌, ◌≤◌, Bool, true, false, List, ◌++◌, length, get_or, take, drop, replicate, sym, refl, ap, ◌∙◌, append_assoc, zero-le, suc-add, zero-add, arith, length-append, length-take-le, le-leb}
 use lib.ListN.{length-replicate}
-use borrow.Author.Fill.{fill_more}
 use Rattle.isdb_tlv.specs.Bytes.{be}
 use Rattle.isdb_tlv.specs.Fields.{written, Fit}
 use Rattle.isdb_tlv.proofs.Fields.{length_written, be_behind, be_before}
@@ -22,30 +21,6 @@ use Rattle.isdb_mmt.specs.declared.decoder.head.Time.{Time}
 use Rattle.isdb_mmt.proofs.Lent.{over_start, length_over}
 use Rattle.isdb_mmt.proofs.Limits.{passed}
 use Rattle.isdb_mmt.proofs.Stored.{holds_front, yes_no, limits_held, flag_small}
-
--- `s` has come of `s₀` by zeros in the first `i` elements
-pub record Cleared (s₀ s : List ℕ) (i : ℕ) : Type 0 where
-  pub within : i ≤ length s₀
-  pub zeros : s ≡ replicate i 0 ++ drop i s₀
-  pub long : length s ≡ length s₀
-
-pub cleared_none : (s : List ℕ) → Cleared s s 0
-cleared_none s = record { within = omega arith; zeros = refl; long = refl }
-
-pub cleared_more : (s₀ s : List ℕ) (i : ℕ) → Cleared s₀ s i → i < length s → Cleared s₀ (set s i 0) (i + 1)
-cleared_more s₀ s i c h =
-    let b : i < length s₀ = omega arith in
-    record {
-      within = omega arith;
-      zeros = ap (λ (l : List ℕ). set l i 0) c.zeros ∙ fill_more i 0 s₀ b;
-      long = length-set s i 0 ∙ c.long;
-    }
-
-pub cleared_all : (s₀ s : List ℕ) (i : ℕ) → Cleared s₀ s i → length s ≤ i → s ≡ replicate (length s₀) 0
-cleared_all s₀ s i c h =
-    let e : i ≡ length s₀ = omega arith in
-    let d : drop i s₀ ≡ [] = drop_of_length-le s₀ {i = i} (omega arith) in
-    c.zeros ∙ rw (d, e, append-nil)
 
 -- the bytes behind the limits
 abbrev zeroed : ℕ

@@ -1,7 +1,10 @@
 -- What a push gives out fits its rows: the numbers are read from bytes, and the data are no more than an area and a packet. So the
 -- records that are written are those that are read back. Assumes nothing.
+use Rattle.std.specs.Prelude.{Err, None, Ok, Result, Some, Option, unwrap_or, is_some}
+use Rattle.isdb_tlv.specs.declared.ip.IpError.{IpError}
+use Rattle.isdb_tlv.specs.declared.ip.Datagram.{Datagram}
+use Rattle.isdb_tlv.specs.declared.ip.Flow.{Flow}
 use Rattle.std.proofs.Common.{◌≡◌, ℕ, zero, suc, ◌+◌, ◌-◌, ◌^◌, ◌<◌, ◌≤◌, Bool, true, false, not, ◌&&◌, ltb, leb, ◌⊎◌, List, [], ◌∷◌, ◌++◌, map, length, take, drop, refl, inl, inr, ⊎_elim, pow-suc, arith, length-append, length-drop, length-take}
-use mathlib.Core.Option.{Option, none, some}
 use Rattle.isdb_tlv.specs.Guards.{◌=?◌}
 use Rattle.isdb_tlv.specs.Bytes.{be}
 use Rattle.isdb_tlv.specs.Walk.{Next, stop, more, turn, run, also}
@@ -12,39 +15,27 @@ use Rattle.isdb_tlv.specs.Mmtp.{mmtp_of}
 use Rattle.isdb_tlv.proofs.Headers.{HeaderIs, header_is}
 use Rattle.isdb_tlv.specs.declared.tlv.PacketType.{PacketType}
 use Rattle.isdb_tlv.specs.declared.tlv.PacketType.TheVariants.{Ipv4, Ipv6, Compressed, Control, Null, Other}
-use Rattle.isdb_tlv.specs.declared.ip.MaybeFlow.{MaybeFlow}
-use Rattle.isdb_tlv.specs.declared.ip.MaybeFlow.TheVariants.{None as no_flow_of, Some as some_flow}
-use Rattle.isdb_tlv.specs.declared.ip.IpResult.{IpResult}
-use Rattle.isdb_tlv.specs.declared.ip.IpResult.TheVariants.{Ok, Err}
 use Rattle.isdb_tlv.specs.declared.mmtp.PayloadType.{PayloadType}
 use Rattle.isdb_tlv.specs.declared.mmtp.PayloadType.TheVariants.{Mpu, GenericObject, Messages, FecRepair, Reserved}
 use Rattle.isdb_tlv.specs.declared.mmtp.Header.{Header}
-use Rattle.isdb_tlv.specs.declared.mmtp.Parsed.{Parsed}
-use Rattle.isdb_tlv.specs.declared.mmtp.Parsed.TheVariants.{None as not_mmtp, Some as some_mmtp}
 use Rattle.isdb_tlv.proofs.Guards.{cond_elim}
+use Rattle.isdb_tlv.specs.declared.mmtp.Packet.{Packet as MmtpPacket}
 use Rattle.isdb_mmt.specs.Standards.StdB60Sections.{All}
 use Rattle.isdb_mmt.specs.Formats.Mpu.{payload_header, declared_of, units_of, units_from, unit_step, unit_at, unit_in, item}
 use Rattle.isdb_mmt.specs.Decoder.Packet.{Bytes, PayloadUnit, MpuPacket, Packet, ip_error, ntp, non_mmtp_of, media, message, control, other, header_in, payload_unit, payload_units, units_for, units_read, media_of, by_type, mmtp_in, to_port, in_flow, datagram_in, by_kind, classify, clear, readable}
-use Rattle.isdb_mmt.specs.Decoder.Maps.{is_some}
 use Rattle.isdb_mmt.specs.Decoder.Objects.{Mfu, Asset, Rec, UnitEffect, gap, most_object, grown, continued, effect_of, object_of, unit_effect, after_unit, after_units, delivered_by, after_headers, mpu_number, tagged, passes, media_gives}
 use Rattle.isdb_mmt.specs.Decoder.Needs.{held_length, longest_of, unit_area, units_need}
 use Rattle.isdb_mmt.specs.Memory.Octets.{Octets}
 use Rattle.isdb_mmt.specs.Memory.Layout.{most_mfu_area}
 use Rattle.isdb_mmt.specs.Memory.Session.{object_fields}
-use Rattle.isdb_mmt.specs.Formats.Maybe.{number_u32, has_u32}
-use Rattle.isdb_mmt.specs.Formats.Mpu.{header_or, has_header}
+use Rattle.isdb_mmt.specs.Formats.Mpu.{header_or}
 use Rattle.isdb_mmt.specs.Pushes.Records.{row_flags, object_for}
-use Rattle.isdb_mmt.specs.declared.maybe.MaybeU32.{MaybeU32}
-use Rattle.isdb_mmt.specs.declared.maybe.MaybeU32.TheVariants.{None as no_u32, Some as some_u32}
 use Rattle.isdb_mmt.specs.declared.mpu.FragmentType.{FragmentType}
 use Rattle.isdb_mmt.specs.declared.mpu.FragmentType.TheVariants.{MpuMetadata, MovieFragmentMetadata, Mfu as mfu_type, Reserved as reserved_type}
 use Rattle.isdb_mmt.specs.declared.mpu.FragmentationIndicator.{FragmentationIndicator}
 use Rattle.isdb_mmt.specs.declared.mpu.FragmentationIndicator.TheVariants.{Complete, Head, Middle, Last}
 use Rattle.isdb_mmt.specs.declared.mpu.PayloadHeader.{PayloadHeader}
-use Rattle.isdb_mmt.specs.declared.mpu.MaybeHeader.{MaybeHeader}
 use Rattle.isdb_mmt.specs.declared.mpu.MfuHeader.{MfuHeader}
-use Rattle.isdb_mmt.specs.declared.mpu.MaybeMfu.{MaybeMfu}
-use Rattle.isdb_mmt.specs.declared.mpu.MaybeMfu.TheVariants.{None as no_mfu, Some as some_mfu}
 use Rattle.isdb_mmt.specs.declared.mpu.Unit.{Unit as DataUnit}
 use Rattle.isdb_mmt.specs.declared.mpu.UnitStep.{UnitStep}
 use Rattle.isdb_mmt.specs.declared.mpu.UnitStep.TheVariants.{End, Malformed, Unit as found}
@@ -67,13 +58,13 @@ pub record HeaderOk (h : MfuHeader) : Type 0 where
   pub priority : h.priority < 256
   pub dependency : h.dependency_counter < 256
 
-abbrev pub MfuOk : MaybeMfu → Type 0
-MfuOk no_mfu = Unit {0}
-MfuOk (some_mfu h) = HeaderOk h
+abbrev pub MfuOk : Option MfuHeader → Type 0
+MfuOk None = Unit {0}
+MfuOk (Some h) = HeaderOk h
 
-abbrev pub ItemOk : MaybeU32 → Type 0
-ItemOk no_u32 = Unit {0}
-ItemOk (some_u32 i) = i < 4294967296
+abbrev pub ItemOk : Option ℕ → Type 0
+ItemOk None = Unit {0}
+ItemOk (Some i) = i < 4294967296
 
 pub record ObjectOk (h : Mfu) : Type 0 where
   pub mpu : h.mpu < 4294967296
@@ -82,8 +73,8 @@ pub record ObjectOk (h : Mfu) : Type 0 where
   pub octets : Octets h.bytes
 
 abbrev pub HeldOk : Option Mfu → Type 0
-HeldOk none = Unit {0}
-HeldOk (some h) = ObjectOk h
+HeldOk None = Unit {0}
+HeldOk (Some h) = ObjectOk h
 
 abbrev pub AllOk : List Mfu → Type 0
 AllOk hs = All ObjectOk hs
@@ -126,10 +117,10 @@ unit_longs : (f : FragmentationIndicator) (h : Option Mfu) (u : Mfu)
 unfolding effect_of
 unit_longs Complete h u = omega arith
 unit_longs Head h u = omega arith
-unit_longs Middle none u = omega arith
-unit_longs Middle (some h) u = on_longs (leb (length h.bytes + length u.bytes) most_object) false h u.bytes
-unit_longs Last none u = omega arith
-unit_longs Last (some h) u = on_longs (leb (length h.bytes + length u.bytes) most_object) true h u.bytes
+unit_longs Middle None u = omega arith
+unit_longs Middle (Some h) u = on_longs (leb (length h.bytes + length u.bytes) most_object) false h u.bytes
+unit_longs Last None u = omega arith
+unit_longs Last (Some h) u = on_longs (leb (length h.bytes + length u.bytes) most_object) true h u.bytes
 
 units_longs : (m : MpuPacket) (us : List PayloadUnit) (a : Asset) → longs (delivered_by m a us) ≤ held_length a.held + unit_bytes us
 unfolding delivered_by after_unit unit_effect object_of
@@ -156,14 +147,14 @@ unit_either : (f : FragmentationIndicator) (h : Option Mfu) (u : Mfu) → Either
 unfolding effect_of continued
 unit_either Complete h u = inr (omega arith, omega arith)
 unit_either Head h u = inl (omega arith)
-unit_either Middle none u = inl (omega arith)
-unit_either Middle (some h) u = go (leb (length h.bytes + length u.bytes) most_object)
+unit_either Middle None u = inl (omega arith)
+unit_either Middle (Some h) u = go (leb (length h.bytes + length u.bytes) most_object)
   where
     go : (b : Bool) → Either Middle (length u.bytes) (continued b false (grown h u.bytes))
     go true = inl (omega arith)
     go false = inl (omega arith)
-unit_either Last none u = inl (omega arith)
-unit_either Last (some h) u = on_either (leb (length h.bytes + length u.bytes) most_object) true Last (length u.bytes) (grown h u.bytes) refl
+unit_either Last None u = inl (omega arith)
+unit_either Last (Some h) u = on_either (leb (length h.bytes + length u.bytes) most_object) true Last (length u.bytes) (grown h u.bytes) refl
 
 units_within : (m : MpuPacket) (us : List PayloadUnit) (a : Asset) → longs (delivered_by m a us) ≤ units_need m a us + unit_bytes us
 unfolding delivered_by units_need after_unit unit_effect object_of
@@ -196,10 +187,10 @@ unit_ok : (f : FragmentationIndicator) (h : Option Mfu) (u : Mfu) → HeldOk h �
 unfolding effect_of
 unit_ok Complete h u p q = record { held = tt; outs = (q, tt) }
 unit_ok Head h u p q = record { held = q; outs = tt }
-unit_ok Middle none u p q = record { held = tt; outs = tt }
-unit_ok Middle (some h) u p q = on_ok (leb (length h.bytes + length u.bytes) most_object) false (grown h u.bytes) (grown_ok h u.bytes p q.octets)
-unit_ok Last none u p q = record { held = tt; outs = tt }
-unit_ok Last (some h) u p q = on_ok (leb (length h.bytes + length u.bytes) most_object) true (grown h u.bytes) (grown_ok h u.bytes p q.octets)
+unit_ok Middle None u p q = record { held = tt; outs = tt }
+unit_ok Middle (Some h) u p q = on_ok (leb (length h.bytes + length u.bytes) most_object) false (grown h u.bytes) (grown_ok h u.bytes p q.octets)
+unit_ok Last None u p q = record { held = tt; outs = tt }
+unit_ok Last (Some h) u p q = on_ok (leb (length h.bytes + length u.bytes) most_object) true (grown h u.bytes) (grown_ok h u.bytes p q.octets)
 
 begun_ok : (m : MpuPacket) (u : PayloadUnit) → mpu_number m.header < 4294967296 → PayloadUnitOk u → ObjectOk (object_of m u)
 unfolding object_of
@@ -222,13 +213,13 @@ units_ok m (u ∷ us) a n h p =
 
 -- ---- rows
 
-header_fits : (o : MaybeMfu) → MfuOk o → HeaderOk (header_or o)
-header_fits no_mfu h = record { fragment = omega arith; sample = omega arith; offset = omega arith; priority = omega arith; dependency = omega arith }
-header_fits (some_mfu x) h = h
+header_fits : (o : Option MfuHeader) → MfuOk o → HeaderOk (header_or o)
+header_fits None h = record { fragment = omega arith; sample = omega arith; offset = omega arith; priority = omega arith; dependency = omega arith }
+header_fits (Some x) h = h
 
-item_fits : (o : MaybeU32) → ItemOk o → number_u32 o < 4294967296
-item_fits no_u32 h = omega arith
-item_fits (some_u32 i) h = h
+item_fits : (o : Option ℕ) → ItemOk o → unwrap_or o 0 < 4294967296
+item_fits None h = omega arith
+item_fits (Some i) h = h
 
 -- an object beside its bytes
 pub object_fits : (h : Mfu) → ObjectOk h → length h.bytes < 4294967296 → Fit (object_fields (object_for h))
@@ -238,14 +229,14 @@ object_fits h o n =
       (
         flag_small h.rap,
         (
-          flag_small (has_header h.mfu),
+          flag_small (is_some h.mfu),
           (
             q.fragment,
             (
               q.sample,
               (
                 q.offset,
-                (q.priority, (q.dependency, (flag_small (has_u32 h.item_id), (item_fits h.item_id o.item_id, (n, tt))))),
+                (q.priority, (q.dependency, (flag_small (is_some h.item_id), (item_fits h.item_id o.item_id, (n, tt))))),
               ),
             ),
           ),
@@ -257,7 +248,7 @@ row_fits : (r : Rec) (at : ℕ) → r.id < 65536 → ObjectOk r.mfu → at < 429
 row_fits r at i o a n =
     let h = header_fits r.mfu.mfu o.mfu in
     let q : row_flags r.scrambled (object_for r.mfu) < 256 =
-    omega (arith, flag_le r.mfu.rap, flag_le r.scrambled, flag_le (has_header r.mfu.mfu), flag_le (has_u32 r.mfu.item_id)) in (
+    omega (arith, flag_le r.mfu.rap, flag_le r.scrambled, flag_le (is_some r.mfu.mfu), flag_le (is_some r.mfu.item_id)) in (
       i,
       (
         q,
@@ -313,7 +304,7 @@ gives_fit pass a m o h n =
     cond_elim (λ (rs : List Rec). AllFit 0 (rs ++ tagged m.id us)) (pass && (m.scrambled && is_some m.header))
     (λ e. (
       row_fits
-          (record { id = m.id; scrambled = true; mfu = record { mpu = mpu_number m.header; rap = m.rap; mfu = no_mfu; item_id = no_u32; bytes = m.raw } })
+          (record { id = m.id; scrambled = true; mfu = record { mpu = mpu_number m.header; rap = m.rap; mfu = None; item_id = None; bytes = m.raw } })
           0 o.id (record { mpu = o.mpu; mfu = tt; item_id = tt; octets = o.octets }) (omega arith) (omega (arith, o.raw)),
       rows_fit m.id o.id us (0 + length m.raw) k (omega (arith, w, o.long, o.raw)),
     ))
@@ -339,18 +330,18 @@ record UnitOk (u : DataUnit) : Type 0 where
   item_id : ItemOk u.item_id
 
 abbrev AllUnits : Option (List DataUnit) → Type 0
-AllUnits none = Unit {0}
-AllUnits (some []) = Unit {0}
-AllUnits (some (u ∷ us)) = UnitOk u × AllUnits (some us)
+AllUnits None = Unit {0}
+AllUnits (Some []) = Unit {0}
+AllUnits (Some (u ∷ us)) = UnitOk u × AllUnits (Some us)
 
 abbrev data_bytes : Option (List DataUnit) → ℕ
-data_bytes none = 0
-data_bytes (some []) = 0
-data_bytes (some (u ∷ us)) = u.«data».length + data_bytes (some us)
+data_bytes None = 0
+data_bytes (Some []) = 0
+data_bytes (Some (u ∷ us)) = u.«data».length + data_bytes (Some us)
 
 bytes_also : (u : DataUnit) (o : Option (List DataUnit)) → data_bytes (also u o) ≤ data_bytes o + u.«data».length
-bytes_also u none = omega arith
-bytes_also u (some l) = omega arith
+bytes_also u None = omega arith
+bytes_also u (Some l) = omega arith
 
 module _ (s : Bytes) (o : Octets s) (timed aggregated : Bool) where
   abbrev StepOk : UnitStep → Type 0
@@ -386,8 +377,8 @@ module _ (s : Bytes) (o : Octets s) (timed aggregated : Bool) where
       cond_elim StepOk (leb (length s) at) (λ e. tt) (λ e. at_ok at)))
 
   also_ok : (u : DataUnit) → UnitOk u → (r : Option (List DataUnit)) → AllUnits r → AllUnits (also u r)
-  also_ok u q none h = tt
-  also_ok u q (some l) h = (q, h)
+  also_ok u q None h = tt
+  also_ok u q (Some l) h = (q, h)
 
   item_ok : (d : UnitStep) → StepOk d → Keeps AllUnits (item d)
   item_ok End h = tt
@@ -396,13 +387,13 @@ module _ (s : Bytes) (o : Octets s) (timed aggregated : Bool) where
 
   all_units : AllUnits (units_of s timed aggregated)
   unfolding units_of units_from
-  all_units = keeps_run AllUnits (λ p. item (unit_step s timed aggregated p)) (λ p. none) (λ p. tt) (λ p. item_ok (unit_step s timed aggregated p) (step_ok p)) (suc (length s)) 8
+  all_units = keeps_run AllUnits (λ p. item (unit_step s timed aggregated p)) (λ p. None) (λ p. tt) (λ p. item_ok (unit_step s timed aggregated p) (step_ok p)) (suc (length s)) 8
 
   all_bytes : data_bytes (units_of s timed aggregated) ≤ length s
   all_bytes =
       units_grow s timed aggregated data_bytes refl refl (λ at next u o w. omega (arith, w.starts, w.ends, w.ahead, bytes_also u o))
 
-payload_units_ok : (h : PayloadHeader) (q : Bytes) → Octets q → (us : List DataUnit) → AllUnits (some us) → AllPayloadUnits (map (payload_unit h q) us)
+payload_units_ok : (h : PayloadHeader) (q : Bytes) → Octets q → (us : List DataUnit) → AllUnits (Some us) → AllPayloadUnits (map (payload_unit h q) us)
 payload_units_ok h q o [] a = tt
 payload_units_ok h q o (u ∷ us) a = (
   record {
@@ -413,7 +404,7 @@ payload_units_ok h q o (u ∷ us) a = (
   payload_units_ok h q o us a.1,
 )
 
-payload_units_long : (h : PayloadHeader) (q : Bytes) (us : List DataUnit) → unit_bytes (map (payload_unit h q) us) ≤ data_bytes (some us)
+payload_units_long : (h : PayloadHeader) (q : Bytes) (us : List DataUnit) → unit_bytes (map (payload_unit h q) us) ≤ data_bytes (Some us)
 payload_units_long h q [] = omega arith
 payload_units_long h q (u ∷ us) = omega (arith, payload_units_long h q us, length-take u.«data».length (drop u.«data».start q))
 
@@ -427,8 +418,8 @@ no_units = record { payload_units = tt; long = omega arith }
 
 clear_payload_units : (h : PayloadHeader) (q : Bytes) → Octets q → (r : Option (List DataUnit)) → AllUnits r → data_bytes r < 65536 → ClearOk (clear false (payload_units h q r))
 unfolding clear
-clear_payload_units h q o none a l = no_units
-clear_payload_units h q o (some us) a l = record { payload_units = payload_units_ok h q o us a; long = omega (arith, payload_units_long h q us) }
+clear_payload_units h q o None a l = no_units
+clear_payload_units h q o (Some us) a l = record { payload_units = payload_units_ok h q o us a; long = omega (arith, payload_units_long h q us) }
 
 clear_units : (h : PayloadHeader) (t : FragmentType) (q : Bytes) → length q < 65536 → Octets q → ClearOk (clear false (units_for h t q))
 unfolding clear
@@ -442,14 +433,14 @@ clear_read : (scrambled : Bool) (payload : Bytes) (h : Option PayloadHeader) →
     → ClearOk (clear scrambled (units_read payload h))
 unfolding clear
 clear_read true payload h l o = no_units
-clear_read false payload none l o = no_units
-clear_read false payload (some h) l o =
+clear_read false payload None l o = no_units
+clear_read false payload (Some h) l o =
     clear_units h h.fragment_type (declared_of payload) (omega (arith, length-take (be 2 payload 0 + 2) payload)) (octets_take (be 2 payload 0 + 2) payload o)
 
 mpu_small : (payload : Bytes) → Octets payload → mpu_number (header_in (payload_header payload)) < 4294967296
 unfolding payload_header
 mpu_small b o =
-    let P : MaybeHeader → Type 0 = λ h. mpu_number (header_in h) < 4294967296 in
+    let P : Option PayloadHeader → Type 0 = λ h. mpu_number (header_in h) < 4294967296 in
     cond_elim P (ltb (length b) 2) (λ e. omega arith) (λ e.
     cond_elim P (ltb (length b) (be 2 b 0 + 2)) (λ e. omega arith) (λ e.
     cond_elim P (ltb (length b) 8) (λ e. omega arith) (λ e. be_small b o 4 4)))
@@ -463,8 +454,8 @@ media_ok h payload i n l o =
 
 -- a timestamp of 8 bytes, where there is one
 abbrev pub TimeOk : Option ℕ → Type 0
-TimeOk none = Unit {0}
-TimeOk (some t) = t < 18446744073709551616
+TimeOk None = Unit {0}
+TimeOk (Some t) = t < 18446744073709551616
 
 -- a packet
 abbrev pub PacketOk : Packet → Type 0
@@ -484,9 +475,9 @@ type_ok h payload GenericObject i n l o = tt
 type_ok h payload FecRepair i n l o = tt
 type_ok h payload (Reserved c) i n l o = tt
 
-mmtp_ok : (b : Bytes) (p : Parsed) → HeaderIs b p → length b < 65536 → Octets b → PacketOk (mmtp_in b p)
-mmtp_ok b not_mmtp h l o = tt
-mmtp_ok b (some_mmtp p) h l o =
+mmtp_ok : (b : Bytes) (p : Option MmtpPacket) → HeaderIs b p → length b < 65536 → Octets b → PacketOk (mmtp_in b p)
+mmtp_ok b None h l o = tt
+mmtp_ok b (Some p) h l o =
     type_ok p.header (drop p.start b) p.header.payload_type (rw h.0 (be_small b o 2 2)) (rw h.1 (be_small b o 4 8))
     (omega (arith, length-drop p.start b)) (octets_drop p.start b o)
 
@@ -494,11 +485,11 @@ port_ok : (b : Bytes) (port : ℕ) → length b < 65536 → Octets b → PacketO
 port_ok b port l o =
     cond_elim PacketOk (port =? 123) (λ e. cond_elim TimeOk (ltb (length b) 48) (λ e. tt) (λ e. be_small b o 8 40)) (λ e. mmtp_ok b (mmtp_of b) (header_is b) l o)
 
-flow_ok : (b : Bytes) (f : MaybeFlow) → length b < 65536 → Octets b → PacketOk (in_flow b f)
-flow_ok b no_flow_of l o = mmtp_ok b (mmtp_of b) (header_is b) l o
-flow_ok b (some_flow f) l o = port_ok b f.dport l o
+flow_ok : (b : Bytes) (f : Option Flow) → length b < 65536 → Octets b → PacketOk (in_flow b f)
+flow_ok b None l o = mmtp_ok b (mmtp_of b) (header_is b) l o
+flow_ok b (Some f) l o = port_ok b f.dport l o
 
-datagram_ok : (b : Bytes) (r : IpResult) → length b < 65536 → Octets b → PacketOk (datagram_in b r)
+datagram_ok : (b : Bytes) (r : Result Datagram IpError) → length b < 65536 → Octets b → PacketOk (datagram_in b r)
 datagram_ok b (Err e) l o = tt
 datagram_ok b (Ok d) l o = flow_ok (drop d.start b) d.flow (omega (arith, length-drop d.start b)) (octets_drop d.start b o)
 

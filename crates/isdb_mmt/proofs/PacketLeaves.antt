@@ -1,7 +1,7 @@
 -- What an accepted packet leaves, of any kind, is the model's next state, where every number that it stores fits its field. Assumes
 -- nothing.
+use Rattle.std.specs.Prelude.{None, Some}
 use Rattle.std.proofs.Common.{◌≡◌, ℕ, ◌+◌, ◌^◌, ◌<◌, ◌≤◌, true, ltb, leb, List, [], ◌∷◌, length, sym, refl, ap, ◌∙◌, inl, arith, length-append, ltb-true, leb-true}
-use mathlib.Core.Option.{none, some}
 use Rattle.isdb_tlv.specs.Fields.{written, Fit}
 use Rattle.isdb_tlv.proofs.Fields.{length_written}
 use Rattle.isdb_mmt.specs.Decoder.Packet.{Bytes, MessagePacket, Packet, ip_error, ntp, non_mmtp_of, media, message, control, other}
@@ -20,7 +20,6 @@ use Rattle.isdb_mmt.specs.Pushes.MediaPush.{place_for_asset, asset_next}
 use Rattle.isdb_mmt.specs.Memory.PlacesOf.{table_length, control_for}
 use Rattle.isdb_mmt.specs.Pushes.Leaves.{with_time, with_counters, counted_in, time_leaves, control_leaves, message_in, control_place_for, message_at, message_leaves, packet_leaves}
 use Rattle.isdb_mmt.specs.Pushes.Push.{Input, packet_of, has_places, has_areas, has_outputs, asks_of, asks_later, asks, Fits, Taken}
-use Rattle.isdb_mmt.specs.declared.decoder.place.Found.TheVariants.{At, Nothing}
 use Rattle.isdb_mmt.specs.declared.decoder.place.PlaceFor.{PlaceFor}
 use Rattle.isdb_mmt.specs.declared.decoder.place.PlaceFor.TheVariants.{Own, Free, NoneFree}
 use Rattle.isdb_mmt.specs.declared.decoder.limits.Limits.{Limits}
@@ -92,8 +91,8 @@ abbrev pub Stores : Session → Packet → Type 0
 Stores s ip_error = CountersFit (pushed (view s) ip_error)
 Stores s non_mmtp_of = CountersFit (pushed (view s) non_mmtp_of)
 Stores s other = CountersFit (pushed (view s) other)
-Stores s (ntp none) = CountersFit (pushed (view s) (ntp none))
-Stores s (ntp (some t)) = CountersFit (pushed (view s) (ntp (some t))) × (t < 256 ^ 8)
+Stores s (ntp None) = CountersFit (pushed (view s) (ntp None))
+Stores s (ntp (Some t)) = CountersFit (pushed (view s) (ntp (Some t))) × (t < 256 ^ 8)
 Stores s (media m) = Fit (media_fields (place_for_asset m.id (asset_next s m)))
 Stores s (message c) = MessageFits (limits_of s.state) c.id (pushed (view s) (message c))
 Stores s (control bs) = TablesFit (limits_of s.state) (pushed (view s) (control bs))
@@ -178,18 +177,18 @@ module _ (s : Session) (ok : Sound s.state s.others (lengths_of s)) where
     length_ts : length ts ≡ 9
     length_ts = length_written (time_fields (record { seen = true; timestamp = t }))
 
-    places_timed : {A : Type 0} (o : Sort A) → o.count (used_of st) ≤ o.places → media_places ≤ o.at → in_use o (with_time (some t) st) ≡ in_use o st
+    places_timed : {A : Type 0} (o : Sort A) → o.count (used_of st) ≤ o.places → media_places ≤ o.at → in_use o (with_time (Some t) st) ≡ in_use o st
     places_timed o c h =
         place_apart o st ok.there.long c time_place ts (inl (omega arith)) (inl (omega (arith, length_ts))) (omega (arith, length_ts, ok.there.long))
 
     timed : (n : State) → CountersFit n → n.passing ≡ (view s).passing → n.assets ≡ (view s).assets → n.controls ≡ (view s).controls
-        → n.store ≡ (view s).store → n.time ≡ some t → view (time_leaves s (some t) n) ≡ n
+        → n.store ≡ (view s).store → n.time ≡ Some t → view (time_leaves s (Some t) n) ≡ n
     timed n f ep ea ek et ei =
-        let b : List ℕ = with_time (some t) st in
+        let b : List ℕ = with_time (Some t) st in
         let w : time_place + length ts ≤ length st = omega (arith, length_ts, ok.there.long) in
         let tb : time_of b ≡ record { seen = true; timestamp = t } =
         time_back (record { seen = true; timestamp = t }) st (omega arith, (small, tt)) ok.there.long in
-        says s (time_leaves s (some t) n) n
+        says s (time_leaves s (Some t) n) n
         (counted_says n b (length_over time_place ts st w)
         (apart limits_of 0 57 limits_own time_place ts st (inl (omega arith)) w)
         (apart latest_of latest_place 10 latest_own time_place ts st (inl (omega arith)) w)
@@ -212,7 +211,7 @@ module _ (s : Session) (ok : Sound s.state s.others (lengths_of s)) where
     unfolding control_place_for needs
     place_for_free e =
         let w = place_for_was_full (names_from (used_of st).control_ids control_size control_places st) l.control_ids c.id e in
-        let q : found_from 0 (keys (control_entries s)) c.id ≡ Nothing = ap (λ (ns : List ℕ). found_from 0 ns c.id) (control_names_lem s) ∙ w.0 in
+        let q : found_from 0 (keys (control_entries s)) c.id ≡ None = ap (λ (ns : List ℕ). found_from 0 ns c.id) (control_names_lem s) ∙ w.0 in
         let a = (absent (control_entries s) c.id 0 q).1 (control_of c.id n) in
         let k : length n.controls ≡ length (control_entries s) + 1 =
         ap (λ (x : List (ℕ × ControlState)). length x) (sym own ∙ a) ∙ length-append (control_entries s) ((c.id, control_of c.id n) ∷ []) in
@@ -223,7 +222,7 @@ module _ (s : Session) (ok : Sound s.state s.others (lengths_of s)) where
     pub old_free : (i : ℕ) → control_place_for st c.id ≡ Own i → i < l.control_ids
     unfolding control_place_for
     old_free i e =
-        let q : found_from 0 (keys (control_entries s)) c.id ≡ At i =
+        let q : found_from 0 (keys (control_entries s)) c.id ≡ Some i =
         ap (λ (ns : List ℕ). found_from 0 ns c.id) (control_names_lem s)
         ∙ place_for_was_old (names_from (used_of st).control_ids control_size control_places st) l.control_ids c.id i e in
         let w = found_at (control_entries s) c.id 0 i q in
@@ -260,8 +259,8 @@ module _ (s : Session) (ok : Sound s.state s.others (lengths_of s)) where
   packet_leaves_lem ip_error rows out h f = plain (pushed (view s) ip_error) f refl refl refl refl refl
   packet_leaves_lem non_mmtp_of rows out h f = plain (pushed (view s) non_mmtp_of) f refl refl refl refl refl
   packet_leaves_lem other rows out h f = plain (pushed (view s) other) f refl refl refl refl refl
-  packet_leaves_lem (ntp none) rows out h f = plain (pushed (view s) (ntp none)) f refl refl refl refl refl
-  packet_leaves_lem (ntp (some t)) rows out h f = timed t f.1 (pushed (view s) (ntp (some t))) f.0 refl refl refl refl refl
+  packet_leaves_lem (ntp None) rows out h f = plain (pushed (view s) (ntp None)) f refl refl refl refl refl
+  packet_leaves_lem (ntp (Some t)) rows out h f = timed t f.1 (pushed (view s) (ntp (Some t))) f.0 refl refl refl refl refl
   packet_leaves_lem (media m) rows out h f = media_leaves_lem s ok m h.media h.object f
   packet_leaves_lem (message c) rows out h f = at_place_for c rows out h f (control_place_for st c.id) refl
   packet_leaves_lem (control bs) rows out h f =

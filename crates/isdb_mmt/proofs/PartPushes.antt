@@ -1,4 +1,5 @@
 -- A middle part of an object pushed: it is answered and committed as every media packet is, and nothing is handed out. Assumes nothing.
+use Rattle.std.specs.Prelude.{Option, Some, is_some}
 use Rattle.std.proofs.Common.{◌≡◌, ℕ, ◌+◌, ◌-◌, ◌*◌, ◌≤◌, max, true, false, List, length, drop, sym, refl, ap, ◌∙◌, append-nil, arith, length-drop, le-ltb, le-leb}
 use Rattle.isdb_tlv.specs.Bytes.{be}
 use Rattle.isdb_tlv.specs.declared.mmtp.Header.{Header}
@@ -19,12 +20,7 @@ use Rattle.isdb_mmt.specs.Pushes.MediaCommit.{place_in, passes_on, fits_number, 
 use Rattle.isdb_mmt.specs.Pushes.Plain.{middle_part, unit_bytes, is_next, growing, timed_of, grown_of, NextAt, CanGrow, GrownAt, CanCommitPart, PartLaid, CanPushUnit, MiddlePart, UnitPushed}
 use Rattle.isdb_mmt.specs.declared.part.Part.{Part}
 use Rattle.isdb_mmt.specs.declared.mpu.PayloadHeader.{PayloadHeader}
-use Rattle.isdb_mmt.specs.declared.mpu.MaybeHeader.TheVariants.{Some as payload}
-use Rattle.isdb_mmt.specs.declared.maybe.MaybeU32.{MaybeU32}
-use Rattle.isdb_mmt.specs.declared.maybe.MaybeU32.TheVariants.{Some as some_u32}
 use Rattle.isdb_mmt.specs.declared.decoder.limits.Limits.{Limits}
-use Rattle.isdb_mmt.specs.declared.decoder.place.Found.{Found}
-use Rattle.isdb_mmt.specs.declared.decoder.place.Found.TheVariants.{At}
 use Rattle.isdb_mmt.specs.declared.decoder.place.PlaceFor.TheVariants.{Own}
 use Rattle.isdb_mmt.specs.declared.decoder.media.Media.{Media}
 use Rattle.isdb_mmt.specs.declared.decoder.reassembler.MediaEffect.{MediaEffect}
@@ -61,7 +57,7 @@ module _ (m : Media) (n mpu : ℕ) (next : is_next m n mpu ≡ true) (grows : gr
         length = m.object.length;
       }
 
-  start_held : start_of m n ≡ begun true (timed_of m.object m.object.length) 0
+  start_held : start_of m n ≡ begun (Some (timed_of m.object m.object.length)) 0
   unfolding start_of gap_in
   start_held = rw ((growing_facts m grows).held, no_gap, normal_is)
 
@@ -99,17 +95,17 @@ module _ (st ot ob me ta : List ℕ) (h : Header) (b rows out : Bytes) (i k : �
   area_small = (passed l (lengths_of (lent st ot ob me ta)) can.can.sound.limits).ranges.object.1
 
   abbrev start : MediaEffect
-  start = begun true (timed_of m.object m.object.length) 0
+  start = begun (Some (timed_of m.object m.object.length)) 0
 
   abbrev t : MediaEffect
-  t = grown_to false start d k
+  t = grown_to false (timed_of m.object m.object.length) start d k
 
   grown_here : grown_unit false start d (length (part_of (declared_of b) d)) ≡ t
   grown_here =
-      grown_some false start d (length (part_of (declared_of b) d)) m.object.length refl refl
+      grown_some false start d (length (part_of (declared_of b) d)) (timed_of m.object m.object.length) refl
       ∙ rw (grown_is, le-leb k most_object (omega (arith, mid.room, area_small)))
 
-  outcome_here : r ≡ outcome_with false true (payload y) t
+  outcome_here : r ≡ outcome_with false true (Some y) t
   unfolding media_outcome outcome_by units_outcome units_effect with_each_unit with_unit
   outcome_here =
       let g = middle_facts b can.unit in
@@ -143,9 +139,9 @@ module _ (st ot ob me ta : List ℕ) (h : Header) (b rows out : Bytes) (i k : �
   unfolding grown_to
   longest_is = ap (λ (z : MediaOutcome). z.units.longest) outcome_here
 
-  held_still : r.units.held ≡ true
+  held_still : is_some r.units.object ≡ true
   unfolding grown_to
-  held_still = ap (λ (z : MediaOutcome). z.units.held) outcome_here
+  held_still = ap (λ (z : MediaOutcome). is_some z.units.object) outcome_here
 
   pub can_lay : CanCommitPart st ob b i k
   can_lay =
@@ -190,8 +186,8 @@ module _ (st ot ob me ta : List ℕ) (h : Header) (b rows out : Bytes) (i k : �
 -- ---- the code
 
 module _ (st ot ob me ta : List ℕ) (h : Header) (b rows out : Bytes) (can : CanPushUnit middle_part (lent st ot ob me ta) h b)
-    (u : ℕ) (eu : u ≡ be 2 b 0) (mpu : ℕ) (em : mpu ≡ be 4 b 4) (f : Found) (w : NextAt st h.packet_id h.sequence mpu f) (i : ℕ) (ef : f ≡ At i) where
-  place : NextAt st h.packet_id h.sequence mpu (At i)
+    (u : ℕ) (eu : u ≡ be 2 b 0) (mpu : ℕ) (em : mpu ≡ be 4 b 4) (f : Option ℕ) (w : NextAt st h.packet_id h.sequence mpu f) (i : ℕ) (ef : f ≡ Some i) where
+  place : NextAt st h.packet_id h.sequence mpu (Some i)
   place = rw ef at w
 
   pub can_grow : CanGrow st i (u - 20)
@@ -203,8 +199,8 @@ module _ (st ot ob me ta : List ℕ) (h : Header) (b rows out : Bytes) (can : Ca
         short = omega (arith, eu, (unit_facts middle_part b can.unit).there, can.can.long);
       }
 
-  module _ (g : MaybeU32) (w2 : GrownAt st i (u - 20) g) (k : ℕ) (eg : g ≡ some_u32 k) where
-    grown : GrownAt st i (u - 20) (some_u32 k)
+  module _ (g : Option ℕ) (w2 : GrownAt st i (u - 20) g) (k : ℕ) (eg : g ≡ Some k) where
+    grown : GrownAt st i (u - 20) (Some k)
     grown = rw eg at w2
 
     middle_here : MiddlePart (lent st ot ob me ta) h b i k

@@ -1,7 +1,9 @@
 -- What is known of an id or a key fits its place: numbers fit their fields, lengths their areas, and bytes are bytes. It does so
 -- after a packet too, with counts that are no more than 2^21 larger. Assumes nothing.
+use Rattle.std.specs.Prelude.{Result, Option, None, Some}
+use Rattle.isdb_mmt.specs.declared.table.section.SectionError.{SectionError}
+use Rattle.isdb_mmt.specs.declared.table.section.SectionHeader.{SectionHeader}
 use Rattle.std.proofs.Common.{◌≡◌, ℕ, suc, ◌+◌, ◌<◌, ◌≤◌, Bool, true, false, cond, not, ◌&&◌, eqb, ltb, List, [], ◌∷◌, ◌++◌, map, length, get_or, take, refl, arith}
-use mathlib.Core.Option.{Option, none, some}
 use Rattle.isdb_tlv.specs.Bytes.{be}
 use Rattle.isdb_tlv.specs.Crc.{crc_of}
 use Rattle.isdb_tlv.specs.Fields.{Field, Fit}
@@ -22,7 +24,6 @@ use Rattle.isdb_mmt.specs.Memory.Session.{number_fields, object_fields, stats_fi
 use Rattle.isdb_mmt.specs.Memory.Octets.{Octets}
 use Rattle.isdb_mmt.specs.Memory.PlacesOf.{no_object, held_for, first_in, place_for_asset, table_length, control_for, section_for}
 use Rattle.isdb_mmt.specs.declared.mpu.PayloadHeader.{PayloadHeader}
-use Rattle.isdb_mmt.specs.declared.table.section.LongSection.{LongSection}
 use Rattle.isdb_mmt.proofs.Every.{Every, every_put}
 use Rattle.isdb_mmt.proofs.Brief.{all_read, octets_take, AllOctets}
 use Rattle.isdb_mmt.specs.Theorems.Room.{most_added}
@@ -39,13 +40,13 @@ fit_append (x ∷ xs) ys a b = (a.0, fit_append xs ys a.1 b)
 
 -- a number of 4 bytes, where there is one
 abbrev pub NumberOk : Option ℕ → Type 0
-NumberOk none = Unit {0}
-NumberOk (some n) = n < 4294967296
+NumberOk None = Unit {0}
+NumberOk (Some n) = n < 4294967296
 
 number_small : (o : Option ℕ) → NumberOk o → or_else 0 o < 4294967296
 unfolding or_else
-number_small none h = omega arith
-number_small (some n) h = h
+number_small None h = omega arith
+number_small (Some n) h = h
 
 -- ---- a media id
 
@@ -74,19 +75,19 @@ units_numbers m (u ∷ us) a =
 
 mpu_after_lem : (o : Option ℕ) (h : Option PayloadHeader) → NumberOk o → mpu_number h < 4294967296 → NumberOk (mpu_after o (mpu_in h))
 unfolding mpu_after
-mpu_after_lem o none a b = a
-mpu_after_lem o (some h) a b = b
+mpu_after_lem o None a b = a
+mpu_after_lem o (Some h) a b = b
 
 last_first : (r : Option (ℕ × ℕ)) (n : ℕ) → first_in r < 4294967296 → n < 4294967296 → first_in (last_in r n) < 4294967296
-last_first none n a b = b
-last_first (some r) n a b = a
+last_first None n a b = b
+last_first (Some r) n a b = a
 
 range_first : (new : Bool) (r : Option (ℕ × ℕ)) (h : Option PayloadHeader) → first_in r < 4294967296 → mpu_number h < 4294967296
     → first_in (range_after new r (mpu_in h)) < 4294967296
 unfolding range_after
 range_first false r h a b = a
-range_first true r none a b = a
-range_first true r (some h) a b = last_first r h.mpu_sequence_number a b
+range_first true r None a b = a
+range_first true r (Some h) a b = last_first r h.mpu_sequence_number a b
 
 pub asset_after_lem : (area n : ℕ) (a : Asset) (m : MpuPacket) → AssetOk area n a → MediaOk m → length (readable m) < 65536
     → units_need m (after_headers a m) (readable m) ≤ area → AssetOk area (n + most_added) (asset_after a m)
@@ -121,8 +122,8 @@ zero_object = (
 )
 
 held_fits : (area : ℕ) → area ≤ most_mfu_area → (o : Option Mfu) → HeldOk o → held_length o ≤ area → Fit (object_fields (held_for o))
-held_fits area w none h l = zero_object
-held_fits area w (some h) o l = object_fits h o (omega arith)
+held_fits area w None h l = zero_object
+held_fits area w (Some h) o l = object_fits h o (omega arith)
 
 pub asset_place : (area n id : ℕ) (a : Asset) → area ≤ most_mfu_area → n < 18446744073709551616 → id < 4294967296 → AssetOk area n a
     → Fit (media_fields (place_for_asset id a))
@@ -165,8 +166,8 @@ asset_place area n id a w c i h =
 -- ---- kept tables
 
 abbrev pub TableOk : ℕ → Option Bytes → Type 0
-TableOk area none = Unit {0}
-TableOk area (some b) = (length b ≤ area) × Octets b
+TableOk area None = Unit {0}
+TableOk area (Some b) = (length b ≤ area) × Octets b
 
 pub record KeptOk (area k : ℕ) (x : Kept) : Type 0 where
   pub key : k < 4294967296
@@ -187,8 +188,8 @@ pub store_ok_more : (area n m : ℕ) (s : KeptTables) → n ≤ m → StoreOk ar
 store_ok_more area n m s l h = record { plt = h.plt; tot = h.tot; kept = h.kept; others = λ i. omega (arith, h.others i) }
 
 table_small : (area : ℕ) → area ≤ most_table_area → (o : Option Bytes) → TableOk area o → table_length o < 4294967296
-table_small area w none h = omega arith
-table_small area w (some b) h = omega (arith, h.0)
+table_small area w None h = omega arith
+table_small area w (Some b) h = omega (arith, h.0)
 
 -- a table as it is read: its bytes are bytes, a key has 4 and a version 1
 pub record SectionOk (x : Section) : Type 0 where
@@ -215,7 +216,7 @@ key_small b o = omega (arith, o 0, o 3, o 4, o 6)
 version_small : (b : Bytes) → version_in (long_section_of b) < 256
 unfolding long_section_of
 version_small b =
-    let P : LongSection → Type 0 = λ x. version_in x < 256 in
+    let P : Result SectionHeader SectionError → Type 0 = λ x. version_in x < 256 in
     cond_elim P (ltb (length b) 3) (λ e. omega arith) (λ e.
     cond_elim P (ltb (length12 b 1) 9) (λ e. omega arith) (λ e.
     cond_elim P (ltb (length b) (length12 b 1 + 3)) (λ e. omega arith) (λ e.
@@ -316,8 +317,8 @@ unfolding idle_control idle
 idle_ok message table = record { number = tt; joins = tt; mpt = tt }
 
 join_small : (area : ℕ) → area ≤ most_message_area → (o : Option PartialMessage) → JoinFits area o → partial_length o < 4294967296
-join_small area w none h = omega arith
-join_small area w (some j) h = omega (arith, h.0)
+join_small area w None h = omega arith
+join_small area w (Some j) h = omega (arith, h.0)
 
 pub control_place_lem : (message table id : ℕ) (c : Control) → message ≤ most_message_area → table ≤ most_table_area → id < 4294967296
     → ControlOk message table c → Fit (control_fields (control_for id c))

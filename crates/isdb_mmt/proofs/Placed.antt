@@ -1,30 +1,28 @@
 -- The place after a packet is the place of the model's asset after it. Assumes nothing.
+use Rattle.std.specs.Prelude.{None, Some, Option, unwrap_or, is_some}
 use Rattle.std.proofs.Common.{◌≡◌, ℕ, ◌+◌, Bool, true, false, cond, not, ◌&&◌, eqb, List, [], ◌∷◌, length, sym, refl, ap, ◌∙◌, subst, arith}
-use mathlib.Core.Option.{Option, none, some}
 use Rattle.isdb_tlv.proofs.Guards.{either}
 use Rattle.isdb_mmt.specs.Decoder.Packet.{Bytes, PayloadUnit, MpuPacket, header_in, readable}
-use Rattle.isdb_mmt.specs.Decoder.Maps.{one, is_some, or_else}
+use Rattle.isdb_mmt.specs.Decoder.Maps.{one, or_else}
 use Rattle.isdb_mmt.specs.Formats.Mpu.{follows}
 use Rattle.isdb_mmt.specs.Decoder.Objects.{Mfu, Asset, after_unit, unit_effect, after_units, gap, lost_by, mpu_in, new_mpu, jumped, mpu_after, range_after, completes, malformed_payload, after_headers, asset_after}
 use Rattle.isdb_mmt.specs.Memory.View.{given, header_given, item_given, mfu_of, asset_of_place}
-use Rattle.isdb_mmt.specs.Formats.Maybe.{has_u32, number_u32}
-use Rattle.isdb_mmt.specs.Formats.Mpu.{has_header, header_or}
+use Rattle.isdb_mmt.specs.Formats.Mpu.{header_or}
 use Rattle.isdb_mmt.specs.Pushes.Records.{object_for}
-use Rattle.isdb_mmt.specs.Pushes.MediaPush.{no_object, held_for, first_in, place_for_asset}
+use Rattle.isdb_mmt.specs.Pushes.MediaPush.{held_for, first_in, place_for_asset}
+use Rattle.isdb_mmt.specs.Pushes.MediaEffect.{object_or}
 use Rattle.isdb_mmt.specs.Pushes.MediaPlace.{gap_in, lost_in, header_if, item_if, normal_object, begun, start_of, new_in, jump_in, seen_mpu, last_mpu, first_mpu_of, completes_in, adds_of, summed, stats_after, place_after_of}
 use Rattle.isdb_mmt.specs.declared.mpu.MfuHeader.{MfuHeader}
 use Rattle.isdb_mmt.specs.declared.mpu.PayloadHeader.{PayloadHeader}
-use Rattle.isdb_mmt.specs.declared.mpu.MaybeHeader.{MaybeHeader}
-use Rattle.isdb_mmt.specs.declared.mpu.MaybeHeader.TheVariants.{None as no_payload, Some as payload}
 use Rattle.isdb_mmt.specs.declared.decoder.media.Object.{Object}
 use Rattle.isdb_mmt.specs.declared.decoder.media.Media.{Media}
 use Rattle.isdb_mmt.specs.declared.decoder.reassembler.MediaEffect.{MediaEffect}
-use Rattle.isdb_mmt.proofs.EffectsModelled.{Told}
+use Rattle.isdb_mmt.proofs.EffectsModelled.{object_as, as_some, as_object, Told}
 
 -- the range ends with the last MPU number
 abbrev pub range_for : Option ℕ → ℕ → Option (ℕ × ℕ)
-range_for none f = none
-range_for (some n) f = some (f, n)
+range_for None f = None
+range_for (Some n) f = Some (f, n)
 
 abbrev pub Tied : Asset → Type 0
 Tied a = a.range ≡ range_for a.mpu (first_in a.range)
@@ -76,15 +74,15 @@ normal_header : (t : Bool) (h : MfuHeader) → header_if t h ≡ header_or (head
 normal_header true h = refl
 normal_header false h = refl
 
-normal_timed : (t : Bool) (h : MfuHeader) → t ≡ has_header (header_given t h)
+normal_timed : (t : Bool) (h : MfuHeader) → t ≡ is_some (header_given t h)
 normal_timed true h = refl
 normal_timed false h = refl
 
-normal_item : (t : Bool) (i : ℕ) → item_if t i ≡ number_u32 (item_given t i)
+normal_item : (t : Bool) (i : ℕ) → item_if t i ≡ unwrap_or (item_given t i) 0
 normal_item true i = refl
 normal_item false i = refl
 
-normal_has : (t : Bool) (i : ℕ) → t ≡ has_u32 (item_given t i)
+normal_has : (t : Bool) (i : ℕ) → t ≡ is_some (item_given t i)
 normal_has true i = refl
 normal_has false i = refl
 
@@ -105,35 +103,29 @@ normal_is o b e =
 -- what the units start from
 module _ (p : Media) (b : Bytes) (m : MpuPacket) (long : p.held ≡ true → length b ≡ p.object.length) where
   starts_by : (x g : Bool) (o : Mfu) → (x ≡ true → normal_object p.object ≡ object_for o)
-      → ((cond (not x) (begun false no_object 0) (cond g (begun false no_object 1) (begun true (normal_object p.object) 0))).held ≡ is_some (cond g none (given x o)))
-      × (((cond (not x) (begun false no_object 0) (cond g (begun false no_object 1) (begun true (normal_object p.object) 0))).object ≡ held_for (cond g none (given x o)))
-      × ((cond (not x) (begun false no_object 0) (cond g (begun false no_object 1) (begun true (normal_object p.object) 0))).drops ≡ one (g && is_some (given x o))))
-  unfolding is_some
-  starts_by true true o e = (refl, (refl, refl))
-  starts_by true false o e = (refl, (e refl, refl))
-  starts_by false true o e = (refl, (refl, refl))
-  starts_by false false o e = (refl, (refl, refl))
+      → ((cond (not x) (begun None 0) (cond g (begun None 1) (begun (Some (normal_object p.object)) 0))).object ≡ object_as (cond g None (given x o)))
+      × ((cond (not x) (begun None 0) (cond g (begun None 1) (begun (Some (normal_object p.object)) 0))).drops ≡ one (g && is_some (given x o)))
+  starts_by true true o e = (refl, refl)
+  starts_by true false o e = (ap (λ (y : Object). Some y) (e refl), refl)
+  starts_by false true o e = (refl, refl)
+  starts_by false false o e = (refl, refl)
 
   abbrev asset : Asset
   asset = asset_of_place p b
 
-  starts : ((start_of p m.number).held ≡ is_some (after_headers asset m).held)
-      × (((start_of p m.number).object ≡ held_for (after_headers asset m).held)
-      × ((start_of p m.number).drops ≡ one (gap asset.number m.number && is_some asset.held)))
+  starts : ((start_of p m.number).object ≡ object_as (after_headers asset m).held)
+      × ((start_of p m.number).drops ≡ one (gap asset.number m.number && is_some asset.held))
   unfolding start_of after_headers asset_of_place
   starts =
       rw (← gap_is p b m.number)
       (starts_by p.held (gap_in p m.number) (mfu_of p.object b) (λ t. normal_is p.object b (long t)))
 
-  pub start_held : (start_of p m.number).held ≡ is_some (after_headers asset m).held
-  start_held = starts.0
-
-  pub start_object : (start_of p m.number).object ≡ held_for (after_headers asset m).held
-  start_object = starts.1.0
+  pub start_object : (start_of p m.number).object ≡ object_as (after_headers asset m).held
+  start_object = starts.0
 
   start_drops : (start_of p m.number).drops + asset.stats.mfus_dropped ≡ (after_headers asset m).stats.mfus_dropped
   unfolding after_headers
-  start_drops = rw starts.1.1 (omega arith)
+  start_drops = rw starts.1 (omega arith)
 
   pub start_zero : ((start_of p m.number).records ≡ 0) × (((start_of p m.number).bytes ≡ 0) × ((start_of p m.number).longest ≡ 0))
   unfolding start_of gap_in
@@ -144,43 +136,43 @@ module _ (p : Media) (b : Bytes) (m : MpuPacket) (long : p.held ≡ true → len
 -- ---- the MPU number
 
 module _ (p : Media) (b : Bytes) where
-  new_is : (h : MaybeHeader) → new_in p h ≡ new_mpu (asset_of_place p b).mpu (mpu_in (header_in h))
+  new_is : (h : Option PayloadHeader) → new_in p h ≡ new_mpu (asset_of_place p b).mpu (mpu_in (header_in h))
   unfolding new_in new_mpu asset_of_place
-  new_is no_payload = refl
-  new_is (payload h) = either p.mpu_seen (λ t. rw t) (λ f. rw f)
+  new_is None = refl
+  new_is (Some h) = either p.mpu_seen (λ t. rw t) (λ f. rw f)
 
-  jump_is : (h : MaybeHeader) → jump_in p h ≡ jumped (asset_of_place p b).mpu (mpu_in (header_in h))
+  jump_is : (h : Option PayloadHeader) → jump_in p h ≡ jumped (asset_of_place p b).mpu (mpu_in (header_in h))
   unfolding jump_in jumped asset_of_place
-  jump_is no_payload = refl
-  jump_is (payload h) =
+  jump_is None = refl
+  jump_is (Some h) =
       either p.mpu_seen
       (λ t. either (eqb h.mpu_sequence_number p.mpu) (λ x. rw (t, x)) (λ x. rw (t, x)))
       (λ f. rw f)
 
-  seen_is : (h : MaybeHeader) → seen_mpu p h ≡ is_some (mpu_after (asset_of_place p b).mpu (mpu_in (header_in h)))
-  unfolding mpu_after is_some asset_of_place
-  seen_is no_payload = either p.mpu_seen (λ t. rw t) (λ f. rw f)
-  seen_is (payload h) = refl
+  seen_is : (h : Option PayloadHeader) → seen_mpu p h ≡ is_some (mpu_after (asset_of_place p b).mpu (mpu_in (header_in h)))
+  unfolding mpu_after asset_of_place
+  seen_is None = either p.mpu_seen (λ t. rw t) (λ f. rw f)
+  seen_is (Some h) = refl
 
-  last_is : (h : MaybeHeader) → last_mpu p h ≡ or_else 0 (mpu_after (asset_of_place p b).mpu (mpu_in (header_in h)))
+  last_is : (h : Option PayloadHeader) → last_mpu p h ≡ or_else 0 (mpu_after (asset_of_place p b).mpu (mpu_in (header_in h)))
   unfolding mpu_after or_else asset_of_place
-  last_is no_payload = either p.mpu_seen (λ t. rw t) (λ f. rw f)
-  last_is (payload h) = refl
+  last_is None = either p.mpu_seen (λ t. rw t) (λ f. rw f)
+  last_is (Some h) = refl
 
-  abbrev range_then : MaybeHeader → Option (ℕ × ℕ)
+  abbrev range_then : Option PayloadHeader → Option (ℕ × ℕ)
   range_then h = range_after (new_mpu (asset_of_place p b).mpu (mpu_in (header_in h))) (asset_of_place p b).range (mpu_in (header_in h))
 
-  first_is : (h : MaybeHeader) → first_mpu_of p h ≡ first_in (range_then h)
+  first_is : (h : Option PayloadHeader) → first_mpu_of p h ≡ first_in (range_then h)
   unfolding first_mpu_of new_mpu range_after asset_of_place
-  first_is no_payload = either p.mpu_seen (λ t. rw t) (λ f. rw f)
-  first_is (payload h) =
+  first_is None = either p.mpu_seen (λ t. rw t) (λ f. rw f)
+  first_is (Some h) =
       either p.mpu_seen
       (λ t. either (eqb h.mpu_sequence_number p.mpu) (λ x. rw (t, x)) (λ x. rw (t, x)))
       (λ f. rw f)
 
-completes_is : (h : MaybeHeader) → completes_in h ≡ completes (header_in h)
-completes_is no_payload = refl
-completes_is (payload h) = refl
+completes_is : (h : Option PayloadHeader) → completes_in h ≡ completes (header_in h)
+completes_is None = refl
+completes_is (Some h) = refl
 
 dropped_of_lem : (p : Media) (b : Bytes) → (asset_of_place p b).stats.mfus_dropped ≡ p.stats.mfus_dropped
 unfolding asset_of_place
@@ -193,7 +185,7 @@ after_dropped a m = refl
 -- ---- the place
 
 module _ (id : ℕ) (p : Media) (b : Bytes) (m : MpuPacket) (long : p.held ≡ true → length b ≡ p.object.length)
-    (h : MaybeHeader) (eh : m.header ≡ header_in h) where
+    (h : Option PayloadHeader) (eh : m.header ≡ header_in h) where
   abbrev before : Asset
   before = asset_of_place p b
 
@@ -211,7 +203,7 @@ module _ (id : ℕ) (p : Media) (b : Bytes) (m : MpuPacket) (long : p.held ≡ t
         omega (arith, w.drops, d, e, x)
 
     pub place_told : place_after_of id p m.number m.scrambled h bad t ≡ place_for_asset id (asset_after before m)
-    unfolding place_after_of stats_after summed adds_of place_for_asset asset_after after_headers asset_of_place is_some or_else
+    unfolding place_after_of stats_after summed adds_of place_for_asset asset_after after_headers asset_of_place or_else
     place_told =
         let k = units_keep m (readable m) (after_headers before m) in
         let e0 : seen_mpu p h ≡ is_some (mpu_after before.mpu (mpu_in m.header)) =
@@ -228,6 +220,10 @@ module _ (id : ℕ) (p : Media) (b : Bytes) (m : MpuPacket) (long : p.held ≡ t
         let e6 = lost_is p b m.number in
         let e7 = mfus_after in
         let e8 = dropped_after in
+        let e9 : is_some t.object ≡ is_some (after_units m (after_headers before m) (readable m)).held =
+        ap (λ (o : Option Object). is_some o) w.object ∙ as_some (after_units m (after_headers before m) (readable m)).held in
+        let e10 : object_or t.object ≡ held_for (after_units m (after_headers before m) (readable m)).held =
+        ap object_or w.object ∙ as_object (after_units m (after_headers before m) (readable m)).held in
         subst (λ (x : Asset). place_after_of id p m.number m.scrambled h bad t ≡ place_for_asset id x) (sym k)
         (λ i.
         record {
@@ -237,8 +233,8 @@ module _ (id : ℕ) (p : Media) (b : Bytes) (m : MpuPacket) (long : p.held ≡ t
           mpu_seen = e0 i;
           mpu = e1 i;
           first_mpu = e2 i;
-          held = w.held i;
-          object = w.object i;
+          held = e9 i;
+          object = e10 i;
           stats =
               record {
                 packets = p.stats.packets + 1;

@@ -1,6 +1,6 @@
 -- Seats as they were found, the entries of places one by one, and those of media ids. Assumes nothing.
+use Rattle.std.specs.Prelude.{None, Option, Some}
 use Rattle.std.proofs.Common.{◌≡◌, ℕ, zero, suc, ◌+◌, ◌*◌, ◌<◌, ◌≤◌, Bool, true, false, ltb, List, [], ◌∷◌, map, length, get_or, set, refl, ap, ◌∙◌, add-zero, mul-zero, mul-suc, arith, ltb-false, ltb-true}
-use mathlib.Core.Option.{none, some}
 use lib.ListN.{length-map}
 use Rattle.isdb_tlv.specs.Bytes.{be}
 use Rattle.isdb_tlv.proofs.Guards.{either}
@@ -11,8 +11,6 @@ use Rattle.isdb_mmt.specs.Memory.Layout.{media_places, media_size, control_place
 use Rattle.isdb_mmt.specs.Memory.Session.{Session, limits_of, used_of, media_place_of, control_place_of, section_place_of}
 use Rattle.isdb_mmt.specs.Memory.Check.{media_in, controls_in, sections_in}
 use Rattle.isdb_mmt.specs.Memory.View.{asset_entry, control_entry}
-use Rattle.isdb_mmt.specs.declared.decoder.place.Found.{Found}
-use Rattle.isdb_mmt.specs.declared.decoder.place.Found.TheVariants.{At, Nothing}
 use Rattle.isdb_mmt.specs.declared.decoder.place.PlaceFor.TheVariants.{Own, Free, NoneFree}
 use Rattle.isdb_mmt.proofs.Lent.{names_of, length_places}
 use Rattle.isdb_mmt.proofs.Names.{true_not_false}
@@ -20,34 +18,34 @@ use Rattle.isdb_mmt.proofs.Views.{keys, keys_indexed, indexed_same}
 
 -- ---- places for a name, back
 
-pub place_for_was_old : (names : List ℕ) (limit x i : ℕ) → place_for_name names limit x ≡ Own i → found_from 0 names x ≡ At i
+pub place_for_was_old : (names : List ℕ) (limit x i : ℕ) → place_for_name names limit x ≡ Own i → found_from 0 names x ≡ Some i
 unfolding place_for_name
 place_for_was_old names limit x i e = go (found_from 0 names x) e
   where
-    go : (f : Found) → place_for_found (length names) limit f ≡ Own i → f ≡ At i
-    go (At j) d = cc
-    go Nothing d =
+    go : (f : Option ℕ) → place_for_found (length names) limit f ≡ Own i → f ≡ Some i
+    go (Some j) d = cc
+    go None d =
         either (ltb (length names) limit) (λ t. let z : ◌≡◌ {A = ℕ} 0 1 = cc (rw t at d) in absurd (omega arith))
         (λ t. let z : ◌≡◌ {A = ℕ} 0 1 = cc (rw t at d) in absurd (omega arith))
 
-pub place_for_was_new : (names : List ℕ) (limit x i : ℕ) → place_for_name names limit x ≡ Free i → (found_from 0 names x ≡ Nothing) × ((i ≡ length names) × (i < limit))
+pub place_for_was_new : (names : List ℕ) (limit x i : ℕ) → place_for_name names limit x ≡ Free i → (found_from 0 names x ≡ None) × ((i ≡ length names) × (i < limit))
 unfolding place_for_name
 place_for_was_new names limit x i e = go (found_from 0 names x) e
   where
-    go : (f : Found) → place_for_found (length names) limit f ≡ Free i → (f ≡ Nothing) × ((i ≡ length names) × (i < limit))
-    go (At j) d = let z : ◌≡◌ {A = ℕ} 0 1 = cc in absurd (omega arith)
-    go Nothing d =
+    go : (f : Option ℕ) → place_for_found (length names) limit f ≡ Free i → (f ≡ None) × ((i ≡ length names) × (i < limit))
+    go (Some j) d = let z : ◌≡◌ {A = ℕ} 0 1 = cc in absurd (omega arith)
+    go None d =
         either (ltb (length names) limit)
         (λ t. let q : i ≡ length names = cc (rw t at d) in (refl, (q, omega (arith, ltb-true (length names) limit t))))
         (λ t. let z : ◌≡◌ {A = ℕ} 0 1 = cc (rw t at d) in absurd (omega arith))
 
-pub place_for_was_full : (names : List ℕ) (limit x : ℕ) → place_for_name names limit x ≡ NoneFree → (found_from 0 names x ≡ Nothing) × (limit ≤ length names)
+pub place_for_was_full : (names : List ℕ) (limit x : ℕ) → place_for_name names limit x ≡ NoneFree → (found_from 0 names x ≡ None) × (limit ≤ length names)
 unfolding place_for_name
 place_for_was_full names limit x e = go (found_from 0 names x) e
   where
-    go : (f : Found) → place_for_found (length names) limit f ≡ NoneFree → (f ≡ Nothing) × (limit ≤ length names)
-    go (At j) d = let z : ◌≡◌ {A = ℕ} 0 1 = cc in absurd (omega arith)
-    go Nothing d =
+    go : (f : Option ℕ) → place_for_found (length names) limit f ≡ NoneFree → (f ≡ None) × (limit ≤ length names)
+    go (Some j) d = let z : ◌≡◌ {A = ℕ} 0 1 = cc in absurd (omega arith)
+    go None d =
         either (ltb (length names) limit)
         (λ t. let z : ◌≡◌ {A = ℕ} 0 1 = cc (rw t at d) in absurd (omega arith))
         (λ t. (refl, ltb-false (length names) limit t))
@@ -156,5 +154,5 @@ set_indexed g h d (x ∷ xs) k (suc i) v f =
     (λ j b n. let e : k + suc j ≡ k + 1 + j = omega arith in rw e at (f (suc j) (omega arith) (λ z. n (omega arith)))) in
     cc
 
-pub none_some : {A : Type 0} (h : A) → none ≡ some h → ⊥
+pub none_some : {A : Type 0} (h : A) → None ≡ Some h → ⊥
 none_some h e = let z : ◌≡◌ {A = ℕ} 0 1 = cc in omega arith

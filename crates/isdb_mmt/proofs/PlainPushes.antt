@@ -1,4 +1,5 @@
 -- A plain packet pushed: it is answered, committed and handed out as every media packet is. Assumes nothing.
+use Rattle.std.specs.Prelude.{None, Option, Some, is_some}
 use Rattle.std.proofs.Common.{◌≡◌, ℕ, ◌+◌, ◌-◌, ◌*◌, ◌≤◌, Bool, true, false, not, ◌&&◌, List, [], ◌∷◌, length, get_or, drop, sym, refl, ap, ◌∙◌, subst, arith, length-drop, w32, Fits, le-ltb, eq-eqb}
 use Rattle.isdb_tlv.specs.Guards.{◌<?◌}
 use Rattle.isdb_tlv.specs.Bytes.{be}
@@ -17,7 +18,7 @@ use Rattle.isdb_mmt.specs.Memory.Octets.{Octets}
 use Rattle.isdb_mmt.specs.Memory.Opening.{lent}
 use Rattle.isdb_mmt.specs.Pushes.Records.{object_for, row_size, row_fields, rows_from, data_from}
 use Rattle.isdb_mmt.specs.Pushes.MediaPush.{no_object, media_place_for, MediaPushed}
-use Rattle.isdb_mmt.specs.Pushes.MediaEffect.{complete_unit, with_unit, with_each_unit, units_effect}
+use Rattle.isdb_mmt.specs.Pushes.MediaEffect.{object_or, complete_unit, with_unit, with_each_unit, units_effect}
 use Rattle.isdb_mmt.specs.Pushes.MediaPlace.{gap_in, lost_in, begun, start_of, new_in, jump_in, first_mpu_of, adds_of, summed, stats_after, place_after_of}
 use Rattle.isdb_mmt.specs.Pushes.MediaOutcome.{outcome_with, units_outcome, outcome_by, media_outcome}
 use Rattle.isdb_mmt.specs.Pushes.Giving.{unit_rec, unit_recs, Gave}
@@ -26,11 +27,7 @@ use Rattle.isdb_mmt.specs.Pushes.Push.{Input, input, PacketPushed, Pushed}
 use Rattle.isdb_mmt.specs.Pushes.PushAllSteps.{MayBeKnown}
 use Rattle.isdb_mmt.specs.Pushes.Plain.{payload_start, whole_unit, is_mpu, is_unit, unit_bytes, is_next, plain_header, next_of, NextAt, FreeHeader, CanStorePlain, CanPushUnit, WholeUnit, RoomForUnit, UnitPushed, CanTryPlain, PlainPushed}
 use Rattle.isdb_mmt.specs.declared.mpu.PayloadHeader.{PayloadHeader}
-use Rattle.isdb_mmt.specs.declared.mpu.MaybeHeader.{MaybeHeader}
-use Rattle.isdb_mmt.specs.declared.mpu.MaybeHeader.TheVariants.{None as no_payload, Some as payload}
 use Rattle.isdb_mmt.specs.declared.decoder.limits.Limits.{Limits}
-use Rattle.isdb_mmt.specs.declared.decoder.place.Found.{Found}
-use Rattle.isdb_mmt.specs.declared.decoder.place.Found.TheVariants.{At}
 use Rattle.isdb_mmt.specs.declared.decoder.place.PlaceFor.TheVariants.{Own}
 use Rattle.isdb_mmt.specs.declared.mpu.Unit.{Unit as DataUnit}
 use Rattle.isdb_mmt.specs.declared.decoder.media.Object.{Object}
@@ -51,7 +48,7 @@ use Rattle.isdb_mmt.proofs.PlainTests.{mpu_facts, plain_media, unit_facts, unit_
 
 -- ---- what it does to its place
 
-start_free : (m : Media) (n : ℕ) → m.held ≡ false → start_of m n ≡ begun false no_object 0
+start_free : (m : Media) (n : ℕ) → m.held ≡ false → start_of m n ≡ begun None 0
 unfolding start_of
 start_free m n e = rw e
 
@@ -63,15 +60,15 @@ module _ (m : Media) (n mpu : ℕ) (next : is_next m n mpu ≡ true) (x : Payloa
   unfolding lost_in gap_in
   none_lost = rw (facts.seen, facts.follows_on)
 
-  none_new : new_in m (payload x) ≡ false
+  none_new : new_in m (Some x) ≡ false
   unfolding new_in
   none_new = rw (facts.mpu_seen, eq-eqb x.mpu_sequence_number m.mpu (ex ∙ sym facts.same))
 
-  no_jump : jump_in m (payload x) ≡ false
+  no_jump : jump_in m (Some x) ≡ false
   unfolding jump_in
   no_jump = rw (facts.mpu_seen, eq-eqb x.mpu_sequence_number m.mpu (ex ∙ sym facts.same))
 
-  first_is : first_mpu_of m (payload x) ≡ m.first_mpu
+  first_is : first_mpu_of m (Some x) ≡ m.first_mpu
   unfolding first_mpu_of
   first_is = rw facts.mpu_seen
 
@@ -79,8 +76,8 @@ module _ (m : Media) (n mpu : ℕ) (next : is_next m n mpu ≡ true) (x : Payloa
   more a b e = omega arith
 
   -- what it leaves, with what it did to the object and how many units it handed out
-  module _ (t : MediaEffect) (d : t.drops ≡ 0) (held : Bool) (eh : t.held ≡ held) (o : Object) (eo : t.object ≡ o) (units : ℕ) (eu : m.stats.mfus + t.records ≡ units) where
-    pub place_with : place_after_of m.packet_id m n false (payload x) false t
+  module _ (t : MediaEffect) (d : t.drops ≡ 0) (held : Bool) (eh : is_some t.object ≡ held) (o : Object) (eo : object_or t.object ≡ o) (units : ℕ) (eu : m.stats.mfus + t.records ≡ units) where
+    pub place_with : place_after_of m.packet_id m n false (Some x) false t
         ≡ record {
           packet_id = m.packet_id;
           seen = true;
@@ -123,8 +120,8 @@ module _ (m : Media) (n mpu : ℕ) (next : is_next m n mpu ≡ true) (x : Payloa
                 mfus = eu i;
                 scrambled_mfus = more m.stats.scrambled_mfus 0 refl i;
                 mfus_dropped = more m.stats.mfus_dropped t.drops d i;
-                mpus = more m.stats.mpus (one (new_in m (payload x))) (ap one none_new) i;
-                mpu_sequence_jumps = more m.stats.mpu_sequence_jumps (one (jump_in m (payload x))) (ap one no_jump) i;
+                mpus = more m.stats.mpus (one (new_in m (Some x))) (ap one none_new) i;
+                mpu_sequence_jumps = more m.stats.mpu_sequence_jumps (one (jump_in m (Some x))) (ap one no_jump) i;
                 malformed = more m.stats.malformed 0 refl i;
               };
         }
@@ -163,12 +160,12 @@ plain_left s x =
 -- the code that comes so far
 module _ (st ot ob me ta : List ℕ) (h : Header) (b rows out : Bytes) (can : CanPushUnit whole_unit (lent st ot ob me ta) h b)
     (row : row_size ≤ length rows) (k : ℕ) (ek : k ≡ be 2 b 0) (room : k - 20 ≤ length out)
-    (mpu : ℕ) (em : mpu ≡ be 4 b 4) (f : Found) (w : NextAt st h.packet_id h.sequence mpu f) (i : ℕ) (ef : f ≡ At i)
-    (hd : MaybeHeader) (ehd : FreeHeader st i b hd) (x : PayloadHeader) (exd : hd ≡ payload x) where
-  place : NextAt st h.packet_id h.sequence mpu (At i)
+    (mpu : ℕ) (em : mpu ≡ be 4 b 4) (f : Option ℕ) (w : NextAt st h.packet_id h.sequence mpu f) (i : ℕ) (ef : f ≡ Some i)
+    (hd : Option PayloadHeader) (ehd : FreeHeader st i b hd) (x : PayloadHeader) (exd : hd ≡ Some x) where
+  place : NextAt st h.packet_id h.sequence mpu (Some i)
   place = rw ef at w
 
-  header : FreeHeader st i b (payload x)
+  header : FreeHeader st i b (Some x)
   header = rw exd at ehd
 
   pub whole_unit_lem : WholeUnit (lent st ot ob me ta) h b rows out i x
@@ -205,15 +202,15 @@ module _ (st ot ob me ta : List ℕ) (h : Header) (b rows out : Bytes) (i : ℕ)
   abbrev r : MediaOutcome
   r = media_outcome m h.sequence h.scramble_info h.rap b
 
-  header_is : payload x ≡ payload (payload_header_fields b)
+  header_is : Some x ≡ Some (payload_header_fields b)
   header_is = sym whole.header ∙ unit_header whole_unit b can.unit
 
   x_is : x ≡ payload_header_fields b
-  x_is = ap (λ (y : MaybeHeader). header_given y) header_is
+  x_is = ap (λ (y : Option PayloadHeader). header_given y) header_is
     where
-      header_given : MaybeHeader → PayloadHeader
-      header_given no_payload = payload_header_fields b
-      header_given (payload y) = y
+      header_given : Option PayloadHeader → PayloadHeader
+      header_given None = payload_header_fields b
+      header_given (Some y) = y
 
   abbrev y : PayloadHeader
   y = payload_header_fields b
@@ -222,9 +219,9 @@ module _ (st ot ob me ta : List ℕ) (h : Header) (b rows out : Bytes) (i : ℕ)
   long = unit_there whole_unit b can.unit
 
   abbrev t : MediaEffect
-  t = complete_unit (begun false no_object 0) (unit_here (declared_of b) long).«data» (length (part_of (declared_of b) (unit_here (declared_of b) long).«data»))
+  t = complete_unit (begun None 0) (unit_here (declared_of b) long).«data» (length (part_of (declared_of b) (unit_here (declared_of b) long).«data»))
 
-  outcome_here : r ≡ outcome_with false true (payload y) t
+  outcome_here : r ≡ outcome_with false true (Some y) t
   unfolding media_outcome outcome_by units_outcome units_effect with_each_unit with_unit
   outcome_here =
       let g = whole_facts b can.unit in

@@ -1,7 +1,7 @@
 -- The tests that tell a plain packet: what each return of the code says, and what an answer yes says of the packet, its payload and its
 -- place. Assumes nothing.
+use Rattle.std.specs.Prelude.{None, Option, Some}
 use Rattle.std.proofs.Common.{◌≡◌, ℕ, zero, suc, ◌+◌, ◌-◌, ◌*◌, ◌/◌, ◌%◌, ◌<◌, ◌≤◌, Bool, true, false, not, eqb, ltb, leb, List, [], ◌∷◌, length, get_or, take, drop, sym, refl, ap, ◌∙◌, add-zero, mul-zero, mul-suc, arith, length-drop, length-take-le, get_or-drop, take_all, get_or-take, drop-drop, w32, w64, Fits, ltb-false, le-ltb, lt-ltb, eq-eqb, ne_eqb, eqb-true, le-leb, leb-false}
-use mathlib.Core.Option.{some}
 use borrow.Author.Tests.{lt-leb, eqb-false}
 use Rattle.isdb_tlv.specs.Bytes.{be}
 use Rattle.isdb_tlv.proofs.Numbers.{be_take, be_drop}
@@ -11,12 +11,9 @@ use Rattle.isdb_tlv.specs.Tlv.{packet_type}
 use Rattle.isdb_tlv.specs.Ip.{datagram, context_id, compressed_of}
 use Rattle.isdb_tlv.specs.Mmtp.{payload_type_of, after_fixed, header_of, mmtp_of}
 use Rattle.isdb_tlv.specs.declared.tlv.PacketType.TheVariants.{Compressed}
-use Rattle.isdb_tlv.specs.declared.ip.MaybeFlow.TheVariants.{None as no_flow_of}
-use Rattle.isdb_tlv.specs.declared.ip.MaybeContext.TheVariants.{Some as some_context}
 use Rattle.isdb_tlv.specs.declared.mmtp.Header.{Header}
 use Rattle.isdb_tlv.specs.declared.mmtp.PayloadType.TheVariants.{Mpu}
 use Rattle.isdb_tlv.specs.declared.mmtp.Scramble.TheVariants.{Absent}
-use Rattle.isdb_tlv.specs.declared.mmtp.Parsed.TheVariants.{Some as some_packet}
 use Rattle.isdb_mmt.specs.Decoder.Packet.{Bytes, media, media_of, by_type, mmtp_in, datagram_in, by_kind, classify}
 use Rattle.isdb_mmt.specs.Formats.Part.{part_of}
 use Rattle.isdb_mmt.specs.Formats.Mpu.{fragment_type_of, indicator, payload_header_fields, payload_header, declared_of, mfu_at, timed_unit, unit_in, unit_at, unit_step, units_from, units_of, follows}
@@ -30,14 +27,9 @@ use Rattle.isdb_mmt.specs.declared.mpu.FragmentType.TheVariants.{Mfu}
 use Rattle.isdb_mmt.specs.declared.mpu.FragmentationIndicator.{FragmentationIndicator}
 use Rattle.isdb_mmt.specs.declared.mpu.FragmentationIndicator.TheVariants.{Complete, Middle}
 use Rattle.isdb_mmt.specs.declared.mpu.PayloadHeader.{PayloadHeader}
-use Rattle.isdb_mmt.specs.declared.mpu.MaybeHeader.{MaybeHeader}
-use Rattle.isdb_mmt.specs.declared.mpu.MaybeHeader.TheVariants.{None as no_payload, Some as payload}
-use Rattle.isdb_mmt.specs.declared.maybe.MaybeU32.TheVariants.{Some as some_u32}
 use Rattle.isdb_mmt.specs.declared.mpu.Unit.{Unit as DataUnit}
 use Rattle.isdb_mmt.specs.declared.mpu.UnitStep.TheVariants.{End, Unit as found}
 use Rattle.isdb_mmt.specs.declared.decoder.media.Media.{Media}
-use Rattle.isdb_mmt.specs.declared.decoder.place.Found.{Found}
-use Rattle.isdb_mmt.specs.declared.decoder.place.Found.TheVariants.{At}
 use Rattle.isdb_mmt.specs.declared.decoder.place.PlaceFor.TheVariants.{Own}
 use Rattle.isdb_mmt.proofs.Guards.{no, yes, was_left, was_guarded}
 use Rattle.isdb_mmt.proofs.Lent.{name_of}
@@ -108,7 +100,7 @@ module _ (kind : ℕ) (b : Bytes) (f : MpuFacts kind b) where
   unfolding packet_type
   kind_read = rw f.kind_is
 
-  ip_read : compressed_of b ≡ datagram (some_context (context_id b)) no_flow_of 3
+  ip_read : compressed_of b ≡ datagram (Some (context_id b)) None 3
   unfolding compressed_of
   ip_read = rw (le-ltb (length b) 3 (omega (arith, f.long)), f.header)
 
@@ -118,7 +110,7 @@ module _ (kind : ℕ) (b : Bytes) (f : MpuFacts kind b) where
   abbrev read : Header
   read = header_of (drop 3 b) flags Absent
 
-  mmtp_read : mmtp_of (drop 3 b) ≡ some_packet (record { header = read; start = 12 })
+  mmtp_read : mmtp_of (drop 3 b) ≡ Some (record { header = read; start = 12 })
   unfolding mmtp_of after_fixed
   mmtp_read =
       let n : 12 ≤ length (drop 3 b) = omega (arith, length-drop 3 b, f.long) in
@@ -208,7 +200,7 @@ middle_facts p e =
     record { kind = rw f; timed = rw f; division = rw f; single = rw f; mpu = refl }
 
 module _ (flags : ℕ) (p : Bytes) (e : is_unit flags p ≡ true) where
-  pub unit_header : payload_header p ≡ payload (payload_header_fields p)
+  pub unit_header : payload_header p ≡ Some (payload_header_fields p)
   unfolding payload_header
   unit_header =
       let f = unit_facts flags p e in
@@ -236,10 +228,10 @@ module _ (q : Bytes) (long : 22 ≤ length q) where
   unfolding unit_step
   last_step = rw (le-ltb (length q) 8 (omega arith), lt-leb (length q) 8 (omega arith), le-leb (length q) (length q) (omega arith))
 
-  none_behind : units_from q true false (length q) ≡ some []
+  none_behind : units_from q true false (length q) ≡ Some []
   none_behind = units_at q true false (length q) ∙ rw last_step
 
-  pub one_unit : units_of q true false ≡ some (unit_here ∷ [])
+  pub one_unit : units_of q true false ≡ Some (unit_here ∷ [])
   unfolding units_of
   one_unit =
       units_also q true false 8 (length q) unit_here (found unit_here (length q)) (sym first_step) refl
@@ -299,8 +291,8 @@ next_facts m n mpu e =
     let a3 = was_guarded (eqb m.mpu mpu) _ a2.1 in
     record { seen = a1.0; mpu_seen = a2.0; same = eqb-true m.mpu mpu a3.0; follows_on = a3.1 }
 
-pub next_index : (l : List ℕ) (id n mpu i : ℕ) (f : Found) → NextAt l id n mpu f → f ≡ At i → i < most_media_ids
-next_index l id n mpu i f w e = let h : NextAt l id n mpu (At i) = rw e at w in h.1.1
+pub next_index : (l : List ℕ) (id n mpu i : ℕ) (f : Option ℕ) → NextAt l id n mpu f → f ≡ Some i → i < most_media_ids
+next_index l id n mpu i f w e = let h : NextAt l id n mpu (Some i) = rw e at w in h.1.1
 
 -- the object that it holds
 module _ (p : List ℕ) (x : Bool) (ex : x ≡ flag p held_place) where
@@ -340,7 +332,7 @@ module _ (l : List ℕ) (i n : ℕ) (can : CanGrow l i n) (p : List ℕ) (ep : p
   unfolding limits_of
   length_cast = record { fits = omega (arith, ea, can.area, h) }
 
-  pub has_grown : GrownAt l i n (some_u32 (o + n))
+  pub has_grown : GrownAt l i n (Some (o + n))
   unfolding limits_of media_place_of held_object_at
   has_grown = (
     ap (λ (v : List ℕ). growing (media_place_of v)) (sym ep) ∙ yes er t,
@@ -353,12 +345,12 @@ module _ (l : List ℕ) (i : ℕ) (b : Bytes) (p : List ℕ) (ep : p ≡ take me
   unfolding media_place_of
   none_here = ap (λ (v : List ℕ). flag v held_place) (sym ep) ∙ sym er ∙ free
 
-  pub free_header : (h : MaybeHeader) → h ≡ payload_header b → FreeHeader l i b h
-  free_header no_payload e = tt
-  free_header (payload x) e = (none_here, sym e)
+  pub free_header : (h : Option PayloadHeader) → h ≡ payload_header b → FreeHeader l i b h
+  free_header None e = tt
+  free_header (Some x) e = (none_here, sym e)
 
 -- a name that was found stands there
-pub found_name : (l : List ℕ) (size n at k x j : ℕ) → found_from k (names_from n size at l) x ≡ At j
+pub found_name : (l : List ℕ) (size n at k x j : ℕ) → found_from k (names_from n size at l) x ≡ Some j
     → (k ≤ j) × ((j < k + n) × (be 4 l (at + size * (j - k)) ≡ x))
 unfolding found_from names_from
 found_name l size zero at k x j e = true_not_false true refl (ap there (sym e))
@@ -386,7 +378,7 @@ module _ (s : List ℕ) (id i : ℕ) (own : media_place_for s id ≡ Own i) wher
   unfolding media_place_of
   own_id =
       let z : i - 0 ≡ i = omega arith in
-      name_of media_size (media_places + media_size * i) s (omega arith) ∙ (rw z at own_name.1.1)
+      name_of 4 media_size (media_places + media_size * i) s (omega arith) ∙ (rw z at own_name.1.1)
 
 -- the code that finds a place
 module _ (s : List ℕ) (can : PlacesThere s) where
@@ -404,7 +396,7 @@ module _ (s : List ℕ) (can : PlacesThere s) (k : ℕ) (ek : k ≡ be 4 s used_
   pub places_in : (4 ≤ media_size) × (media_places + k * media_size ≤ length s)
   places_in = (omega arith, omega (arith, few, can.long))
 
-  module _ (id : ℕ) (f : Found) (ef : f ≡ found_from 0 (names_from k media_size media_places s) id) (i : ℕ) (at_i : f ≡ At i) where
+  module _ (id : ℕ) (f : Option ℕ) (ef : f ≡ found_from 0 (names_from k media_size media_places s) id) (i : ℕ) (at_i : f ≡ Some i) where
     index_small : i < most_media_ids
     index_small = omega (arith, (found_name s media_size k media_places 0 id i (sym ef ∙ at_i)).1.0, few)
 
@@ -415,7 +407,7 @@ module _ (s : List ℕ) (can : PlacesThere s) (k : ℕ) (ek : k ≡ be 4 s used_
     place_fits = record { fits = omega (arith, index_small) }
 
     pub next_found : (n mpu : ℕ) (p : List ℕ) → p ≡ take media_size (drop (media_places + media_size * i) s)
-        → (r : Bool) → r ≡ is_next (media_place_of p) n mpu → r ≡ true → NextAt s id n mpu (At i)
+        → (r : Bool) → r ≡ is_next (media_place_of p) n mpu → r ≡ true → NextAt s id n mpu (Some i)
     unfolding media_place_for
     next_found n mpu p ep r er t = (
       sym (place_for_old s media_size (used_of s).media_ids media_places (limits_of s).media_ids id f (ef ∙ ap (λ v. found_from 0 (names_from v media_size media_places s) id) k_is) i at_i),

@@ -1,4 +1,5 @@
 -- Many packets in one call: one step, and the steps one after the other. Assumes nothing.
+use Rattle.std.specs.Prelude.{Result, Ok, Err}
 use Rattle.std.proofs.Common.{◌≡◌, ℕ, ◌+◌, ◌-◌, ◌*◌, ◌<◌, ◌≤◌, Bool, true, false, eqb, ltb, List, [], ◌∷◌, ◌++◌, length, take, drop, sym, refl, ap, ◌∙◌, subst, append-nil, arith, length-drop, take-append-drop, drop_of_length-le, take_all, ltb-false, ltb-true, le-ltb, lt-ltb, eq-eqb, ne_eqb}
 use borrow.Rule.Slice.PartMut.{mid_of, put_mid}
 use Rattle.isdb_tlv.specs.Bytes.{put_be}
@@ -19,8 +20,6 @@ use Rattle.isdb_mmt.specs.Pushes.Push.{Input, input, asks, Pushed, leaves_of, Re
 use Rattle.isdb_mmt.specs.Pushes.PushAll.{line_size, line_fields, header_size, Run, ran, halt_at, pushed_each, nothing_taken, AllPushed, run_of, input_at, progress_after, after_packet}
 use Rattle.isdb_mmt.specs.Pushes.PushAllSteps.{pushed_from, ProgressFits, asked_once, AtTurn, TookPacket, Turned, MayBeKnown, PushedBehind, HasRest, OnePushed}
 use Rattle.isdb_mmt.specs.declared.decoder.records.Answer.{Answer}
-use Rattle.isdb_mmt.specs.declared.decoder.many.Turn.{Turn}
-use Rattle.isdb_mmt.specs.declared.decoder.many.Turn.TheVariants.{Taken, Halted}
 use Rattle.isdb_mmt.specs.declared.decoder.many.Progress.{Progress}
 use Rattle.isdb_mmt.specs.declared.decoder.many.Pushes.{Pushes}
 use Rattle.isdb_mmt.specs.declared.decoder.many.Halt.{Halt}
@@ -296,7 +295,7 @@ module _ (known : Bool) (input : Bytes) (c : Run) (h : AtTurn known input c) (fu
     own_bytes : OnePushed c (record { kind = kind; bytes = take n (drop start input) }) a s' rows' out' lines'
     own_bytes = rw eb at q
 
-    pub turn_refused : (a.number ≡ 0 → ⊥) → Turned known input most c (Halted (Refused a.number)) s' rows' out' lines'
+    pub turn_refused : (a.number ≡ 0 → ⊥) → Turned known input most c (Err (Refused a.number)) s' rows' out' lines'
     turn_refused z = halts_refused known input most c h k ek kind start n next d full ef ff a s' rows' out' lines' own_bytes z
 
     module _ (z : a.number ≡ 0) where
@@ -306,7 +305,7 @@ module _ (known : Bool) (input : Bytes) (c : Run) (h : AtTurn known input c) (fu
       pub turn_taken : Octets b → length s'.others ≡ length c.session.others → length rows' ≡ length c.rows → length out' ≡ length c.out
           → length lines' ≡ length c.lines → (y : Progress)
           → y ≡ record { at = next; packets = c.progress.packets + 1; records = c.progress.records + a.records; bytes = c.progress.bytes + a.bytes }
-          → Turned known input most c (Taken y) s' rows' out' lines'
+          → Turned known input most c (Ok y) s' rows' out' lines'
       turn_taken o e1 e2 e3 e4 y ey =
           subst (λ (w : Progress). TookPacket known input most c (run_of s' rows' out' lines' w)) (sym ey)
           (turned_on known input most c h k ek kind start n next d full ef ff a s' rows' out' lines' own_bytes z (rw eb at o) e1 e2 e3 e4)
@@ -342,15 +341,15 @@ running_first known input most c h =
 pub turn_can : (known : Bool) (input : Bytes) (most : ℕ) (c₀ c : Run) → Running known input most c₀ c → AtTurn known input c
 turn_can known input most c₀ c h = h.holds
 
-module _ (known : Bool) (input : Bytes) (most : ℕ) (c₀ c : Run) (h : Running known input most c₀ c) (t : Turn) (s' : Session) (rows' out' lines' : Bytes)
+module _ (known : Bool) (input : Bytes) (most : ℕ) (c₀ c : Run) (h : Running known input most c₀ c) (t : Result Progress Halt) (s' : Session) (rows' out' lines' : Bytes)
     (q : Turned known input most c t s' rows' out' lines') where
-  is_taken : (y : Progress) → t ≡ Taken y → TookPacket known input most c (run_of s' rows' out' lines' y)
+  is_taken : (y : Progress) → t ≡ Ok y → TookPacket known input most c (run_of s' rows' out' lines' y)
   is_taken y e = rw e at q
 
-  pub turn_less : (y : Progress) → t ≡ Taken y → length input - y.at < length input - c.progress.at
+  pub turn_less : (y : Progress) → t ≡ Ok y → length input - y.at < length input - c.progress.at
   turn_less y e = (is_taken y e).ahead
 
-  pub running_next : (y : Progress) → t ≡ Taken y → length s'.state ≡ length c.session.state → length s'.others ≡ length c.session.others
+  pub running_next : (y : Progress) → t ≡ Ok y → length s'.state ≡ length c.session.state → length s'.others ≡ length c.session.others
       → length s'.objects ≡ length c.session.objects → length s'.messages ≡ length c.session.messages
       → length s'.tables ≡ length c.session.tables → length rows' ≡ length c.rows → length out' ≡ length c.out
       → length lines' ≡ length c.lines → Running known input most c₀ (run_of s' rows' out' lines' y)
@@ -369,12 +368,12 @@ module _ (known : Bool) (input : Bytes) (most : ℕ) (c₀ c : Run) (h : Running
         lines = e8 ∙ h.lines;
       }
 
-  pub runs_halted : (w : Halt) → t ≡ Halted w → ran (run_of s' rows' out' lines' c.progress) w ≡ pushed_from input most c₀
+  pub runs_halted : (w : Halt) → t ≡ Err w → ran (run_of s' rows' out' lines' c.progress) w ≡ pushed_from input most c₀
   runs_halted w e = (rw e at q) ∙ sym h.same
 
 pub ran_all : (known : Bool) (input : Bytes) (most : ℕ) (s : Session) (rows out lines : Bytes) (c : Run)
-    (h : Running known input most (run_of s rows out lines nothing_taken) c) (t : Turn) (s' : Session) (rows' out' lines' : Bytes)
-    → Turned known input most c t s' rows' out' lines' → (w : Halt) → t ≡ Halted w → (a : Pushes) → a ≡ record { progress = c.progress; halt = w }
+    (h : Running known input most (run_of s rows out lines nothing_taken) c) (t : Result Progress Halt) (s' : Session) (rows' out' lines' : Bytes)
+    → Turned known input most c t s' rows' out' lines' → (w : Halt) → t ≡ Err w → (a : Pushes) → a ≡ record { progress = c.progress; halt = w }
     → AllPushed s input most rows out lines a s' rows' out' lines'
 unfolding recording_of
 ran_all known input most s rows out lines c h t s' rows' out' lines' q w e a ea =

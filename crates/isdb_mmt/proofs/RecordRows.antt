@@ -1,4 +1,6 @@
 -- Rows of records: what was written is read back. Assumes nothing.
+use Rattle.std.specs.Prelude.{None, Option, Some, is_some, unwrap_or}
+use Rattle.isdb_mmt.specs.declared.mpu.MfuHeader.{MfuHeader}
 use Rattle.std.proofs.Common.{◌≡◌, ℕ, ◌+◌, ◌*◌, Bool, true, false, List, [], ◌∷◌, ◌++◌, map, length, take, drop, sym, refl, ap, ◌∙◌, append_assoc, arith, length-append, take_at}
 use lib.Seq.{take-append_seam, drop-append_seam}
 use Rattle.isdb_tlv.specs.Bytes.{be}
@@ -8,13 +10,8 @@ use Rattle.isdb_mmt.specs.Memory.Lent.{part, over, flag_byte, places_from}
 use Rattle.isdb_mmt.specs.Decoder.Objects.{Rec}
 use Rattle.isdb_mmt.specs.Decoder.Needs.{data_of}
 use Rattle.isdb_mmt.specs.Memory.View.{header_given, item_given}
-use Rattle.isdb_mmt.specs.Formats.Maybe.{number_u32, has_u32}
-use Rattle.isdb_mmt.specs.Formats.Mpu.{header_or, has_header}
+use Rattle.isdb_mmt.specs.Formats.Mpu.{header_or}
 use Rattle.isdb_mmt.specs.Pushes.Records.{object_for, row_fields, row_of, rows_from, data_from, bit_of, read_row, read_rows}
-use Rattle.isdb_mmt.specs.declared.maybe.MaybeU32.{MaybeU32}
-use Rattle.isdb_mmt.specs.declared.maybe.MaybeU32.TheVariants.{None as no_u32, Some as some_u32}
-use Rattle.isdb_mmt.specs.declared.mpu.MaybeMfu.{MaybeMfu}
-use Rattle.isdb_mmt.specs.declared.mpu.MaybeMfu.TheVariants.{None as no_mfu, Some as some_mfu}
 use Rattle.isdb_mmt.proofs.Stored.{Holds, holds_written}
 
 -- the flags, bit by bit
@@ -37,13 +34,13 @@ flag_bits_lem false false true false n e = rw e (refl, (refl, (refl, refl)))
 flag_bits_lem false false false true n e = rw e (refl, (refl, (refl, refl)))
 flag_bits_lem false false false false n e = rw e (refl, (refl, (refl, refl)))
 
-pub header_back : (o : MaybeMfu) → header_given (has_header o) (header_or o) ≡ o
-header_back no_mfu = refl
-header_back (some_mfu h) = refl
+pub header_back : (o : Option MfuHeader) → header_given (is_some o) (header_or o) ≡ o
+header_back None = refl
+header_back (Some h) = refl
 
-pub item_back : (o : MaybeU32) → item_given (has_u32 o) (number_u32 o) ≡ o
-item_back no_u32 = refl
-item_back (some_u32 i) = refl
+pub item_back : (o : Option ℕ) → item_given (is_some o) (unwrap_or o 0) ≡ o
+item_back None = refl
+item_back (Some i) = refl
 
 -- every number of a record's row fits its field
 abbrev pub RowFits : Rec → ℕ → Type 0

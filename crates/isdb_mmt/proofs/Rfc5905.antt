@@ -1,6 +1,6 @@
 -- What a sender that conforms to RFC 5905 writes is read right. Assumes nothing.
+use Rattle.std.specs.Prelude.{Some}
 use Rattle.std.proofs.Common.{◌≡◌, ℕ, List, [], ◌∷◌, ◌++◌, length, refl, ◌∙◌, append_assoc, append-nil, arith, length-append, le-ltb}
-use mathlib.Core.Option.{some}
 use Rattle.isdb_tlv.specs.Bytes.{be}
 use Rattle.isdb_tlv.specs.Fields.{bytes_of, Field, field, written}
 use Rattle.isdb_tlv.specs.Tlv.{packet_type}
@@ -59,7 +59,7 @@ module _ (p : Packet) (c : PacketConforming p) (r : List ℕ) where
       rw (split p, append_assoc (before p) t r)
       (be_behind 8 (before p) (t ++ r) (before_length p) 0 ∙ inside ∙ number p.transmit c.transmit)
 
-  taken : to_port (packet_sent p ++ r) 123 ≡ ntp (some (ticks p.transmit))
+  taken : to_port (packet_sent p ++ r) 123 ≡ ntp (Some (ticks p.transmit))
   taken =
       let long = packet_length in
       rw (le-ltb (length (packet_sent p ++ r)) 48 (omega (arith, length-append (packet_sent p) r)), transmit_read)

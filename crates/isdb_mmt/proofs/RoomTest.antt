@@ -1,16 +1,15 @@
 -- The test whether counts are far enough from 2^53. Assumes nothing.
-use Rattle.std.proofs.Common.{◌≡◌, ℕ, ◌<◌, ◌≤◌, Bool, true, false, not, List, [], ◌∷◌, ◌++◌, map, length, sym, ◌∙◌, le-leb, leb-true}
+use Rattle.std.proofs.Common.{◌≡◌, ℕ, ◌<◌, ◌≤◌, Bool, true, false, not, List, [], ◌∷◌, ◌++◌, length, sym, refl, ◌∙◌, le-leb, leb-true}
 use borrow.Author.Tests.{lt-leb}
 use Rattle.isdb_tlv.specs.Guards.{◌≤?◌}
 use Rattle.isdb_mmt.specs.Memory.Octets.{Lent}
-use Rattle.isdb_mmt.specs.Memory.Layout.{stats_place, counters_place, media_places, media_size}
-use Rattle.isdb_mmt.specs.Memory.Lent.{places_from, every}
-use Rattle.isdb_mmt.specs.Memory.Session.{Session, used_of, counters_of, media_place_of, stats_of}
+use Rattle.isdb_mmt.specs.Memory.Layout.{stats_place, counters_place}
+use Rattle.isdb_mmt.specs.Memory.Lent.{every}
+use Rattle.isdb_mmt.specs.Memory.Session.{Session, counters_of, media_place_of, stats_of}
 use Rattle.isdb_mmt.specs.Memory.Check.{at_most, counts_from, packet_counts, table_counts, stats_counts, media_in, stats_at_most, counts_at_most, roomy_count, lengths_of, sound_in, sound, PlacesThere}
 use Rattle.isdb_mmt.specs.Pushes.PushAllSteps.{most_input, asked_once}
 use Rattle.isdb_mmt.specs.Theorems.Room.{AllAtMost, MediaWithin, CountsWithin, SoundWithin}
 use Rattle.isdb_mmt.specs.declared.decoder.limits.Lengths.{Lengths}
-use Rattle.isdb_mmt.specs.declared.decoder.head.Used.{Used}
 use Rattle.isdb_mmt.specs.declared.decoder.media.Media.{Media}
 use Rattle.isdb_mmt.proofs.Guards.{yes, guard_holds, guard_fails, was_both, was_guarded}
 use Rattle.isdb_mmt.proofs.Checks.{every_both, sound_is}
@@ -19,24 +18,10 @@ pub media_room : (p : List ℕ) (r : Bool) → r ≡ every (at_most roomy_count)
 unfolding stats_at_most media_place_of stats_of counts_from
 media_room p r e = e
 
-module _ (s others : List ℕ) (a : Bool) (ea : a ≡ every (at_most roomy_count) (counts_from 12 counters_place s)) where
-  counters_room : a ≡ every (at_most roomy_count) (packet_counts (counters_of s) ++ table_counts (counters_of s))
-  unfolding counts_from counters_of
-  counters_room = ea
-
-  pub counters_high : not a ≡ true → false ≡ counts_at_most roomy_count s others
-  unfolding counts_at_most
-  counters_high t = guard_fails _ counters_room t
-
-  module _ (ta : not a ≡ false) (u : Used) (eu : u ≡ used_of s) (b : Bool)
-      (eb : b ≡ every (stats_at_most roomy_count) (map media_place_of (places_from u.media_ids media_size media_places s))) where
-    pub media_high : not b ≡ true → false ≡ counts_at_most roomy_count s others
-    unfolding counts_at_most media_in
-    media_high t = guard_holds counters_room ta (guard_fails _ (rw eu at eb) t)
-
-    pub others_room : not b ≡ false → (c : Bool) → c ≡ every (at_most roomy_count) others → c ≡ counts_at_most roomy_count s others
-    unfolding counts_at_most media_in
-    others_room t c ec = guard_holds counters_room ta (guard_holds (rw eu at eb) t ec)
+pub counters_room : (most : ℕ) (s : List ℕ)
+    → every (at_most most) (counts_from 12 counters_place s) ≡ every (at_most most) (packet_counts (counters_of s) ++ table_counts (counters_of s))
+unfolding counts_from counters_of
+counters_room most s = refl
 
 -- ---- whether question 5 need be asked once only
 

@@ -1,12 +1,12 @@
 -- The run and an id's book: what a run leaves of an id, and what it gives out for it, is what the book of the id's packets says.
 -- Assumes nothing.
+use Rattle.std.specs.Prelude.{Option, None, Some, is_some}
 use Rattle.std.proofs.Common.{◌≡◌, ℕ, ◌+◌, Bool, true, false, cond, not, ◌&&◌, eqb, leb, List, [], ◌∷◌, ◌++◌, length, refl, ap, ◌∙◌, append_assoc, append-nil, add-zero}
-use mathlib.Core.Option.{Option, none, some}
 use Rattle.isdb_tlv.proofs.Guards.{cond_elim}
 use Rattle.isdb_mmt.proofs.Maps.{eqb-true, find_put, find_put_other}
 use Rattle.isdb_mmt.specs.Formats.Mpu.{follows, lost_from}
 use Rattle.isdb_mmt.specs.Decoder.Packet.{Bytes, PayloadUnit, MpuPacket, Packet, ip_error, ntp, non_mmtp_of, media, message, control, other, readable}
-use Rattle.isdb_mmt.specs.Decoder.Maps.{one, is_some, find, put, or_else}
+use Rattle.isdb_mmt.specs.Decoder.Maps.{one, find, put, or_else}
 use Rattle.isdb_mmt.specs.Decoder.Objects.{Mfu, Rec, Asset, most_object, grown, fresh, gap, lost_by, continued, effect_of, after_unit, unit_effect, object_of, after_units, delivered_by, after_headers, asset_after, tagged, passes, media_gives}
 use Rattle.isdb_mmt.specs.Decoder.Model.{State, asset_of, pushed, gives}
 use Rattle.isdb_mmt.specs.Books.Book.{LogEntry, packet_number, unit_received, units_received, log_entries, reception_log, Book, drop_counted, in_order_of, missing, follower, continued_by, entered, entered_all, delivered_of}
@@ -35,25 +35,25 @@ at w n h k os = record { number = n; held = h; dropped = k; lost = w; delivered 
 unit_parts : (w : ℕ) (c : Option ℕ) (h : Option Mfu) (k : ℕ) (os : List Bytes) (n : ℕ) (f : FragmentationIndicator) (u : Mfu)
     → entered (at w c (held_bytes h) k os) (unit_received n f u.bytes)
     ≡ at w c (held_bytes (effect_of f h u).held) (k + (effect_of f h u).drops) (os ++ data_of (effect_of f h u).outs)
-unfolding entered drop_counted continued_by effect_of continued is_some held_bytes grown
-unit_parts w c none k os n Complete u = rw add-zero
-unit_parts w c (some h) k os n Complete u = refl
-unit_parts w c none k os n Head u = rw (add-zero, append-nil)
-unit_parts w c (some h) k os n Head u = rw append-nil
-unit_parts w c none k os n Middle u = rw (add-zero, append-nil)
-unit_parts w c (some h) k os n Middle u = go (leb (length h.bytes + length u.bytes) most_object)
+unfolding entered drop_counted continued_by effect_of continued held_bytes grown
+unit_parts w c None k os n Complete u = rw add-zero
+unit_parts w c (Some h) k os n Complete u = refl
+unit_parts w c None k os n Head u = rw (add-zero, append-nil)
+unit_parts w c (Some h) k os n Head u = rw append-nil
+unit_parts w c None k os n Middle u = rw (add-zero, append-nil)
+unit_parts w c (Some h) k os n Middle u = go (leb (length h.bytes + length u.bytes) most_object)
   where
     go : (b : Bool)
-        → cond b (at w c (some (h.bytes ++ u.bytes)) k os) (at w c none (k + 1) os)
+        → cond b (at w c (Some (h.bytes ++ u.bytes)) k os) (at w c None (k + 1) os)
         ≡ at w c (held_bytes (continued b false (grown h u.bytes)).held) (k + (continued b false (grown h u.bytes)).drops)
         (os ++ data_of (continued b false (grown h u.bytes)).outs)
     go true = rw (add-zero, append-nil)
     go false = rw append-nil
-unit_parts w c none k os n Last u = rw (add-zero, append-nil)
-unit_parts w c (some h) k os n Last u = go (leb (length h.bytes + length u.bytes) most_object)
+unit_parts w c None k os n Last u = rw (add-zero, append-nil)
+unit_parts w c (Some h) k os n Last u = go (leb (length h.bytes + length u.bytes) most_object)
   where
     go : (b : Bool)
-        → cond b (at w c none k (os ++ ((h.bytes ++ u.bytes) ∷ []))) (at w c none (k + 1) os)
+        → cond b (at w c None k (os ++ ((h.bytes ++ u.bytes) ∷ []))) (at w c None (k + 1) os)
         ≡ at w c (held_bytes (continued b true (grown h u.bytes)).held) (k + (continued b true (grown h u.bytes)).drops)
         (os ++ data_of (continued b true (grown h u.bytes)).outs)
     go true = rw add-zero
@@ -70,17 +70,17 @@ units_written m a os n (u ∷ us) =
 
 -- a packet's number
 seen_parts : (w : ℕ) (c : Option ℕ) (h : Option Mfu) (k : ℕ) (os : List Bytes) (n : ℕ)
-    → entered (at w c (held_bytes h) k os) (packet_number n) ≡ at (w + lost_by c n) (some n) (held_bytes (cond (gap c n) none h)) (k + one (gap c n && is_some h)) os
-unfolding entered drop_counted in_order_of follower missing lost_by lost_from gap follows held_bytes is_some
-seen_parts w none h k os n = simp add-zero
-seen_parts w (some l) h k os n = go (eqb n (follower l)) (lost_from l n) h
+    → entered (at w c (held_bytes h) k os) (packet_number n) ≡ at (w + lost_by c n) (Some n) (held_bytes (cond (gap c n) None h)) (k + one (gap c n && is_some h)) os
+unfolding entered drop_counted in_order_of follower missing lost_by lost_from gap follows held_bytes
+seen_parts w None h k os n = simp add-zero
+seen_parts w (Some l) h k os n = go (eqb n (follower l)) (lost_from l n) h
   where
     go : (b : Bool) (z : ℕ) (h : Option Mfu)
-        → cond b (at (w + cond b 0 z) (some n) (held_bytes h) k os) (at (w + cond b 0 z) (some n) none (drop_counted (held_bytes h) k) os)
-        ≡ at (w + cond b 0 z) (some n) (held_bytes (cond (not b) none h)) (k + one (not b && is_some h)) os
+        → cond b (at (w + cond b 0 z) (Some n) (held_bytes h) k os) (at (w + cond b 0 z) (Some n) None (drop_counted (held_bytes h) k) os)
+        ≡ at (w + cond b 0 z) (Some n) (held_bytes (cond (not b) None h)) (k + one (not b && is_some h)) os
     go true z h = simp add-zero
-    go false z none = simp add-zero
-    go false z (some h) = refl
+    go false z None = simp add-zero
+    go false z (Some h) = refl
 
 write_all_append : (b : Book) (xs ys : List LogEntry) → entered_all b (xs ++ ys) ≡ entered_all (entered_all b xs) ys
 unfolding entered_all

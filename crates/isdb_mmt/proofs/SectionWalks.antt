@@ -1,18 +1,26 @@
 -- The walks over what stands in a section's body: where the table parses, each step gives the next element of the whole value.
 -- Assumes nothing.
+use Rattle.isdb_mmt.specs.declared.table.section.Parsed.{Parsed}
+use Rattle.std.specs.Prelude.{Err, None, Ok, Option, Result, Some, is_some}
+use Rattle.isdb_mmt.specs.declared.table.nit.Nit.{Nit}
+use Rattle.isdb_mmt.specs.declared.table.bit.Bit.{Bit}
+use Rattle.isdb_mmt.specs.declared.table.sdt.Sdt.{Sdt}
+use Rattle.isdb_mmt.specs.declared.table.eit.Eit.{Eit}
+use Rattle.isdb_mmt.specs.declared.table.section.SectionError.{SectionError}
+use Rattle.isdb_mmt.specs.declared.table.amt.Amt.{Amt}
+use Rattle.isdb_mmt.specs.declared.table.amt.AmtService.{AmtService}
 use Rattle.std.proofs.Common.{◌≡◌, ℕ, ◌+◌, ◌-◌, ◌/◌, true, false, not, ltb, List, map, length, sym, refl, ap, ◌∙◌, add_comm, arith}
 use lib.ListN.{length-map}
 use Rattle.isdb_tlv.specs.Bytes.{be}
 use Rattle.isdb_tlv.specs.Walk.{turn}
 use Rattle.isdb_tlv.proofs.Guards.{cond_elim, either}
 use Rattle.isdb_mmt.specs.Formats.Part.{part_of}
-use Rattle.isdb_mmt.specs.Decoder.Maps.{is_some}
 use Rattle.isdb_mmt.specs.Formats.Desc.{Loop}
-use Rattle.isdb_mmt.specs.Formats.Section.{length12, long_section_of, entry_at, entry_as, entry_item, entries_from}
+use Rattle.isdb_mmt.specs.Formats.Section.{length12, long_section_of, entry_at, entry_as, entry_item, entries_from, parsed}
 use Rattle.isdb_mmt.specs.Formats.Amt.{service_at, service_item, services_from, services_whole, amt_body, amt_of}
-use Rattle.isdb_mmt.specs.Formats.Eit.{eit_parsed, event_of, event_step, eit_body, eit_of}
-use Rattle.isdb_mmt.specs.Formats.Sdt.{sdt_parsed, service_of, service_step, sdt_body, sdt_of}
-use Rattle.isdb_mmt.specs.Formats.Bit.{bit_parsed, broadcaster_of, broadcaster_step, bit_body, bit_of}
+use Rattle.isdb_mmt.specs.Formats.Eit.{event_of, event_step, eit_body, eit_of}
+use Rattle.isdb_mmt.specs.Formats.Sdt.{service_of, service_step, sdt_body, sdt_of}
+use Rattle.isdb_mmt.specs.Formats.Bit.{broadcaster_of, broadcaster_step, bit_body, bit_of}
 use Rattle.isdb_mmt.specs.Formats.Nit.{streams_part, stream_of, stream_step, nit_body, nit_of}
 use Rattle.isdb_mmt.specs.WholeValues.Steps.{Stood, at_end, malformed, element, Found, counted, onward, to_end, AllOf}
 use Rattle.isdb_mmt.specs.WholeValues.WholeSections.{described, flow_told, flow_seen, event_told, event_seen, service_told, service_seen, broadcaster_told, broadcaster_seen, WholeStream, whole_stream, stream_told, stream_seen}
@@ -21,21 +29,6 @@ use Rattle.isdb_mmt.specs.declared.table.section.SectionHeader.{SectionHeader}
 use Rattle.isdb_mmt.specs.declared.table.section.Entry.{Entry}
 use Rattle.isdb_mmt.specs.declared.table.section.EntryStep.{EntryStep}
 use Rattle.isdb_mmt.specs.declared.table.section.EntryStep.TheVariants.{End as no_entry, Malformed as bad_entry, Entry as entry}
-use Rattle.isdb_mmt.specs.declared.table.amt.AmtStep.{AmtStep}
-use Rattle.isdb_mmt.specs.declared.table.amt.AmtStep.TheVariants.{Malformed as no_flow_of, Service as flow}
-use Rattle.isdb_mmt.specs.declared.table.amt.AmtResult.{AmtResult}
-use Rattle.isdb_mmt.specs.declared.table.amt.AmtResult.TheVariants.{Ok as amt_ok, Err as amt_err}
-use Rattle.isdb_mmt.specs.declared.table.eit.EitParsed.{EitParsed}
-use Rattle.isdb_mmt.specs.declared.table.eit.EitResult.{EitResult}
-use Rattle.isdb_mmt.specs.declared.table.eit.EitResult.TheVariants.{Ok as eit_ok, Err as eit_err}
-use Rattle.isdb_mmt.specs.declared.table.sdt.SdtParsed.{SdtParsed}
-use Rattle.isdb_mmt.specs.declared.table.sdt.SdtResult.{SdtResult}
-use Rattle.isdb_mmt.specs.declared.table.sdt.SdtResult.TheVariants.{Ok as sdt_ok, Err as sdt_err}
-use Rattle.isdb_mmt.specs.declared.table.bit.BitParsed.{BitParsed}
-use Rattle.isdb_mmt.specs.declared.table.bit.BitResult.{BitResult}
-use Rattle.isdb_mmt.specs.declared.table.bit.BitResult.TheVariants.{Ok as bit_ok, Err as bit_err}
-use Rattle.isdb_mmt.specs.declared.table.nit.NitResult.{NitResult}
-use Rattle.isdb_mmt.specs.declared.table.nit.NitResult.TheVariants.{Ok as nit_ok, Err as nit_err}
 use Rattle.isdb_mmt.proofs.Names.{true_not_false}
 use Rattle.isdb_mmt.proofs.Entries.{section_elim, Inside, entry_inside, entries_at}
 use Rattle.isdb_mmt.proofs.Steps.{also_some, Leads, counts, whole_by, On, same_found, ends_whole}
@@ -43,19 +36,18 @@ use Rattle.isdb_mmt.proofs.Steps.{also_some, Leads, counts, whole_by, On, same_f
 -- ---- the services of an AMT
 
 module _ (s : List ℕ) where
-  flow_leads : (n : ℕ) (d : AmtStep) → is_some (turn (services_from n s) (service_item d)) ≡ true
+  flow_leads : (n : ℕ) (d : Option (AmtService × ℕ)) → is_some (turn (services_from n s) (service_item d)) ≡ true
       → Leads (λ p. is_some (services_from n s p) ≡ true) (flow_told d)
-  unfolding is_some
-  flow_leads n no_flow_of w = true_not_false false w refl
-  flow_leads n (flow x next) w = sym (also_some x (services_from n s next)) ∙ w
+  flow_leads n None w = true_not_false false w refl
+  flow_leads n (Some (x, next)) w = sym (also_some x (services_from n s next)) ∙ w
 
   flows_whole : (n at : ℕ) → services_whole n s at ≡ true → (counted (flow_seen s) n at).whole ≡ true
   unfolding services_whole
   flows_whole = whole_by (flow_seen s) (λ n at. is_some (services_from n s at) ≡ true) (λ n at. flow_leads n (service_at s at))
 
-  abbrev AmtGood : AmtResult → Type 0
-  AmtGood (amt_err e) = Unit {0}
-  AmtGood (amt_ok h t) = FlowsWalk (part_of s h.body) t
+  abbrev AmtGood : Result (SectionHeader × Amt) SectionError → Type 0
+  AmtGood (Err e) = Unit {0}
+  AmtGood (Ok (h, t)) = FlowsWalk (part_of s h.body) t
 
 amt_body_lem : (s : List ℕ) (h : SectionHeader) → AmtGood s (amt_body h (part_of s h.body))
 unfolding amt_body
@@ -69,7 +61,7 @@ amt_body_lem s h =
 
 pub amt : AmtTheorem
 unfolding amt_of
-amt s h t e = rw e at (section_elim (AmtGood s) amt_err amt_body s (λ x. tt) (amt_body_lem s) (long_section_of s))
+amt s h t e = rw e at (section_elim (AmtGood s) Err amt_body s (λ x. tt) (amt_body_lem s) (long_section_of s))
 
 -- ---- entries to the end of a loop
 
@@ -147,53 +139,53 @@ module _ (s : List ℕ) where
 
 -- ---- EIT
 
-abbrev EitGood : List ℕ → EitResult → Type 0
-EitGood s (eit_err e) = Unit {0}
-EitGood s (eit_ok h t) = EventsWalk (part_of s h.body) t
+abbrev EitGood : List ℕ → Result (SectionHeader × Eit) SectionError → Type 0
+EitGood s (Err e) = Unit {0}
+EitGood s (Ok (h, t)) = EventsWalk (part_of s h.body) t
 
 eit_body_lem : (s : List ℕ) (h : SectionHeader) → EitGood s (eit_body h (part_of s h.body)).result
 unfolding eit_body
 eit_body_lem s h =
     let b = part_of s h.body in
-    cond_elim (λ (r : EitParsed). EitGood s r.result) (ltb (length b) 6) (λ e. tt) (λ e.
+    cond_elim (λ (r : Parsed (SectionHeader × Eit)). EitGood s r.result) (ltb (length b) 6) (λ e. tt) (λ e.
     cond_elim (EitGood s) (entries_from b 10 6).whole
     (λ w. all_entries (λ e. described b e.descriptors (event_of b e)) b 10 (event_seen b) (event_tells b) 6 w) (λ w. tt))
 
 pub eit : EitTheorem
 unfolding eit_of
-eit s h t e = rw e at (section_elim (λ (r : EitParsed). EitGood s r.result) (λ x. eit_parsed (eit_err x) 0) eit_body s (λ x. tt) (eit_body_lem s) (long_section_of s))
+eit s h t e = rw e at (section_elim (λ (r : Parsed (SectionHeader × Eit)). EitGood s r.result) (λ x. parsed (Err x) 0) eit_body s (λ x. tt) (eit_body_lem s) (long_section_of s))
 
 -- ---- SDT
 
-abbrev SdtGood : List ℕ → SdtResult → Type 0
-SdtGood s (sdt_err e) = Unit {0}
-SdtGood s (sdt_ok h t) = ServicesWalk (part_of s h.body) t
+abbrev SdtGood : List ℕ → Result (SectionHeader × Sdt) SectionError → Type 0
+SdtGood s (Err e) = Unit {0}
+SdtGood s (Ok (h, t)) = ServicesWalk (part_of s h.body) t
 
 sdt_body_lem : (s : List ℕ) (h : SectionHeader) → SdtGood s (sdt_body h (part_of s h.body)).result
 unfolding sdt_body
 sdt_body_lem s h =
     let b = part_of s h.body in
-    cond_elim (λ (r : SdtParsed). SdtGood s r.result) (ltb (length b) 2) (λ e. tt) (λ e.
+    cond_elim (λ (r : Parsed (SectionHeader × Sdt)). SdtGood s r.result) (ltb (length b) 2) (λ e. tt) (λ e.
     cond_elim (SdtGood s) (entries_from b 3 3).whole
     (λ w. all_entries (λ e. described b e.descriptors (service_of b e)) b 3 (service_seen b) (service_tells b) 3 w) (λ w. tt))
 
 pub sdt : SdtTheorem
 unfolding sdt_of
-sdt s h t e = rw e at (section_elim (λ (r : SdtParsed). SdtGood s r.result) (λ x. sdt_parsed (sdt_err x) 0) sdt_body s (λ x. tt) (sdt_body_lem s) (long_section_of s))
+sdt s h t e = rw e at (section_elim (λ (r : Parsed (SectionHeader × Sdt)). SdtGood s r.result) (λ x. parsed (Err x) 0) sdt_body s (λ x. tt) (sdt_body_lem s) (long_section_of s))
 
 -- ---- BIT
 
-abbrev BitGood : List ℕ → BitResult → Type 0
-BitGood s (bit_err e) = Unit {0}
-BitGood s (bit_ok h t) = BroadcastersWalk (part_of s h.body) t
+abbrev BitGood : List ℕ → Result (SectionHeader × Bit) SectionError → Type 0
+BitGood s (Err e) = Unit {0}
+BitGood s (Ok (h, t)) = BroadcastersWalk (part_of s h.body) t
 
 bit_body_lem : (s : List ℕ) (h : SectionHeader) → BitGood s (bit_body h (part_of s h.body)).result
 unfolding bit_body
 bit_body_lem s h =
     let b = part_of s h.body in
     let n = length12 b 0 + 2 in
-    cond_elim (λ (r : BitParsed). BitGood s r.result) (ltb (length b) 2) (λ e. tt) (λ e.
-    cond_elim (λ (r : BitParsed). BitGood s r.result) (ltb (length b) n) (λ e1. tt) (λ e1.
+    cond_elim (λ (r : Parsed (SectionHeader × Bit)). BitGood s r.result) (ltb (length b) 2) (λ e. tt) (λ e.
+    cond_elim (λ (r : Parsed (SectionHeader × Bit)). BitGood s r.result) (ltb (length b) n) (λ e1. tt) (λ e1.
     cond_elim (BitGood s) (entries_from b 1 n).whole
     (λ w.
     rw (add_comm 2 (length12 b 0))
@@ -202,13 +194,13 @@ bit_body_lem s h =
 
 pub bit : BitTheorem
 unfolding bit_of
-bit s h t e = rw e at (section_elim (λ (r : BitParsed). BitGood s r.result) (λ x. bit_parsed (bit_err x) 0) bit_body s (λ x. tt) (bit_body_lem s) (long_section_of s))
+bit s h t e = rw e at (section_elim (λ (r : Parsed (SectionHeader × Bit)). BitGood s r.result) (λ x. parsed (Err x) 0) bit_body s (λ x. tt) (bit_body_lem s) (long_section_of s))
 
 -- ---- NIT
 
-abbrev NitGood : List ℕ → NitResult → Type 0
-NitGood s (nit_err e) = Unit {0}
-NitGood s (nit_ok h t) = StreamsWalk (part_of s h.body) t
+abbrev NitGood : List ℕ → Result (SectionHeader × Nit) SectionError → Type 0
+NitGood s (Err e) = Unit {0}
+NitGood s (Ok (h, t)) = StreamsWalk (part_of s h.body) t
 
 nit_body_lem : (s : List ℕ) (h : SectionHeader) → NitGood s (nit_body h (part_of s h.body))
 unfolding nit_body
@@ -223,4 +215,4 @@ nit_body_lem s h =
 
 pub nit : NitTheorem
 unfolding nit_of
-nit s h t e = rw e at (section_elim (NitGood s) nit_err nit_body s (λ x. tt) (nit_body_lem s) (long_section_of s))
+nit s h t e = rw e at (section_elim (NitGood s) Err nit_body s (λ x. tt) (nit_body_lem s) (long_section_of s))

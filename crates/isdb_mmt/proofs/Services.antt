@@ -1,10 +1,9 @@
 -- The services of an AMT, one behind another: a loop which counts them down goes over all of them. Assumes nothing.
+use Rattle.std.specs.Prelude.{None, Some}
 use Rattle.std.proofs.Common.{◌≡◌, ℕ, ◌-◌, ◌<◌, ◌≤◌, Bool, true, false, List, refl, arith}
-use Rattle.isdb_mmt.specs.Decoder.Maps.{is_some}
 use Rattle.isdb_mmt.specs.Formats.Amt.{address_size, service_at, service_item, services_whole}
 use Rattle.isdb_mmt.proofs.Steps.{all_stop, all_more}
 use Rattle.isdb_mmt.specs.declared.table.amt.AmtService.{AmtService}
-use Rattle.isdb_mmt.specs.declared.table.amt.AmtStep.TheVariants.{Malformed as broken, Service as service}
 
 -- an address has 16 bytes at most
 pub size_le : (wide : Bool) {n : ℕ} → n ≡ address_size wide → n ≤ 16
@@ -14,14 +13,14 @@ size_le false e = omega arith
 -- the turns of the loop that asks whether n services are whole
 module _ (s : List ℕ) (at : ℕ) where
   pub whole_zero : services_whole 0 s at ≡ true
-  unfolding services_whole is_some
+  unfolding services_whole
   whole_zero = refl
 
-  pub whole_none : (n : ℕ) → 0 < n → service_at s at ≡ broken → services_whole n s at ≡ false
+  pub whole_none : (n : ℕ) → 0 < n → service_at s at ≡ None → services_whole n s at ≡ false
   unfolding services_whole
   whole_none n h e = all_stop (λ p. service_item (service_at s p)) at n h (rw e)
 
-  pub whole_on_lem : (n : ℕ) {x : AmtService} {next : ℕ} → 0 < n → service_at s at ≡ service x next
+  pub whole_on_lem : (n : ℕ) {x : AmtService} {next : ℕ} → 0 < n → service_at s at ≡ Some (x, next)
       → services_whole n s at ≡ services_whole (n - 1) s next
   unfolding services_whole
   whole_on_lem n {x} {next} h e = all_more (λ p. service_item (service_at s p)) at n x {next = next} h (rw e)

@@ -1,9 +1,8 @@
 -- The sections of a control packet's data. Assumes nothing.
+use Rattle.std.specs.Prelude.{None, Option, Some}
 use Rattle.std.proofs.Common.{◌≡◌, ℕ, ◌+◌, ◌-◌, ◌*◌, ◌<◌, min, List, [], ◌∷◌, map, length, drop, sym, refl, ap, ◌∙◌, subst, arith, length-take, w64, Fits}
 use Rattle.isdb_tlv.specs.Si.{next_section_of, onward}
 use Rattle.isdb_tlv.specs.declared.si.Section.{Section}
-use Rattle.isdb_tlv.specs.declared.si.MaybeSection.{MaybeSection}
-use Rattle.isdb_tlv.specs.declared.si.MaybeSection.TheVariants.{None, Some}
 use Rattle.isdb_tlv.proofs.Sections.{Lies, Found, sections_step, next_lies}
 use Rattle.isdb_mmt.specs.Memory.Layout.{most_count}
 use Rattle.isdb_mmt.specs.Decoder.Packet.{Bytes}
@@ -50,11 +49,11 @@ sections_start ix log others g b c =
     record { goes = goes_start section_read ix log others g c.copies (placed_sections b 0) 0 (min 0 (length b)); can = c }
 
 module _ (ix₀ log₀ others₀ : List ℕ) (g₀ : WalkState) (b : Bytes) (ix log others : List ℕ) (g : WalkState) (p : ℕ)
-    (go : InSections ix₀ log₀ others₀ g₀ b ix log others g p) (s : MaybeSection) (es : s ≡ next_section_of b p) where
+    (go : InSections ix₀ log₀ others₀ g₀ b ix log others g p) (s : Option Section) (es : s ≡ next_section_of b p) where
   abbrev placed_it : Section → Placed
   placed_it x = record { at = x.offset; bytes = part x.offset x.size b }
 
-  rest_of : (z : MaybeSection) → s ≡ z → placed_sections b p ≡ map placed_it (onward b z)
+  rest_of : (z : Option Section) → s ≡ z → placed_sections b p ≡ map placed_it (onward b z)
   unfolding placed_sections
   rest_of z e = ap (map placed_it) (sections_step b p ∙ ap (onward b) (sym es ∙ e))
 

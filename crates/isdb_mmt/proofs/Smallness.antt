@@ -1,6 +1,10 @@
 -- A packet of at most 65,535 bytes reads as one whose units have no more. Only the results of the readings are looked at.
+use Rattle.std.specs.Prelude.{Err, None, Ok, Result, Some, Option}
+use Rattle.isdb_tlv.specs.declared.mmtp.Packet.{Packet}
+use Rattle.isdb_tlv.specs.declared.ip.IpError.{IpError}
+use Rattle.isdb_tlv.specs.declared.ip.Datagram.{Datagram}
+use Rattle.isdb_tlv.specs.declared.ip.Flow.{Flow}
 use Rattle.std.proofs.Common.{ℕ, ◌+◌, ◌<◌, Bool, true, false, cond, List, [], ◌∷◌, map, length, take, drop, arith, length-drop, length-take}
-use mathlib.Core.Option.{Option, none, some}
 use Rattle.isdb_tlv.specs.Guards.{◌<?◌, ◌=?◌}
 use Rattle.isdb_tlv.specs.Bytes.{be}
 use Rattle.isdb_tlv.specs.Tlv.{packet_type}
@@ -8,15 +12,9 @@ use Rattle.isdb_tlv.specs.Ip.{ipv4_of, ipv6_of, compressed_of}
 use Rattle.isdb_tlv.specs.Mmtp.{mmtp_of}
 use Rattle.isdb_tlv.specs.declared.tlv.PacketType.{PacketType}
 use Rattle.isdb_tlv.specs.declared.tlv.PacketType.TheVariants.{Ipv4, Ipv6, Compressed, Control, Null, Other}
-use Rattle.isdb_tlv.specs.declared.ip.MaybeFlow.{MaybeFlow}
-use Rattle.isdb_tlv.specs.declared.ip.MaybeFlow.TheVariants.{None as no_flow_of, Some as some_flow}
-use Rattle.isdb_tlv.specs.declared.ip.IpResult.{IpResult}
-use Rattle.isdb_tlv.specs.declared.ip.IpResult.TheVariants.{Ok, Err}
 use Rattle.isdb_tlv.specs.declared.mmtp.PayloadType.{PayloadType}
 use Rattle.isdb_tlv.specs.declared.mmtp.PayloadType.TheVariants.{Mpu, GenericObject, Messages, FecRepair, Reserved}
 use Rattle.isdb_tlv.specs.declared.mmtp.Header.{Header}
-use Rattle.isdb_tlv.specs.declared.mmtp.Parsed.{Parsed}
-use Rattle.isdb_tlv.specs.declared.mmtp.Parsed.TheVariants.{None as not_mmtp, Some as some_mmtp}
 use Rattle.isdb_mmt.specs.Formats.Mpu.{payload_header, declared_of, units_of}
 use Rattle.isdb_mmt.specs.declared.mpu.FragmentType.{FragmentType}
 use Rattle.isdb_mmt.specs.declared.mpu.FragmentType.TheVariants.{MpuMetadata, MovieFragmentMetadata, Mfu, Reserved as reserved_type}
@@ -44,8 +42,8 @@ clear_payload_units : (scrambled : Bool) (h : PayloadHeader) (q : Bytes) (o : Op
     → AllSmall (clear scrambled (payload_units h q o))
 unfolding clear
 clear_payload_units true h q o l = tt
-clear_payload_units false h q none l = tt
-clear_payload_units false h q (some us) l = units_small h q us l
+clear_payload_units false h q None l = tt
+clear_payload_units false h q (Some us) l = units_small h q us l
 
 clear_units : (scrambled : Bool) (h : PayloadHeader) (t : FragmentType) (q : Bytes) → length q < 65536
     → AllSmall (clear scrambled (units_for h t q))
@@ -60,8 +58,8 @@ clear_read : (scrambled : Bool) (payload : Bytes) (o : Option PayloadHeader) →
     → AllSmall (clear scrambled (units_read payload o))
 unfolding clear
 clear_read true payload o l = tt
-clear_read false payload none l = tt
-clear_read false payload (some h) l =
+clear_read false payload None l = tt
+clear_read false payload (Some h) l =
     clear_units false h h.fragment_type (declared_of payload) (take_small (be 2 payload 0 + 2) payload l)
 
 media_small : (h : Header) (payload : Bytes) → length payload < 65536 → AllSmall (readable (media_of h payload))
@@ -77,22 +75,22 @@ type_small h payload GenericObject l = tt
 type_small h payload FecRepair l = tt
 type_small h payload (Reserved c) l = tt
 
-mmtp_small : (b : Bytes) (p : Parsed) → length b < 65536 → Small (mmtp_in b p)
-mmtp_small b not_mmtp l = tt
-mmtp_small b (some_mmtp p) l = type_small p.header (drop p.start b) p.header.payload_type (drop_small p.start b l)
+mmtp_small : (b : Bytes) (p : Option Packet) → length b < 65536 → Small (mmtp_in b p)
+mmtp_small b None l = tt
+mmtp_small b (Some p) l = type_small p.header (drop p.start b) p.header.payload_type (drop_small p.start b l)
 
 port_small : (b : Bytes) (port : ℕ) → length b < 65536 → Small (to_port b port)
 port_small b port l = go (port =? 123)
   where
-    go : (t : Bool) → Small (cond t (ntp (cond (length b <? 48) none (some (be 8 b 40)))) (mmtp_in b (mmtp_of b)))
+    go : (t : Bool) → Small (cond t (ntp (cond (length b <? 48) None (Some (be 8 b 40)))) (mmtp_in b (mmtp_of b)))
     go true = tt
     go false = mmtp_small b (mmtp_of b) l
 
-flow_small : (b : Bytes) (f : MaybeFlow) → length b < 65536 → Small (in_flow b f)
-flow_small b no_flow_of l = mmtp_small b (mmtp_of b) l
-flow_small b (some_flow f) l = port_small b f.dport l
+flow_small : (b : Bytes) (f : Option Flow) → length b < 65536 → Small (in_flow b f)
+flow_small b None l = mmtp_small b (mmtp_of b) l
+flow_small b (Some f) l = port_small b f.dport l
 
-datagram_small : (b : Bytes) (r : IpResult) → length b < 65536 → Small (datagram_in b r)
+datagram_small : (b : Bytes) (r : Result Datagram IpError) → length b < 65536 → Small (datagram_in b r)
 datagram_small b (Err e) l = tt
 datagram_small b (Ok d) l = flow_small (drop d.start b) d.flow (drop_small d.start b l)
 

@@ -1,7 +1,7 @@
 -- What a walk over tables starts with: copies of the session's bytes and counts. Assumes nothing.
-use Rattle.std.proofs.Common.{◌≡◌, ℕ, ◌+◌, ◌*◌, ◌<◌, ◌≤◌, true, false, List, length, get_or, take, set, sym, ap, ◌∙◌, mul-le-mul_right, zero-add, arith, w64, Fits, le-ltb, lt-ltb}
+use Rattle.std.proofs.Common.{Option, ◌≡◌, ℕ, ◌+◌, ◌*◌, ◌<◌, ◌≤◌, true, false, List, length, sym, ◌∙◌, mul-le-mul_right, arith, w64, Fits, le-ltb, lt-ltb}
 use Rattle.isdb_mmt.specs.Memory.Layout.{section_places, state_size}
-use Rattle.isdb_mmt.specs.Memory.Lent.{part, over}
+use Rattle.isdb_mmt.specs.Memory.Lent.{part}
 use Rattle.isdb_mmt.specs.Pushes.TableOutcome.{index_size}
 use Rattle.isdb_mmt.specs.Memory.Session.{limits_of, used_of, latest_of}
 use Rattle.isdb_mmt.specs.Pushes.Start.{recent_at, start_of, walk_start, tables_ask, CanGo}
@@ -11,28 +11,12 @@ use Rattle.isdb_mmt.specs.declared.decoder.head.Latest.{Latest}
 use Rattle.isdb_mmt.specs.declared.decoder.counts.Counters.{Counters}
 use Rattle.isdb_mmt.specs.declared.decoder.table_outcome.Recent.{Recent}
 use Rattle.isdb_mmt.specs.declared.decoder.walk.WalkState.{WalkState}
-use Rattle.isdb_mmt.proofs.Lent.{length_part, over_whole, copy_next, copied}
+use Rattle.isdb_mmt.proofs.Lent.{length_part}
 
 -- ---- the index
 
-module _ (ix state : List ℕ) (can : (length ix ≡ index_size) × (state_size ≤ length state)) (b : List ℕ) (eb : b ≡ part section_places index_size state) where
-  index_length : length b ≡ length ix
-  index_length = rw eb (length_part section_places index_size state (omega (arith, can.1)) ∙ sym can.0)
-
-  pub index_fits : 0 + length b ≤ length ix
-  index_fits = omega (arith, index_length)
-
-  pub index_loaded : (ix' : List ℕ) → ix' ≡ over 0 b ix → ix' ≡ part section_places index_size state
-  index_loaded ix' e = e ∙ over_whole b ix index_length ∙ eb
-
--- ---- counts
-
-pub counts_next : (k : ℕ) (b l m : List ℕ) → length l ≡ length b → k < length b → m ≡ over 0 (take k b) l → set m k (get_or b k 0) ≡ over 0 (take (k + 1) b) l
-counts_next k b l m h i e =
-    copy_next 0 k b l m (set m k (get_or b k 0)) (omega arith) i e (ap (λ j. set m j (get_or b k 0)) (sym (zero-add k)))
-
-pub counts_copied : (k : ℕ) (b l m : List ℕ) → length l ≡ length b → length b ≤ k → m ≡ over 0 (take k b) l → m ≡ b
-counts_copied k b l m h i e = copied 0 k b l m i e ∙ over_whole b l (sym h)
+pub index_length : (ix state b : List ℕ) → length ix ≡ index_size → state_size ≤ length state → b ≡ part section_places index_size state → length ix ≡ length b
+index_length ix state b e h eb = e ∙ sym (rw eb (length_part section_places index_size state (omega (arith, h))))
 
 -- ---- what a session has
 
@@ -57,7 +41,7 @@ module _ (state t : List ℕ) (can : CanGo state t) (l : Limits) (el : l ≡ lim
       let e : n + 1 + 1 ≡ n + 2 = omega arith in
       rw (el, e) can.room
 
-  pub go_done : (u : Used) → u ≡ used_of state → (x : Latest) → x ≡ latest_of state → (c : Counters) (mpt plt tot : Recent)
+  pub go_done : (u : Used) → u ≡ used_of state → (x : Latest) → x ≡ latest_of state → (c : Counters) (mpt plt tot : Option Recent)
       → plt ≡ recent_at t ((l.sections + l.control_ids) * l.table_area) x.plt x.plt_length
       → tot ≡ recent_at t ((l.sections + l.control_ids + 1) * l.table_area) x.tot x.tot_length
       → (r : WalkState) → r ≡ start_of c u.sections mpt plt tot → r ≡ walk_start state t c mpt

@@ -1,10 +1,10 @@
 -- What tables leave of the state: places in use, section places, counters, PLT and TOT, each read back; all else is as before.
 -- Assumes nothing.
+use Rattle.std.specs.Prelude.{is_some}
 use Rattle.std.proofs.Common.{◌≡◌, ℕ, ◌+◌, ◌*◌, ◌≤◌, List, map, length, take, drop, sym, ap, ◌∙◌, inl, inr, arith, length-take-le}
 use Rattle.isdb_tlv.specs.Fields.{written, Fit}
 use Rattle.isdb_tlv.proofs.Fields.{length_written}
 use Rattle.isdb_mmt.specs.Decoder.Kept.{Kept, KeptTables}
-use Rattle.isdb_mmt.specs.Decoder.Maps.{is_some}
 use Rattle.isdb_mmt.specs.Decoder.Model.{State}
 use Rattle.isdb_mmt.specs.Memory.Layout.{used_place, latest_place, time_place, counters_place, media_places, section_places, section_size, most_media_ids, most_control_ids, most_sections, most_table_area, state_size}
 use Rattle.isdb_mmt.specs.Memory.Lent.{over, places_from}

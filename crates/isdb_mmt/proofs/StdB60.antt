@@ -1,6 +1,6 @@
 -- What a sender that conforms to ARIB STD-B60 writes of descriptor loops, locations and sections is read right. Assumes nothing.
+use Rattle.std.specs.Prelude.{Ok, Some, None}
 use Rattle.std.proofs.Common.{◌≡◌, ℕ, ◌+◌, ◌-◌, ◌*◌, ◌/◌, ◌%◌, ◌^◌, ◌<◌, ◌≤◌, leb, List, [], ◌∷◌, ◌++◌, map, length, get_or, take, refl, add-zero, arith, length-append, take_all, drop_at, le-ltb, lt-ltb, eq-eqb, ne_eqb, le-leb, leb-false, leb-true}
-use mathlib.Core.Option.{none}
 use borrow.Author.Tests.{lt-leb}
 use Rattle.isdb_tlv.specs.Bytes.{be}
 use Rattle.isdb_tlv.specs.Crc.{crc_of}
@@ -8,7 +8,6 @@ use Rattle.isdb_tlv.specs.Fields.{bytes_of, Field, field, bits, packed, written,
 use Rattle.isdb_tlv.proofs.Guards.{either}
 use Rattle.isdb_tlv.proofs.CrcLinear.{crc_closed}
 use Rattle.isdb_tlv.proofs.Fields.{be_one, length_bytes_of, size, field_at, offset_of, length_written}
-use Rattle.isdb_mmt.specs.Decoder.Maps.{is_some}
 use Rattle.isdb_mmt.specs.Formats.Part.{part_at}
 use Rattle.isdb_mmt.specs.Formats.Desc.{length_width_of, step_at, Split, split_from, split_of, broken}
 use Rattle.isdb_mmt.specs.Formats.Location.{sized, url_of, location_of}
@@ -18,8 +17,6 @@ use Rattle.isdb_mmt.specs.Standards.StdB60.{Descriptor, descriptor_sent, loop_se
 use Rattle.isdb_mmt.specs.Standards.StdB60.{SentLocation, same_flow, ipv4, ipv6, mpeg2_ts, mpeg2_ts_ipv6, url, location_fields, location_bytes, location_sent, LocationConforming, location_seen, LocationTheorem}
 use Rattle.isdb_mmt.specs.Standards.StdB60.{Header, section_header_fields, with_crc, section_sent, HeaderConforming, header_seen, SectionTheorem}
 use Rattle.isdb_mmt.specs.declared.desc.Step.TheVariants.{End, Raw}
-use Rattle.isdb_mmt.specs.declared.location.Located.TheVariants.{Some as located}
-use Rattle.isdb_mmt.specs.declared.table.section.LongSection.TheVariants.{Ok as good}
 use Rattle.isdb_mmt.proofs.Descriptors.{split_at}
 use Rattle.isdb_mmt.proofs.BytesAt.{FoundAt, located_whole, located_first, located_part, located_within, located_front, located_rest, field_read, first_read, high_byte}
 
@@ -108,7 +105,7 @@ module _ {s : List ℕ} {at : ℕ} (d : Descriptor) (c : DescriptorConforming d)
 -- the descriptors from a place on
 pub record LoopAt (s : List ℕ) (ds : List Descriptor) (l : Split) : Type 0 where
   pub found : map (descriptor_in s) l.found ≡ ds
-  pub whole : l.broke ≡ none
+  pub whole : l.broke ≡ None
 
 pub loop_at : (s : List ℕ) (at : ℕ) (ds : List Descriptor) → LoopConforming ds → FoundAt s at (loop_sent ds)
     → at + length (loop_sent ds) ≡ length s → LoopAt s ds (split_from s at)
@@ -132,7 +129,6 @@ loops ds c =
 
 -- so it does not count as broken
 pub loop_whole : (ds : List Descriptor) → LoopConforming ds → broken (loop_sent ds) ≡ 0
-unfolding is_some
 loop_whole ds c = rw (loops ds c).whole
 
 -- a location's fields
@@ -147,7 +143,7 @@ place_fits (url b) c = omega arith
 -- what stands in them, by index of the field, tells how the location is read
 located_as : (p : SentLocation) (s : List ℕ) → size (location_fields p) + length (location_bytes p) ≤ length s
     → ((k : ℕ) → be (field_at k (location_fields p)).width s (0 + offset_of k (location_fields p)) ≡ (field_at k (location_fields p)).value)
-    → location_of s ≡ located (location_seen p) (size (location_fields p) + length (location_bytes p))
+    → location_of s ≡ Some (location_seen p, size (location_fields p) + length (location_bytes p))
 unfolding location_of sized url_of
 located_as (same_flow id) s long of =
     rw (le-ltb (length s) 1 (omega arith), be_one s 0, of 0, le-ltb (length s) 3 (omega arith), of 1)
@@ -218,7 +214,7 @@ module _ (h : Header) (c : HeaderConforming h) (body : List ℕ) (short : length
       with_crc_lem message (length body + 12)
       (rw (length-append, length_written (section_header_fields h (length body))) (omega arith))
 
-  section_header : long_section_of (section_sent h body) ≡ good (header_seen h (length body))
+  section_header : long_section_of (section_sent h body) ≡ Ok (header_seen h (length body))
   unfolding long_section_of
   section_header =
       let s = section_sent h body in

@@ -1,6 +1,6 @@
 -- What a sender that conforms to ARIB STD-B60 writes of an MPU extended timestamp descriptor (7.4.3.35) is read right. Assumes nothing.
+use Rattle.std.specs.Prelude.{Some, Option, None}
 use Rattle.std.proofs.Common.{◌≡◌, ℕ, ◌+◌, ◌-◌, ◌*◌, ◌/◌, ◌%◌, ◌<◌, ◌≤◌, Bool, true, List, [], ◌∷◌, ◌++◌, map, length, get_or, sym, refl, ap, ◌∙◌, add-zero, suc-mul, add_comm, zero-mul, arith, length-append, le-ltb, le-leb}
-use mathlib.Core.Option.{Option, none, some}
 use lib.ListN.{length-map}
 use borrow.Author.Tests.{lt-leb}
 use Rattle.isdb_tlv.specs.Guards.{◌=?◌}
@@ -14,7 +14,6 @@ use Rattle.isdb_mmt.specs.WholeValues.WholeDescriptors.{unit_seen, units_in, mpu
 use Rattle.isdb_mmt.specs.Standards.StdB60Sections.{All}
 use Rattle.isdb_mmt.specs.declared.desc.Descriptor.TheVariants.{ExtendedTimestamp}
 use Rattle.isdb_mmt.specs.declared.timestamp.Extended.{Extended}
-use Rattle.isdb_mmt.specs.declared.timestamp.MaybeExtended.TheVariants.{Some as extended}
 use Rattle.isdb_mmt.specs.declared.timestamp.MpuStep.TheVariants.{End as no_mpu, Mpu}
 use Rattle.isdb_mmt.proofs.BytesAt.{FoundAt, located_whole, located_part, located_within, located_front, located_rest, field_read, first_read, byte_read}
 use Rattle.isdb_mmt.proofs.BytesBehind.{found_is}
@@ -123,8 +122,8 @@ mpus_whole_lem {s} o at (m ∷ ms) c h e =
 
 -- the head, by its flags
 scale_end_lem : (t : Option ℕ) (f : ℕ) → f % 2 ≡ timescale_flag t → scale_end f ≡ 1 + size (timescale_fields t)
-scale_end_lem none f e = rw e
-scale_end_lem (some t) f e = rw e
+scale_end_lem None f e = rw e
+scale_end_lem (Some t) f e = rw e
 
 head_end_lem : (o : PtsOffsets) (f : ℕ) → f / 2 % 4 ≡ offset_type o → head_end f ≡ scale_end f + size (offset_fields o)
 head_end_lem unsaid f e = rw (e, add-zero)
@@ -133,8 +132,8 @@ head_end_lem own f e = rw (e, add-zero)
 
 scale_read : {s : List ℕ} (t : Option ℕ) (f : ℕ) → f % 2 ≡ timescale_flag t → Fit (timescale_fields t) → FoundAt s 1 (written (timescale_fields t))
     → timescale_of s f ≡ timescale_seen t
-scale_read none f e fit h = rw e
-scale_read (some t) f e fit h = rw (e, first_read (timescale_fields (some t)) fit h)
+scale_read None f e fit h = rw e
+scale_read (Some t) f e fit h = rw (e, first_read (timescale_fields (Some t)) fit h)
 
 offset_read : {s : List ℕ} (o : PtsOffsets) (f : ℕ) → f / 2 % 4 ≡ offset_type o → Fit (offset_fields o)
     → FoundAt s (scale_end f) (written (offset_fields o)) → default_offset s f ≡ offset_seen o
@@ -148,8 +147,8 @@ type_fits (same d) = omega arith
 type_fits own = omega arith
 
 flag_fits : (t : Option ℕ) → timescale_flag t < 2
-flag_fits none = omega arith
-flag_fits (some t) = omega arith
+flag_fits None = omega arith
+flag_fits (Some t) = omega arith
 
 module _ (e : SentExtended) (c : ExtendedConforming e) where
   abbrev s : List ℕ
@@ -209,7 +208,7 @@ module _ (e : SentExtended) (c : ExtendedConforming e) where
   all_whole : mpus_whole s (is_own e.offsets) start ≡ true
   all_whole = mpus_whole_lem e.offsets start e.mpus c.mpus mpus_found mpus_last
 
-  head_read : extended_of s ≡ extended head
+  head_read : extended_of s ≡ Some head
   unfolding extended_of
   head_read =
       let last = mpus_last in

@@ -1,7 +1,7 @@
 -- An MPT that a conforming sender puts into a feed is the one that a push keeps, and an object that it divides is handed out
 -- whole. Assumes nothing.
+use Rattle.std.specs.Prelude.{Some}
 use Rattle.std.proofs.Common.{◌≡◌, ℕ, Bool, List, [], ◌∷◌, ◌++◌, get_or, drop, sym, refl, ap, ◌∙◌, subst, arith}
-use mathlib.Core.Option.{some}
 use Rattle.isdb_tlv.specs.Fields.{bytes_of}
 use Rattle.isdb_tlv.specs.Iso23008.{Mmtp, sent as mmtp_sent}
 use Rattle.isdb_tlv.specs.StdB32.{kind_code}
@@ -62,7 +62,7 @@ read_as_sent t c =
       assets = r.assets;
     }
 
-same_bytes : {a b : Bytes} → some a ≡ some b → a ≡ b
+same_bytes : {a b : Bytes} → Some a ≡ Some b → a ≡ b
 unfolding or_else
 same_bytes e = ap (or_else []) e
 

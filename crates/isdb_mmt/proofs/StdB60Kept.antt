@@ -1,8 +1,8 @@
 -- Tables that a sender which conforms to ARIB STD-B60 puts into messages are taken by the model in turn, and an MPT is kept. Assumes
 -- nothing.
+use Rattle.std.specs.Prelude.{Option, Some}
 use Rattle.std.proofs.Common.{◌≡◌, ℕ, ◌+◌, ◌%◌, ◌^◌, ◌<◌, ◌≤◌, List, [], ◌∷◌, ◌++◌, map, length, get_or, sym, refl, ap, ◌∙◌, subst, append-nil, add-zero, add_assoc, arith, le-ltb, ne_eqb, le-leb}
 use mathlib.Core.List.{map-append}
-use mathlib.Core.Option.{Option, some}
 use Rattle.isdb_tlv.specs.Bytes.{be}
 use Rattle.isdb_tlv.specs.Fields.{bytes_of, written, Fit}
 use Rattle.isdb_mmt.specs.Decoder.Maps.{or_else, one}
@@ -80,7 +80,7 @@ mpt_kept t c is x last id xs h s =
     let b = mpt_sent t in
     let m = (control_of id s).mpt in
     h.mpt s ∙ rw (last.all, mpt_behind m last.before (b ∷ last.behind), mpt_recognized t c is)
-    (others_same (some b) last.behind last.others)
+    (others_same (Some b) last.behind last.others)
 
 -- tables count as nothing of what message.rs counts
 record Untouched (c d : Counters) : Type 0 where

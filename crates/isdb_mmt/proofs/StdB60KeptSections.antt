@@ -1,6 +1,6 @@
 -- Sections that a sender which conforms to ARIB STD-B60 puts into messages are told from their bytes, and kept. Assumes nothing.
+use Rattle.std.specs.Prelude.{Some}
 use Rattle.std.proofs.Common.{◌≡◌, ℕ, ◌+◌, ◌%◌, ◌^◌, ◌<◌, ◌≤◌, true, eqb, leb, List, ◌++◌, length, get_or, refl, arith, length-append, take_all, le-ltb, eq-eqb, ne_eqb, leb-false}
-use mathlib.Core.Option.{some}
 use borrow.Author.Tests.{lt-leb, eqb-false}
 use Rattle.isdb_tlv.proofs.Guards.{either}
 use Rattle.isdb_tlv.specs.Bytes.{be}
@@ -105,7 +105,7 @@ bit_recognized t c is =
 
 -- a section of another version than the kept one's
 store_one : (st : KeptTables) (h : Header) (b : Bytes) → other_version (find (sent_key h) st.kept) h.version ≡ true
-    → find (sent_key h) (stored st (a_section (sent_section h b))).kept ≡ some (record { version = h.version; bytes = section_sent h b })
+    → find (sent_key h) (stored st (a_section (sent_section h b))).kept ≡ Some (record { version = h.version; bytes = section_sent h b })
 unfolding stored keep keep_if
 store_one st h b other = rw (other, find_put)
 

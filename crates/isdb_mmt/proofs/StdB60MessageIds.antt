@@ -1,7 +1,7 @@
 -- What a sender that conforms to ARIB STD-B60 writes of messages is listed right: every message with its id and table ids. Assumes
 -- nothing.
+use Rattle.std.specs.Prelude.{Some}
 use Rattle.std.proofs.Common.{◌≡◌, ℕ, ◌+◌, ◌-◌, ◌*◌, ◌^◌, ◌<◌, ◌≤◌, eqb, leb, List, [], ◌∷◌, ◌++◌, map, length, get_or, take, sym, refl, ◌∙◌, arith, length-append, get_or-drop, take_all, le-ltb, eq-eqb, ne_eqb, eqb-true, le-leb, leb-true}
-use mathlib.Core.Option.{some}
 use lib.ListN.{get_or-append}
 use borrow.Author.Tests.{lt-leb, eqb-false}
 use Rattle.isdb_tlv.specs.Bytes.{be}
@@ -10,7 +10,6 @@ use Rattle.isdb_tlv.specs.Fields.{Field, field, written, Fit}
 use Rattle.isdb_tlv.specs.Messages.{insert, insert_all, set_of, no_table_ids, listed_from, walked_from, pa_tables, pa_message, section_message}
 use Rattle.isdb_tlv.specs.Messages.{message_of, message_in, prefixed_at, message_at, message_step, messages_from, messages_of}
 use Rattle.isdb_tlv.specs.declared.mmtp.TableIds.{TableIds}
-use Rattle.isdb_tlv.specs.declared.mmtp.MaybeMessage.TheVariants.{Some as some_message}
 use Rattle.isdb_tlv.specs.declared.mmtp.MessageStep.TheVariants.{End, Found}
 use Rattle.isdb_tlv.proofs.Guards.{either}
 use Rattle.isdb_tlv.proofs.Fields.{be_one, length_written}
@@ -60,7 +59,7 @@ module _ {s : List ℕ} where
 
 -- a message
 module _ (id v : ℕ) (t : List ℕ) (from : 0x8000 ≤ id) (to : id ≤ 0x8002) (c : OneTableConforming v t) where
-  one_seen : message_of (one_table_sent id v t) ≡ some_message (record { id = id; tables = set_of (get_or t 0 0 ∷ []) })
+  one_seen : message_of (one_table_sent id v t) ≡ Some (record { id = id; tables = set_of (get_or t 0 0 ∷ []) })
   unfolding message_of section_message
   one_seen =
       let m = one_table_sent id v t in
@@ -73,7 +72,7 @@ module _ (id v : ℕ) (t : List ℕ) (from : 0x8000 ≤ id) (to : id ≤ 0x8002)
       (rw (le-ltb (length m) 6 (omega arith), first))
 
 module _ (v : ℕ) (ts : List SentTable) (c : PaConforming v ts) where
-  pa_seen : message_of (message_sent (pa v ts)) ≡ some_message (message_seen (pa v ts))
+  pa_seen : message_of (message_sent (pa v ts)) ≡ Some (message_seen (pa v ts))
   unfolding message_of pa_message pa_tables set_of
   pa_seen =
       let m = message_sent (pa v ts) in
@@ -90,7 +89,7 @@ module _ (v : ℕ) (ts : List SentTable) (c : PaConforming v ts) where
       (rw (insert_both ids (walked_from (pa_body ts) (length ts * 4 + 1)) no_table_ids, insert_both ids ids no_table_ids)
       (rw (walked_read (length ts * 4 + 1) ts (insert_all ids no_table_ids) c.tables b.tables b.ends))))
 
-message_seen_lem : (m : SentMessage) → MessageConforming m → message_of (message_sent m) ≡ some_message (message_seen m)
+message_seen_lem : (m : SentMessage) → MessageConforming m → message_of (message_sent m) ≡ Some (message_seen m)
 message_seen_lem (pa v ts) c = pa_seen v ts c
 message_seen_lem (m2_section v t) c = one_seen 0x8000 v t (omega arith) (omega arith) c
 message_seen_lem (ca v t) c = one_seen 0x8001 v t (omega arith) (omega arith) c
@@ -115,7 +114,7 @@ module _ {s : List ℕ} {c : SentContent} {b : List ℕ} (u : Payload s 0 c b) w
       (λ e. rw (e, lt-leb (length s) at h)))
 
   -- and behind the last none
-  none_left : (at : ℕ) → 2 < at → length s ≤ at → messages_from s at ≡ some []
+  none_left : (at : ℕ) → 2 < at → length s ≤ at → messages_from s at ≡ Some []
   unfolding message_step
   none_left at from h =
       let end : message_step s at ≡ End =
@@ -124,7 +123,7 @@ module _ {s : List ℕ} {c : SentContent} {b : List ℕ} (u : Payload s 0 c b) w
 
   -- one message
   single_listed : (m : SentMessage) → MessageConforming m → aggregation_flag c.carried ≡ 0 → b ≡ message_sent m
-      → messages_of s ≡ some (message_seen m ∷ [])
+      → messages_of s ≡ Some (message_seen m ∷ [])
   unfolding messages_of message_at message_in
   single_listed m h flag e =
       let long = u.long in
@@ -182,7 +181,7 @@ module _ {s : List ℕ} {c : SentContent} {b : List ℕ} (u : Payload s 0 c b) w
 
     several_listed : (at : ℕ) (m : SentMessage) (ms : List SentMessage) → 2 ≤ at → All MessageConforming (m ∷ ms) → Sized w (m ∷ ms)
         → FoundAt s at (aggregated_sent w (m ∷ ms)) → at + length (aggregated_sent w (m ∷ ms)) ≡ length s
-        → messages_from s at ≡ some (map message_seen (m ∷ ms))
+        → messages_from s at ≡ Some (map message_seen (m ∷ ms))
     several_listed at m [] from h fits found e =
         let r = rest_located at m [] found e in
         let long = message_long m h.0 in
@@ -195,7 +194,7 @@ module _ {s : List ℕ} {c : SentContent} {b : List ℕ} (u : Payload s 0 c b) w
 
 carried_listed : {s : List ℕ} (extension : ℕ) (x : Carried) → extension < 2 → CarriedConforming (length_bytes extension) x
     → Payload s 0 (record { extension = extension; carried = x }) (carried_sent (length_bytes extension) x)
-    → messages_of s ≡ some (map message_seen (carried_messages x))
+    → messages_of s ≡ Some (map message_seen (carried_messages x))
 unfolding messages_of
 carried_listed extension (single m) bit h u = single_listed u m h refl refl
 carried_listed extension (aggregated []) bit h u = absurd (omega arith)

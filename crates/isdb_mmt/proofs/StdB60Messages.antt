@@ -1,6 +1,6 @@
 -- What a sender that conforms to ARIB STD-B60 writes of control payloads and messages is read right. Assumes nothing.
+use Rattle.std.specs.Prelude.{Option, None, Some}
 use Rattle.std.proofs.Common.{◌≡◌, ℕ, ◌+◌, ◌-◌, ◌*◌, ◌/◌, ◌%◌, ◌^◌, ◌<◌, ◌≤◌, Bool, false, List, [], ◌∷◌, ◌++◌, map, length, get_or, drop, refl, ap, ◌∙◌, ap₂, append_assoc, append-nil, add-zero, zero-add, arith, length-append, drop_at, le-ltb, lt-ltb, eq-eqb, ne_eqb, le-leb}
-use mathlib.Core.Option.{Option, none, some}
 use Rattle.isdb_tlv.specs.Guards.{◌=?◌}
 use Rattle.isdb_tlv.specs.Bytes.{be}
 use Rattle.isdb_tlv.specs.Fields.{bytes_of, Field, field, written, Fit}
@@ -13,7 +13,6 @@ use Rattle.isdb_mmt.specs.Decoder.Reassembly.{PartialMessage, Reassembly, short,
 use Rattle.isdb_mmt.specs.Decoder.Reassembly.{reassembly_after, message_completed, orphan, oversize, tables_of, tables_of_all, messages_of}
 use Rattle.isdb_mmt.specs.Decoder.Reassembly.{cut_of, cut_of_all}
 use Rattle.isdb_mmt.specs.Decoder.GivenTables.{tables_given}
-use Rattle.isdb_mmt.specs.Decoder.Maps.{is_some}
 use Rattle.isdb_mmt.specs.Decoder.Objects.{gap}
 use Rattle.isdb_mmt.specs.Formats.Mpu.{follows}
 use Rattle.isdb_mmt.specs.Standards.StdB60Sections.{All}
@@ -250,7 +249,7 @@ payload_read d reserved c counter b index fits flag small =
 
 -- after the packet with the number `n` nothing is being joined
 abbrev nothing_left : ℕ → Reassembly
-nothing_left n = record { number = some n; partial = none }
+nothing_left n = record { number = Some n; partial = None }
 
 -- what a packet does
 record Does (l : Reassembly) (x : MessagePacket) (o : Option PartialMessage) (l' : Reassembly) : Type 0 where
@@ -272,7 +271,7 @@ joined_as j n =
       left = nothing_left n;
     }
 
-whole_joined : {l : Reassembly} {x : MessagePacket} {j : PartialMessage} {n : ℕ} → Does l x (some j) (nothing_left n)
+whole_joined : {l : Reassembly} {x : MessagePacket} {j : PartialMessage} {n : ℕ} → Does l x (Some j) (nothing_left n)
     → joined_by l (x ∷ []) ≡ joined_as j n
 unfolding cut_of_all
 whole_joined e = rw (e.whole, e.orphans, e.oversizes, e.shorts, e.after) (simp (add-zero, zero-add, append-nil))
@@ -285,7 +284,7 @@ module _ (p : SentControl) (c : ControlConforming p) where
       payload_read 0 p.reserved x p.counter (content_sent x) (omega arith) c.reserved c.content.extension c.counter
 
   undivided_does : (id number : ℕ) (l : Reassembly)
-      → Does l (message_packet id number (control_sent p)) (some (content_seen p.content)) (nothing_left number)
+      → Does l (message_packet id number (control_sent p)) (Some (content_seen p.content)) (nothing_left number)
   unfolding message_completed whole_of orphan oversize reassembly_after part_after division_of
   undivided_does id number l =
       let u = undivided in
@@ -316,11 +315,11 @@ abbrev partial_of : SentContent → List ℕ → PartialMessage
 partial_of c b = record { long = c.extension =? 1; aggregated = aggregation_flag c.carried =? 1; bytes = b }
 
 abbrev joining : ℕ → SentContent → List ℕ → Reassembly
-joining n c b = record { number = some n; partial = some (partial_of c b) }
+joining n c b = record { number = Some n; partial = Some (partial_of c b) }
 
 module _ (id : ℕ) (c : SentContent) (flag : c.extension < 2) where
   first_does : (l : Reassembly) (n : ℕ) (p : SentPart) → PartConforming p
-      → Does l (message_packet id n (part_sent 1 c p)) none (joining n c p.bytes)
+      → Does l (message_packet id n (part_sent 1 c p)) None (joining n c p.bytes)
   unfolding message_completed whole_of orphan oversize reassembly_after part_after division_of
   first_does l n p h =
       let s = part_sent 1 c p in
@@ -335,9 +334,9 @@ module _ (id : ℕ) (c : SentContent) (flag : c.extension < 2) where
       }
 
   module _ (n : ℕ) (b : List ℕ) (p : SentPart) (h : PartConforming p) (room : length b + length p.bytes ≤ 1048576) where
-    middle_does : Does (joining n c b) (message_packet id (number_behind_of n) (part_sent 2 c p)) none
+    middle_does : Does (joining n c b) (message_packet id (number_behind_of n) (part_sent 2 c p)) None
         (joining (number_behind_of n) c (b ++ p.bytes))
-    unfolding message_completed whole_of orphan oversize reassembly_after part_before part_after joined_on gap follows is_some division_of
+    unfolding message_completed whole_of orphan oversize reassembly_after part_before part_after joined_on gap follows division_of
     middle_does =
         let s = part_sent 2 c p in
         let u = payload_read 2 p.reserved c p.counter p.bytes (omega arith) h.reserved flag h.counter in
@@ -352,9 +351,9 @@ module _ (id : ℕ) (c : SentContent) (flag : c.extension < 2) where
           after = rw (long, u.division, next, u.content, fits);
         }
 
-    last_does : Does (joining n c b) (message_packet id (number_behind_of n) (part_sent 3 c p)) (some (partial_of c (b ++ p.bytes)))
+    last_does : Does (joining n c b) (message_packet id (number_behind_of n) (part_sent 3 c p)) (Some (partial_of c (b ++ p.bytes)))
         (nothing_left (number_behind_of n))
-    unfolding message_completed whole_of orphan oversize reassembly_after part_before part_after joined_on gap follows is_some division_of
+    unfolding message_completed whole_of orphan oversize reassembly_after part_before part_after joined_on gap follows division_of
     last_does =
         let s = part_sent 3 c p in
         let u = payload_read 3 p.reserved c p.counter p.bytes (omega arith) h.reserved flag h.counter in

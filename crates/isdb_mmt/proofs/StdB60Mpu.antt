@@ -1,6 +1,6 @@
 -- What a sender that conforms to ARIB STD-B60 writes of an MPU payload is read right. Assumes nothing.
+use Rattle.std.specs.Prelude.{Some, Option, None}
 use Rattle.std.proofs.Common.{◌≡◌, ℕ, ◌+◌, ◌-◌, ◌*◌, ◌/◌, ◌%◌, ◌^◌, ◌<◌, ◌≤◌, Bool, true, false, leb, List, [], ◌∷◌, ◌++◌, map, length, get_or, drop, refl, ◌∙◌, append_assoc, append-nil, arith, length-append, take_at, drop_at, le-ltb, le-leb, leb-true}
-use mathlib.Core.Option.{Option, none, some}
 use native.Mathlib.Nat.{add-sub_cancel_left}
 use borrow.Author.Tests.{lt-leb}
 use Rattle.isdb_tlv.specs.Bytes.{be}
@@ -14,7 +14,6 @@ use Rattle.isdb_mmt.specs.Formats.Mpu.{fragment_type_of, indicator, payload_head
 use Rattle.isdb_mmt.specs.Formats.Mpu.{unit_in, unit_at, unit_step, units_from, units_of}
 use Rattle.isdb_mmt.specs.Decoder.Packet.{payload_unit, payload_units, units_for, media_of}
 use Rattle.isdb_mmt.specs.Standards.StdB60Sections.{All}
-use Rattle.isdb_mmt.specs.declared.mpu.MaybeHeader.TheVariants.{Some as some_header}
 use Rattle.isdb_mmt.specs.declared.mpu.PayloadHeader.{PayloadHeader}
 use Rattle.isdb_mmt.specs.declared.mpu.Unit.{Unit as DataUnit}
 use Rattle.isdb_mmt.specs.declared.mpu.UnitStep.TheVariants.{End, Unit as found}
@@ -95,7 +94,7 @@ module _ (p : SentPayload) (c : PayloadConforming p) (r : List ℕ) where
   flags_read : get_or s 2 0 ≡ flags
   flags_read = rw (be_one s 2, of_header 1) (omega arith)
 
-  header_read : payload_header s ≡ some_header (header_seen p)
+  header_read : payload_header s ≡ Some (header_seen p)
   unfolding payload_header
   header_read =
       let n = length (body_sent p.body) in
@@ -164,10 +163,10 @@ module _ (h : PayloadHeader) (s : List ℕ) (t a : Bool) where
   step_end long = rw (le-ltb (length s) 8 (omega arith), lt-leb (length s) 8 long, le-leb (length s) (length s) (omega arith))
 
   payload_also : (x : DataUnit) (o : Option (List DataUnit)) → payload_units h s (also x o) ≡ also (payload_unit h s x) (payload_units h s o)
-  payload_also x none = refl
-  payload_also x (some l) = refl
+  payload_also x None = refl
+  payload_also x (Some l) = refl
 
-  no_more : 8 < length s → payload_units h s (units_from s t a (length s)) ≡ some []
+  no_more : 8 < length s → payload_units h s (units_from s t a (length s)) ≡ Some []
   no_more long = rw (units_at s t a (length s), step_end long)
 
   one_more : (at next : ℕ) (x : DataUnit) → unit_step s t a at ≡ found x next
@@ -188,7 +187,7 @@ module _ (p : SentPayload) (s : List ℕ) where
   unit_read u c at end e h = rw (c.kind, e) at (unit_found u.header u.content at c.fields h)
 
   one_read : (u : SentUnit) → UnitConforming p.timed u → FoundAt s 8 (unit_sent u) → 8 + length (unit_sent u) ≡ length s → 8 < length s
-      → payload_units (header_seen p) s (units_from s (p.timed =? 1) false 8) ≡ some (unit_seen p.division u ∷ [])
+      → payload_units (header_seen p) s (units_from s (p.timed =? 1) false 8) ≡ Some (unit_seen p.division u ∷ [])
   unfolding unit_at
   one_read u c h e long =
       let t = p.timed =? 1 in
@@ -199,7 +198,7 @@ module _ (p : SentPayload) (s : List ℕ) where
 
   units_read_lem : (us : List SentUnit) → All (UnitConforming p.timed) us → (at : ℕ) → 8 ≤ at → 8 < at + length us
       → FoundAt s at (units_sent us) → at + length (units_sent us) ≡ length s → length s < 2 ^ 16 + 2
-      → payload_units (header_seen p) s (units_from s (p.timed =? 1) true at) ≡ some (map (unit_seen p.division) us)
+      → payload_units (header_seen p) s (units_from s (p.timed =? 1) true at) ≡ Some (map (unit_seen p.division) us)
   unfolding unit_at
   units_read_lem [] c at from any h e short =
       let q : at ≡ length s = omega arith in rw q (no_more (header_seen p) s (p.timed =? 1) true (omega arith))
@@ -250,7 +249,7 @@ module _ (p : SentPayload) where
 
   -- so the decoder has the sender's units
   units_had : (b : Body) → UnitsRead (with_body p b) b
-      → units_for (header_seen (with_body p b)) (type_seen b) (payload_sent (with_body p b)) ≡ some (map (unit_seen p.division) (units_in b))
+      → units_for (header_seen (with_body p b)) (type_seen b) (payload_sent (with_body p b)) ≡ Some (map (unit_seen p.division) (units_in b))
   units_had (mpu_metadata b) r = refl
   units_had (movie_fragment_metadata b) r = refl
   units_had (one_unit_of u) r = r

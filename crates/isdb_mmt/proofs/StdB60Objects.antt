@@ -1,6 +1,7 @@
 -- What a sender that conforms to ARIB STD-B60 divides over packets is joined right. Assumes nothing.
+use Rattle.std.specs.Prelude.{None, Some, Option, is_some}
+use Rattle.isdb_tlv.specs.declared.ip.Flow.{Flow}
 use Rattle.std.proofs.Common.{◌≡◌, ℕ, ◌+◌, ◌%◌, ◌^◌, ◌≤◌, Bool, true, false, ◌&&◌, List, [], ◌∷◌, ◌++◌, map, length, get_or, sym, refl, ◌∙◌, append_assoc, append-nil, add-zero, arith, length-append, eq-eqb, ne_eqb, le-leb}
-use mathlib.Core.Option.{Option, none, some}
 use lib.ListN.{length-map}
 use Rattle.isdb_tlv.specs.Guards.{◌=?◌}
 use Rattle.isdb_tlv.specs.Tlv.{packet_type}
@@ -10,8 +11,6 @@ use Rattle.isdb_tlv.specs.Iso23008.{Mmtp, header_of, sent as mmtp_sent}
 use Rattle.isdb_tlv.specs.Rfc791.{flow_of as ipv4_flow}
 use Rattle.isdb_tlv.specs.Rfc8200.{flow_of as ipv6_flow}
 use Rattle.isdb_tlv.specs.StdB32.{ipv6_id, Hcfb, ipv6_id_fits, HcfbConforming, flow_in, hcfb_sent}
-use Rattle.isdb_tlv.specs.declared.ip.MaybeFlow.{MaybeFlow}
-use Rattle.isdb_tlv.specs.declared.ip.MaybeFlow.TheVariants.{None as no_flow_of, Some as some_flow}
 use Rattle.isdb_tlv.proofs.Guards.{cond_elim, either}
 use Rattle.isdb_tlv.proofs.Rfc791.{rfc791}
 use Rattle.isdb_tlv.proofs.Rfc8200.{rfc8200}
@@ -20,7 +19,7 @@ use Rattle.isdb_tlv.proofs.Iso23008.{iso23008}
 use Rattle.isdb_mmt.specs.Formats.Mpu.{follows}
 use Rattle.isdb_mmt.specs.Decoder.Packet.{Bytes, PayloadUnit, MpuPacket, clear, readable, mmtp_in, in_flow, classify}
 use Rattle.isdb_mmt.specs.Decoder.Packet.{Packet, ip_error, ntp, non_mmtp_of, media, message, control, other}
-use Rattle.isdb_mmt.specs.Decoder.Maps.{find, or_else, is_some}
+use Rattle.isdb_mmt.specs.Decoder.Maps.{find, or_else}
 use Rattle.isdb_mmt.specs.Decoder.Objects.{Mfu, Asset, fresh, Rec, most_object, gap, lost_by, UnitEffect, grown, continued, effect_of, object_of, unit_effect}
 use Rattle.isdb_mmt.specs.Decoder.Objects.{after_unit, after_units, delivered_by, malformed_payload, after_headers, asset_after, tagged, passes, media_gives}
 use Rattle.isdb_mmt.specs.Decoder.Model.{State, opened, asset_of, packet_counted, pushed, gives}
@@ -51,18 +50,18 @@ part_received o n d x c =
 -- what follows the last number leaves no gap
 no_gap : (l : Option ℕ) (n : ℕ) → Before l n → gap l n ≡ false
 unfolding gap follows
-no_gap none n b = refl
-no_gap (some l) n b = rw (eq-eqb n ((l + 1) % 2 ^ 32) (sym b))
+no_gap None n b = refl
+no_gap (Some l) n b = rw (eq-eqb n ((l + 1) % 2 ^ 32) (sym b))
 
 none_lost : (l : Option ℕ) (n : ℕ) → Before l n → lost_by l n ≡ 0
 unfolding lost_by follows
-none_lost none n b = refl
-none_lost (some l) n b = rw (eq-eqb n ((l + 1) % 2 ^ 32) (sym b))
+none_lost None n b = refl
+none_lost (Some l) n b = rw (eq-eqb n ((l + 1) % 2 ^ 32) (sym b))
 
 -- a clear packet of one unit that follows: what it does is what its unit does
 pub record Takes (a : Asset) (m : MpuPacket) (x : UnitEffect) : Type 0 where
   pub given : (pass : Bool) → media_gives pass a m ≡ tagged m.id x.outs
-  pub number : (asset_after a m).number ≡ some m.number
+  pub number : (asset_after a m).number ≡ Some m.number
   pub held : (asset_after a m).held ≡ x.held
   pub packets : (asset_after a m).stats.packets ≡ a.stats.packets + 1
   pub delivered : (asset_after a m).stats.mfus ≡ a.stats.mfus + length x.outs
@@ -71,7 +70,7 @@ pub record Takes (a : Asset) (m : MpuPacket) (x : UnitEffect) : Type 0 where
   pub malformed : (asset_after a m).stats.malformed ≡ a.stats.malformed
 
 module _ (a : Asset) (m : MpuPacket) (h : PayloadHeader) (u : PayloadUnit) (next : Before a.number m.number)
-    (unscrambled : m.scrambled ≡ false) (headed : m.header ≡ some h) (holds : m.units ≡ some (u ∷ [])) where
+    (unscrambled : m.scrambled ≡ false) (headed : m.header ≡ Some h) (holds : m.units ≡ Some (u ∷ [])) where
   units_taken : readable m ≡ u ∷ []
   unfolding readable clear
   units_taken = rw (unscrambled, holds)
@@ -82,7 +81,7 @@ module _ (a : Asset) (m : MpuPacket) (h : PayloadHeader) (u : PayloadUnit) (next
   none_passed false = refl
 
   pub takes : Takes a m (effect_of u.fragment a.held (object_of m u))
-  unfolding asset_after after_units after_unit unit_effect after_headers media_gives delivered_by malformed_payload is_some
+  unfolding asset_after after_units after_unit unit_effect after_headers media_gives delivered_by malformed_payload
   takes =
       let g = no_gap a.number m.number next in
       let l = none_lost a.number m.number next in
@@ -147,7 +146,7 @@ module _ (s : State) (m : MpuPacket) where
         non_mmtp = rw add-zero;
       }
 
-  media_delivers : {x : UnitEffect} {o : Mfu} → Takes (asset_of m.id s) m x → x.outs ≡ o ∷ [] → x.drops ≡ 0 → x.held ≡ none
+  media_delivers : {x : UnitEffect} {o : Mfu} → Takes (asset_of m.id s) m x → x.outs ≡ o ∷ [] → x.drops ≡ 0 → x.held ≡ None
       → Delivers m.id s (media m ∷ []) o
   unfolding pushed gives packet_counted tagged push_all give_all
   media_delivers t one_out none_dropped none_held =
@@ -190,7 +189,7 @@ grown_twice g a b = rw (append_assoc g.bytes a b)
 
 -- the parts behind the first, while `g` is held
 rest_delivers : (o : SentObject) (xs : List ObjectPart) (final : ObjectPart) (n : ℕ) (s : State) (g : Mfu) → PartsConforming o n xs final
-    → (asset_of o.packet_id s).held ≡ some g → Before (asset_of o.packet_id s).number n
+    → (asset_of o.packet_id s).held ≡ Some g → Before (asset_of o.packet_id s).number n
     → length g.bytes + length (data_from xs final) ≤ most_object
     → Delivers o.packet_id s (map received (packets_from o n xs final)) (grown g (data_from xs final))
 unfolding effect_of continued
@@ -209,8 +208,8 @@ rest_delivers o (x ∷ xs) final n s g c held b short =
     let after = asset_after_lem s m in
     let s' = pushed s (media m) in
     let g' = grown g x.unit.content in
-    let holds : (asset_of o.packet_id s').held ≡ some g' = rw after (t.held ∙ rw (held, fits)) in
-    let number : (asset_of o.packet_id s').number ≡ some n = rw after t.number in
+    let holds : (asset_of o.packet_id s').held ≡ Some g' = rw after (t.held ∙ rw (held, fits)) in
+    let number : (asset_of o.packet_id s').number ≡ Some n = rw after t.number in
     let before : Before (asset_of o.packet_id s').number (next_number n) = rw number refl in
     let long = length-append g.bytes x.unit.content in
     let rest = rest_delivers o xs final (next_number n) s' g' c.1 holds before (omega arith) in
@@ -218,15 +217,15 @@ rest_delivers o (x ∷ xs) final n s g c held b short =
     (then_delivers (media_passes s m t (rw (held, fits)) (rw (held, fits))) rest)
 
 pub objects : ObjectTheorem
-unfolding effect_of is_some grown
+unfolding effect_of grown
 objects o c short s w =
     let m = part_seen o o.number head o.first in
     let t = part_takes o o.number head o.first c.first (asset_of o.packet_id s) w.number in
     let after = asset_after_lem s m in
     let s' = pushed s (media m) in
     let g = part_object o o.first in
-    let holds : (asset_of o.packet_id s').held ≡ some g = rw after t.held in
-    let number : (asset_of o.packet_id s').number ≡ some o.number = rw after t.number in
+    let holds : (asset_of o.packet_id s').held ≡ Some g = rw after t.held in
+    let number : (asset_of o.packet_id s').number ≡ Some o.number = rw after t.number in
     let before : Before (asset_of o.packet_id s').number (next_number o.number) = rw number refl in
     let long = length-append o.first.unit.content (data_from o.middles o.final) in
     let rest = rest_delivers o o.middles o.final (next_number o.number) s' g c.others holds before (omega arith) in
@@ -338,14 +337,14 @@ among_others o c short s w ps own =
 
 -- ---- what TLV packets carry
 
-in_flow_lem : (b : List ℕ) (f : MaybeFlow) → NotNtp f → in_flow b f ≡ mmtp_in b (mmtp_of b)
-in_flow_lem b no_flow_of n = refl
-in_flow_lem b (some_flow f) n = rw (ne_eqb f.dport 123 n)
+in_flow_lem : (b : List ℕ) (f : Option Flow) → NotNtp f → in_flow b f ≡ mmtp_in b (mmtp_of b)
+in_flow_lem b None n = refl
+in_flow_lem b (Some f) n = rw (ne_eqb f.dport 123 n)
 
 pub carried : {b : List ℕ} {x : ℕ × List ℕ} → Carried b x → classify x.0 x.1 ≡ mmtp_in b (mmtp_of b)
 unfolding classify packet_type
-carried (by_ipv4 d c n) = rw ((rfc791 d c).fields, (rfc791 d c).payload) (in_flow_lem d.payload (some_flow (ipv4_flow d)) n)
-carried (by_ipv6 d c n) = rw ((rfc8200 d c).fields, (rfc8200 d c).payload) (in_flow_lem d.payload (some_flow (ipv6_flow d)) n)
+carried (by_ipv4 d c n) = rw ((rfc791 d c).fields, (rfc791 d c).payload) (in_flow_lem d.payload (Some (ipv4_flow d)) n)
+carried (by_ipv6 d c n) = rw ((rfc8200 d c).fields, (rfc8200 d c).payload) (in_flow_lem d.payload (Some (ipv6_flow d)) n)
 carried (by_hcfb p c n) = rw ((hcfb p c).fields, (hcfb p c).payload) (in_flow_lem p.payload (flow_in p.header) n)
 
 all_carried : (ms : List Mmtp) (f : Feed) → AllCarried ms f → packets_of f ≡ map received ms

@@ -1,10 +1,10 @@
 -- Sections of TLV-SI as a sender that conforms to ARIB STD-B60 writes them are found by the scan. Assumes nothing.
+use Rattle.std.specs.Prelude.{Some}
 use Rattle.std.proofs.Common.{◌≡◌, ℕ, ◌+◌, ◌-◌, ◌*◌, ◌/◌, ◌%◌, true, List, [], ◌∷◌, ◌++◌, map, length, get_or, take, drop, refl, ◌∙◌, append-nil, arith, length-append, take_at, le-ltb}
 use Rattle.isdb_tlv.specs.Bytes.{be}
 use Rattle.isdb_tlv.specs.Crc.{feed, feed_byte, crc_of}
 use Rattle.isdb_tlv.specs.Fields.{bytes_of, Field, field, bits, packed, written, Fit}
 use Rattle.isdb_tlv.specs.Si.{is_tlv_si, whole_size, section_at, sections_from, sections_of, next_section_of}
-use Rattle.isdb_tlv.specs.declared.si.MaybeSection.TheVariants.{Some as some_section}
 use Rattle.isdb_tlv.proofs.Fields.{be_one, length_bytes_of, field_at, offset_of, length_written}
 use Rattle.isdb_tlv.proofs.CrcLinear.{crc_closed}
 use Rattle.isdb_tlv.proofs.Sections.{next_none, next_here, sections_step}
@@ -61,7 +61,7 @@ module _ {s : List ℕ} {at : ℕ} (x : SentSection) (c : SectionConforming x) (
   unfolding section_sent
   crc = crc_closed message
 
-  section_here : section_at s at ≡ some_section (section_seen at x)
+  section_here : section_at s at ≡ Some (section_seen at x)
   unfolding section_at
   section_here =
       let k = c.header in
@@ -76,7 +76,7 @@ module _ {s : List ℕ} {at : ℕ} (x : SentSection) (c : SectionConforming x) (
       (rw (le-ltb (length (bytes_sent x)) 12 (omega (arith, size)), le-ltb (length s - at) (length (bytes_sent x)) (omega arith))
       (rw (bytes_found, crc, of_header 2, version)))
 
-  section_next : next_section_of s at ≡ some_section (section_seen at x)
+  section_next : next_section_of s at ≡ Some (section_seen at x)
   section_next = next_here s at (omega (arith, size, located_within (bytes_sent x) h)) (section_seen at x) section_here
 
   section_rest : sections_from s at ≡ section_seen at x ∷ sections_from s (at + length (bytes_sent x))

@@ -1,12 +1,11 @@
 -- What a sender that conforms to ARIB STD-B60 writes of the AMT and the MH-TOT is read right. Assumes nothing.
+use Rattle.std.specs.Prelude.{Some}
 use Rattle.std.proofs.Common.{◌≡◌, ℕ, ◌+◌, ◌-◌, ◌*◌, ◌/◌, ◌%◌, ◌<◌, List, [], ◌∷◌, ◌++◌, map, length, take, refl, add-zero, arith, length-append, take_all, le-ltb}
-use mathlib.Core.Option.{some}
 use Rattle.isdb_tlv.specs.Guards.{◌=?◌}
 use Rattle.isdb_tlv.specs.Bytes.{be}
 use Rattle.isdb_tlv.specs.Crc.{crc_of}
 use Rattle.isdb_tlv.specs.Fields.{bytes_of, Field, field, bits, packed, written, Fit}
 use Rattle.isdb_tlv.proofs.Fields.{be_one, size, field_at, offset_of, length_written}
-use Rattle.isdb_mmt.specs.Decoder.Maps.{is_some}
 use Rattle.isdb_mmt.specs.Formats.Part.{part_at, part_of}
 use Rattle.isdb_mmt.specs.Formats.Section.{length12}
 use Rattle.isdb_mmt.specs.Formats.Amt.{address_size, flow_of, service_at, services_from, services_whole, amt_body, amt_of}
@@ -15,7 +14,6 @@ use Rattle.isdb_mmt.specs.Standards.StdB60.{loop_sent}
 use Rattle.isdb_mmt.specs.Standards.StdB60Sections.{All}
 use Rattle.isdb_mmt.specs.Standards.StdB60Tables.{Flow, flow4, flow6, flow_fields, is_ipv6, SentFlow, flow_loop, flow_sent, flows_sent, FlowConforming, flow_seen, SentAmt, amt_body_sent, AmtTheorem}
 use Rattle.isdb_mmt.specs.Standards.StdB60Tables.{SentTot, tot_fields, tot_sent, TotConforming, TotTheorem}
-use Rattle.isdb_mmt.specs.declared.table.amt.AmtStep.TheVariants.{Service as service}
 use Rattle.isdb_mmt.proofs.StdB60.{loop_whole, with_crc_lem, with_crc_length, sections}
 use Rattle.isdb_mmt.proofs.BytesAt.{FoundAt, located_whole, located_first, located_part, located_drop, located_within, located_front, located_rest, field_read, first_read}
 
@@ -46,7 +44,7 @@ flow_length : (x : SentFlow) → length (flow_sent x) ≡ 4 + length (flow_loop 
 flow_length x = rw (length-append (written (flow_head x)) (flow_loop x), length_written (flow_head x))
 
 flow_step : {s : List ℕ} {at : ℕ} (x : SentFlow) → FlowConforming x → FoundAt s at (flow_sent x)
-    → service_at s at ≡ service (flow_seen x x.flow) (at + length (flow_sent x))
+    → service_at s at ≡ Some (flow_seen x x.flow, at + length (flow_sent x))
 unfolding service_at
 flow_step {s} {at} x c h =
     let n = length (flow_loop x) in
@@ -71,7 +69,7 @@ flow_step {s} {at} x c h =
     (rw (le-ltb n (address_size (is_ipv6 x.flow =? 1) * 2 + 2) (omega arith))))
 
 flows_read : {s : List ℕ} {at : ℕ} (xs : List SentFlow) → All FlowConforming xs → FoundAt s at (flows_sent xs)
-    → services_from (length xs) s at ≡ some (map (λ x. flow_seen x x.flow) xs)
+    → services_from (length xs) s at ≡ Some (map (λ x. flow_seen x x.flow) xs)
 flows_read [] c h = refl
 flows_read {s = s} {at = at} (x ∷ xs) c h =
     rw (
@@ -83,7 +81,7 @@ abbrev amt_head : SentAmt → List Field
 amt_head t = field 2 (packed (bits 10 (length t.services) ∷ bits 6 t.reserved ∷ [])) ∷ []
 
 pub amt : AmtTheorem
-unfolding amt_of amt_body services_whole is_some
+unfolding amt_of amt_body services_whole
 amt t c =
     let s = amt_body_sent t in
     let n = length t.services in

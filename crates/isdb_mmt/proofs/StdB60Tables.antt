@@ -1,12 +1,11 @@
 -- What a sender that conforms to ARIB STD-B60 writes of MPT and PLT is read right. Assumes nothing.
+use Rattle.std.specs.Prelude.{Some}
 use Rattle.std.proofs.Common.{◌≡◌, ℕ, ◌+◌, ◌-◌, ◌%◌, ◌^◌, ◌<◌, ◌≤◌, true, List, [], ◌∷◌, ◌++◌, map, length, get_or, take, drop, refl, ◌∙◌, ap₂, append_assoc, add-zero, add_assoc, add_comm, arith, length-append, length-drop, get_or-drop, take_all, le-ltb, ne_eqb}
-use mathlib.Core.Option.{some}
 use borrow.Author.Tests.{lt-leb}
 use Rattle.isdb_tlv.specs.Guards.{◌=?◌}
 use Rattle.isdb_tlv.specs.Bytes.{be}
 use Rattle.isdb_tlv.specs.Fields.{Field, field, bits, packed, written, Fit}
 use Rattle.isdb_tlv.proofs.Fields.{be_one, length_written}
-use Rattle.isdb_mmt.specs.Decoder.Maps.{is_some}
 use Rattle.isdb_mmt.specs.Formats.Part.{part_at, part_of}
 use Rattle.isdb_mmt.specs.Formats.Location.{location_of}
 use Rattle.isdb_mmt.specs.Formats.Desc.{Loop}
@@ -19,13 +18,8 @@ use Rattle.isdb_mmt.specs.Standards.StdB60Tables.{table_head, SentMpt, mpt_rest,
 use Rattle.isdb_mmt.specs.Standards.StdB60Tables.{SentPackage, package_sent, packages_sent, PackageConforming, package_seen, package_value}
 use Rattle.isdb_mmt.specs.Standards.StdB60Tables.{Delivery, over_ipv4, over_ipv6, at_url, delivery_type, delivery_location, DeliveryConforming, SentDelivery, delivery_sent, deliveries_sent, SentDeliveryConforming, delivery_value}
 use Rattle.isdb_mmt.specs.Standards.StdB60Tables.{SentPlt, plt_rest, plt_sent, PltConforming, plt_deliveries_start, PltTheorem}
-use Rattle.isdb_mmt.specs.declared.location.Located.TheVariants.{Some as located}
-use Rattle.isdb_mmt.specs.declared.maybe.MaybeUsize.TheVariants.{Some as At}
 use Rattle.isdb_mmt.specs.declared.table.mpt.Asset.{Asset}
-use Rattle.isdb_mmt.specs.declared.table.mpt.AssetStep.TheVariants.{Asset as asset}
 use Rattle.isdb_mmt.specs.declared.table.plt.Package.{Package}
-use Rattle.isdb_mmt.specs.declared.table.plt.PackageStep.TheVariants.{Package as one_package}
-use Rattle.isdb_mmt.specs.declared.table.plt.DeliveryStep.TheVariants.{Delivery as delivery}
 use Rattle.isdb_mmt.proofs.StdB60.{loop_whole, places}
 use Rattle.isdb_mmt.proofs.BytesAt.{FoundAt, located_whole, located_part, located_drop, located_within, located_front, located_rest, field_read, first_read, byte_read}
 
@@ -35,7 +29,7 @@ pub record Headed (s : List ℕ) (i v : ℕ) (r : List ℕ) : Type 0 where
   pub version : get_or s 1 0 ≡ v
   pub rest : FoundAt s 4 r
   pub long : length s ≡ length r + 4
-  pub declared : declared_length_of s ≡ At (length r + 4)
+  pub declared : declared_length_of s ≡ Some (length r + 4)
   pub whole : take (length r + 4) s ≡ s
 
 pub headed : (id version : ℕ) (r : List ℕ) → id < 2 ^ 8 → version < 2 ^ 8 → length r < 2 ^ 16
@@ -61,11 +55,11 @@ headed id version r fits fits2 short =
 -- locations one behind another
 module _ {s : List ℕ} where
   location_read : {at : ℕ} (p : SentLocation) → LocationConforming p → FoundAt s at (location_sent p)
-      → location_of (drop at s) ≡ located (location_seen p) (length (location_sent p))
+      → location_of (drop at s) ≡ Some (location_seen p, length (location_sent p))
   location_read p c h = rw (located_drop (location_sent p) h) (places p c h.behind).location
 
   locations_end_lem : (at : ℕ) (ps : List SentLocation) → All LocationConforming ps → FoundAt s at (locations_sent ps)
-      → locations_end (length ps) s at ≡ At (at + length (locations_sent ps))
+      → locations_end (length ps) s at ≡ Some (at + length (locations_sent ps))
   locations_end_lem at [] c h = rw add-zero
   locations_end_lem at (p ∷ ps) c h =
       let on = locations_end_lem (at + length (location_sent p)) ps c.1 (located_rest (location_sent p) (locations_sent ps) h refl) in
@@ -165,7 +159,7 @@ module _ {s : List ℕ} {at : ℕ} (a : SentAsset) (c : AssetConforming a) (sent
       (rw (length-append (written (size_field (loop_sent a.descriptors))) (loop_sent a.descriptors), length_written (asset_head a))
       (rw (length_written (asset_middle a), length_written (size_field (loop_sent a.descriptors))) (omega arith))))
 
-  asset_step : asset_at_of s at ≡ asset (asset_read a at) (at + length (asset_sent a))
+  asset_step : asset_at_of s at ≡ Some (asset_read a at, at + length (asset_sent a))
   unfolding asset_at_of asset_fields
   asset_step =
       let n = length a.asset_id in
@@ -318,7 +312,7 @@ module _ {s : List ℕ} {at : ℕ} (p : SentPackage) (c : PackageConforming p) (
       rw (package_parts p, length-append (written (byte_field_lem n)) (package_rest p), length-append p.package_id (location_sent p.location))
       (rw (length_written (byte_field_lem n)) (omega arith))
 
-  package_step : package_at_of s at ≡ one_package (package_read p at) (at + length (package_sent p))
+  package_step : package_at_of s at ≡ Some (package_read p at, at + length (package_sent p))
   unfolding package_at_of
   package_step =
       let n = length p.package_id in
@@ -333,7 +327,7 @@ module _ {s : List ℕ} {at : ℕ} (p : SentPackage) (c : PackageConforming p) (
 -- packages one behind another
 module _ (s : List ℕ) where
   packages_end_lem : (at : ℕ) (l : List SentPackage) → All PackageConforming l → FoundAt s at (packages_sent l)
-      → packages_end (length l) s at ≡ At (at + length (packages_sent l))
+      → packages_end (length l) s at ≡ Some (at + length (packages_sent l))
   packages_end_lem at [] c h = rw add-zero
   packages_end_lem at (p ∷ l) c h =
       let on = packages_end_lem (at + length (package_sent p)) l c.1 (located_rest (package_sent p) (packages_sent l) h refl) in
@@ -349,7 +343,7 @@ module _ (s : List ℕ) where
 
 -- the location of an IP delivery, behind its type
 delivery_size_lem : (s : List ℕ) (at : ℕ) (d : Delivery) → DeliveryConforming d → get_or (drop (at + 4) s) 0 0 ≡ delivery_type d
-    → FoundAt s (at + 5) (delivery_location d) → delivery_size (drop (at + 4) s) ≡ At (length (delivery_location d))
+    → FoundAt s (at + 5) (delivery_location d) → delivery_size (drop (at + 4) s) ≡ Some (length (delivery_location d))
 unfolding delivery_size
 delivery_size_lem s at (over_ipv4 a b p) c e h = rw (e, length_written (field 4 a ∷ field 4 b ∷ field 2 p ∷ []))
 delivery_size_lem s at (over_ipv6 ah al bh bl p) c e h =
@@ -392,7 +386,7 @@ module _ {s : List ℕ} {at : ℕ} (x : SentDelivery) (c : SentDeliveryConformin
       (rw (length-append (delivery_location x.place) (with_size x.loop), length-append (written (size_field x.loop)) x.loop)
       (rw (length_written (delivery_head x), length_written (size_field x.loop)) (omega arith)))
 
-  delivery_step : delivery_at_of s at ≡ delivery (delivery_value x) (at + length (delivery_sent x))
+  delivery_step : delivery_at_of s at ≡ Some (delivery_value x, at + length (delivery_sent x))
   unfolding delivery_at_of
   delivery_step =
       let k = length (delivery_location x.place) in
@@ -409,7 +403,7 @@ module _ {s : List ℕ} {at : ℕ} (x : SentDelivery) (c : SentDeliveryConformin
 
 -- IP deliveries one behind another
 deliveries_read : (s : List ℕ) (at : ℕ) (l : List SentDelivery) → All SentDeliveryConforming l → FoundAt s at (deliveries_sent l)
-    → deliveries_from (length l) s at ≡ some (map delivery_value l)
+    → deliveries_from (length l) s at ≡ Some (map delivery_value l)
 deliveries_read s at [] c h = refl
 deliveries_read s at (x ∷ l) c h =
     let on = deliveries_read s (at + length (delivery_sent x)) l c.1 (located_rest (delivery_sent x) (deliveries_sent l) h refl) in
@@ -440,7 +434,7 @@ module _ (t : SentPlt) (c : PltConforming t) where
   plt_deliveries_lem = located_rest (packages_sent t.packages) (plt_deliveries_part t) plt_packages refl
 
 pub plt : PltTheorem
-unfolding plt_of plt_table plt_deliveries deliveries_whole is_some
+unfolding plt_of plt_table plt_deliveries deliveries_whole
 plt t c =
     let s = plt_sent t in
     let end = 5 + length (packages_sent t.packages) in

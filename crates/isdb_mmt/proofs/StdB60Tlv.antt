@@ -1,4 +1,5 @@
 -- What a sender that conforms to ARIB STD-B60 writes of TLV-SI descriptors is read right. Assumes nothing.
+use Rattle.std.specs.Prelude.{Some}
 use Rattle.std.proofs.Common.{◌≡◌, ℕ, suc, ◌+◌, ◌-◌, ◌*◌, ◌/◌, ◌%◌, ◌^◌, ◌<◌, ◌≤◌, List, length, get_or, refl, ap, ◌∙◌, pow-suc, div-add-mod', arith, length-append, le-ltb, lt-ltb}
 use native.Mathlib.Nat.{div-div-eq-div-mul}
 use Rattle.isdb_tlv.specs.Fields.{bytes_of, written, Fit}
@@ -6,7 +7,6 @@ use Rattle.isdb_tlv.proofs.Fields.{be_one, field_at, offset_of, length_written}
 use Rattle.isdb_mmt.specs.Formats.Nit.{tlv_step_at, digit, bcd_from, frequency_of, whole_body}
 use Rattle.isdb_mmt.specs.WholeValues.Steps.{at_end, element}
 use Rattle.isdb_mmt.specs.WholeValues.WholeDescriptors.{tlv_seen as tlv_stood}
-use Rattle.isdb_mmt.specs.declared.maybe.MaybeU64.TheVariants.{Some as some_u64}
 use Rattle.isdb_mmt.proofs.BytesAt.{FoundAt, located_whole, located_part, located_within, located_front, located_rest, first_read, byte_read}
 use Rattle.isdb_mmt.proofs.DescriptorWalks.{rows}
 use Rattle.isdb_mmt.proofs.Nits.{bcd_on}
@@ -47,10 +47,10 @@ module _ (x : SentSatellite) (c : SatelliteConforming x) where
   byte = byte_read (satellite_fields x) fits (located_whole s)
 
   -- behind each digit: the digits so far
-  on : (i k : ℕ) → bcd_from i s ≡ some_u64 (v / 10 ^ suc k) → digit_of v k ≡ digit s i → bcd_from (i + 1) s ≡ some_u64 (v / 10 ^ k)
-  on i k e d = bcd_on s i e d (digit_le v k) ∙ ap some_u64 (one_digit v k)
+  on : (i k : ℕ) → bcd_from i s ≡ Some (v / 10 ^ suc k) → digit_of v k ≡ digit s i → bcd_from (i + 1) s ≡ Some (v / 10 ^ k)
+  on i k e d = bcd_on s i e d (digit_le v k) ∙ ap Some (one_digit v k)
 
-  digits_read : bcd_from 8 s ≡ some_u64 v
+  digits_read : bcd_from 8 s ≡ Some v
   digits_read =
       let none_yet : 0 ≡ v / 10 ^ 8 = omega (arith, c.frequency) in
       let all : v / 10 ^ 0 ≡ v = omega arith in
@@ -61,7 +61,7 @@ module _ (x : SentSatellite) (c : SatelliteConforming x) where
       (on 3 4
       (on 2 5
       (on 1 6
-      (on 0 7 (ap some_u64 none_yet) (high_digit v 7 6 (byte 0 refl)))
+      (on 0 7 (ap Some none_yet) (high_digit v 7 6 (byte 0 refl)))
       (low_digit v 7 6 (byte 0 refl)))
       (high_digit v 5 4 (byte 1 refl)))
       (low_digit v 5 4 (byte 1 refl)))
@@ -69,9 +69,9 @@ module _ (x : SentSatellite) (c : SatelliteConforming x) where
       (low_digit v 3 2 (byte 2 refl)))
       (high_digit v 1 0 (byte 3 refl)))
       (low_digit v 1 0 (byte 3 refl))
-      ∙ ap some_u64 all
+      ∙ ap Some all
 
-  frequency_read : frequency_of 0x43 s ≡ some_u64 (v * 10)
+  frequency_read : frequency_of 0x43 s ≡ Some (v * 10)
   unfolding frequency_of
   frequency_read = rw (le-ltb (length s) 4 (omega (arith, length_written (satellite_fields x))), digits_read)
 

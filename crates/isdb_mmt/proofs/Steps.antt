@@ -1,29 +1,26 @@
 -- Walks by steps: what was found is what the steps give, one by one. Assumes nothing.
+use Rattle.std.specs.Prelude.{Option, None, Some, is_some}
 use Rattle.std.proofs.Common.{◌≡◌, ℕ, zero, suc, ◌-◌, ◌<◌, Bool, true, false, List, [], sym, refl, ap, ◌∙◌, arith}
-use mathlib.Core.Option.{Option, none, some}
 use Rattle.isdb_tlv.specs.Walk.{Next, stop as halt, more, turn, run, also as also_item}
 use Rattle.isdb_tlv.proofs.Walk.{Ahead, walk_at, run_stop, run_more}
-use Rattle.isdb_mmt.specs.Decoder.Maps.{is_some}
 use Rattle.isdb_mmt.specs.WholeValues.Steps.{Stood, at_end, malformed, element, Found, stopped, also, required, counted, onward, to_end, Counts, Ends, last_of}
 use Rattle.isdb_mmt.proofs.Names.{true_not_false}
 
 -- a list of items that is refused whole where one of them is
 pub also_some : {A : Type 0} (x : A) (o : Option (List A)) → is_some (also_item x o) ≡ is_some o
-unfolding is_some
-also_some x none = refl
-also_some x (some l) = refl
+also_some x None = refl
+also_some x (Some l) = refl
 
 -- the turns of the loop that asks whether so many items are all there
 module _ {A : Type 0} (step : ℕ → Next (Option (List A))) (at n : ℕ) where
   abbrev items : ℕ → ℕ → Option (List A)
-  items = run step (λ p. some [])
+  items = run step (λ p. Some [])
 
-  pub all_stop : 0 < n → step at ≡ halt none → is_some (items n at) ≡ false
-  unfolding is_some
-  all_stop h e = ap is_some (run_stop step (λ p. some []) at n h e)
+  pub all_stop : 0 < n → step at ≡ halt None → is_some (items n at) ≡ false
+  all_stop h e = ap is_some (run_stop step (λ p. Some []) at n h e)
 
   pub all_more : (x : A) {next : ℕ} → 0 < n → step at ≡ more next (also_item x) → is_some (items n at) ≡ is_some (items (n - 1) next)
-  all_more x {next} h e = ap is_some (run_more step (λ p. some []) at n h e) ∙ also_some x (items (n - 1) next)
+  all_more x {next} h e = ap is_some (run_more step (λ p. Some []) at n h e) ∙ also_some x (items (n - 1) next)
 
 -- what holds behind an element that stands there
 abbrev pub Leads : {A : Type 0} → (ℕ → Type 0) → Stood A → Type 0

@@ -1,8 +1,8 @@
 -- A state that the places of a session can hold: of every id and key numbers fit, lengths are within areas, bytes are bytes. The
 -- view of every session that passes question 5 is one, with counts up to 2^53, and so is what a packet makes of it, with counts
 -- up to 2^53 + 2^21. Assumes nothing.
+use Rattle.std.specs.Prelude.{Option, None, Some}
 use Rattle.std.proofs.Common.{◌≡◌, ℕ, zero, suc, ◌+◌, ◌*◌, ◌<◌, ◌≤◌, Bool, true, false, List, map, length, get_or, drop, replicate, refl, arith, length-take}
-use mathlib.Core.Option.{Option, none, some}
 use lib.ListN.{length-map}
 use Rattle.isdb_mmt.specs.Decoder.Packet.{Bytes, MpuPacket, MessagePacket, Packet, ip_error, ntp, non_mmtp_of, media, message, control, other, classify}
 use Rattle.isdb_mmt.specs.Decoder.Objects.{Mfu, Asset, fresh, asset_after}
@@ -85,8 +85,8 @@ module _ (l : Limits) (n : ℕ) (s : State) (h : Storable l n s) where
 
   time_after_lem : (t : Option ℕ) → TimeOk t → TimeOk (time_after s.time t)
   unfolding time_after
-  time_after_lem none q = h.time
-  time_after_lem (some t) q = q
+  time_after_lem None q = h.time
+  time_after_lem (Some t) q = q
 
   -- an id's asset, and its reassembly
   pub asset_of_lem : (i : ℕ) → i < 4294967296 → MediaFits l n i (asset_of i s)
@@ -159,7 +159,7 @@ module _ (l : Limits) (n : ℕ) (s : State) (h : Storable l n s) where
       let many = length-map bs (λ (b : Bytes). a_section (section_of b)) in
       counters_more (n + 1) (n + length (control_tables bs)) (n + breaks_in (control_tables bs)) (n + most_added) (n + most_added) (n + most_added) _
       (omega arith) (omega (arith, many, q.0)) (omega (arith, breaks_control bs, q.1))
-      (counted_fit (control_tables bs) (n + 1) n n none s.store _
+      (counted_fit (control_tables bs) (n + 1) n n None s.store _
       (packet_fits n n n 0 0 0 s.counters (omega arith) (omega arith) (omega arith) h.counters))
 
   -- counts need no areas

@@ -1,7 +1,7 @@
 -- What tables do to what is kept and counted: what is kept parses, and counts grow by the number of tables and of their descriptor
 -- loops. Assumes nothing.
+use Rattle.std.specs.Prelude.{Option, None, Some, is_some}
 use Rattle.std.proofs.Common.{◌≡◌, ℕ, suc, ◌+◌, ◌/◌, ◌^◌, ◌≤◌, Bool, true, false, cond, not, ◌&&◌, eqb, ltb, List, [], ◌∷◌, map, length, get_or, set, refl, arith, get_or-set_other, get_or-set_same, ltb-false, ltb-true, eqb-true}
-use mathlib.Core.Option.{Option, none, some}
 use lib.Seq.{set_out}
 use borrow.Author.Tests.{eqb-false}
 use Rattle.isdb_tlv.specs.Bytes.{be}
@@ -9,7 +9,7 @@ use Rattle.isdb_tlv.proofs.Guards.{cond_elim, either}
 use Rattle.isdb_mmt.specs.Standards.StdB60Sections.{All}
 use Rattle.isdb_mmt.specs.declared.decoder.counts.Counters.{Counters}
 use Rattle.isdb_mmt.specs.Decoder.Packet.{Bytes}
-use Rattle.isdb_mmt.specs.Decoder.Maps.{find, is_some}
+use Rattle.isdb_mmt.specs.Decoder.Maps.{find}
 use Rattle.isdb_mmt.specs.Formats.Mpt.{mpt_of}
 use Rattle.isdb_mmt.specs.Formats.Plt.{plt_of}
 use Rattle.isdb_mmt.specs.Formats.Tot.{tot_of}
@@ -82,8 +82,8 @@ breaks_control (b ∷ bs) = omega (arith, breaks_control bs, section_breaks b)
 
 -- a kept table, where there is one, parses
 abbrev pub Parses : (Bytes → Bool) → Option Bytes → Type 0
-Parses parses none = Unit {0}
-Parses parses (some b) = parses b ≡ true
+Parses parses None = Unit {0}
+Parses parses (Some b) = parses b ≡ true
 
 abbrev pub mpt_good_lem : Bytes → Bool
 mpt_good_lem b = mpt_parses (mpt_of b).mpt

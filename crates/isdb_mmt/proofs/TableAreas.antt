@@ -1,12 +1,11 @@
 -- Section places and the areas of tables, written and read back. Assumes nothing.
+use Rattle.std.specs.Prelude.{Option, None, Some, is_some}
 use Rattle.std.proofs.Common.{◌≡◌, ℕ, ◌+◌, ◌*◌, ◌<◌, ◌≤◌, ◌⊎◌, List, [], ◌∷◌, ◌++◌, map, length, take, sym, refl, ap, ◌∙◌, inl, inr, ⊎_elim, append_assoc, add-zero, arith, length-append, take_at}
-use mathlib.Core.Option.{Option, none, some}
 use lib.Seq.{drop-append_seam}
 use Rattle.isdb_tlv.specs.Fields.{written, Fit}
 use Rattle.isdb_tlv.proofs.Fields.{length_written}
 use Rattle.isdb_mmt.specs.Standards.StdB60Sections.{All}
 use Rattle.isdb_mmt.specs.Decoder.Packet.{Bytes}
-use Rattle.isdb_mmt.specs.Decoder.Maps.{is_some}
 use Rattle.isdb_mmt.specs.Decoder.Kept.{Kept}
 use Rattle.isdb_mmt.specs.Memory.Layout.{section_size}
 use Rattle.isdb_mmt.specs.Memory.Lent.{part, over, places_from, indexed}
@@ -66,23 +65,22 @@ module _ (area : ℕ) (o : Option Bytes) (l : Bytes) (i : ℕ) (h : table_length
   length_laid = go o h
     where
       go : (o : Option Bytes) → table_length o ≤ area → length (bytes_over (i * area) o l) ≡ length l
-      go none k = refl
-      go (some b) k = length_over (i * area) b l (omega arith)
+      go None k = refl
+      go (Some b) k = length_over (i * area) b l (omega arith)
 
   pub laid_apart : (j m : ℕ) → (j ≡ i → ⊥) → m ≤ area → part (j * area) m (bytes_over (i * area) o l) ≡ part (j * area) m l
   laid_apart j m ne b = go o h
     where
       go : (o : Option Bytes) → table_length o ≤ area → part (j * area) m (bytes_over (i * area) o l) ≡ part (j * area) m l
-      go none k = refl
-      go (some c) k = rw (add-zero (i * area)) at (area_apart area l c i 0 (omega arith) w j m ne b)
+      go None k = refl
+      go (Some c) k = rw (add-zero (i * area)) at (area_apart area l c i 0 (omega arith) w j m ne b)
 
   pub laid : given (is_some o) (part (i * area) (table_length o) (bytes_over (i * area) o l)) ≡ o
-  unfolding is_some
   laid = go o h
     where
       go : (o : Option Bytes) → table_length o ≤ area → given (is_some o) (part (i * area) (table_length o) (bytes_over (i * area) o l)) ≡ o
-      go none k = refl
-      go (some b) k = ap some (part_over (i * area) b l (omega arith))
+      go None k = refl
+      go (Some b) k = ap Some (part_over (i * area) b l (omega arith))
 
 -- ---- the areas of kept sections
 

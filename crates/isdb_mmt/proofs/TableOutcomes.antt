@@ -1,4 +1,6 @@
 -- What is decided of a table: one law for each return. Assumes nothing.
+use Rattle.isdb_mmt.specs.declared.table.section.Parsed.{Parsed}
+use Rattle.std.specs.Prelude.{Err, None, Ok, Option, Result, Some}
 use Rattle.std.proofs.Common.{◌≡◌, ℕ, zero, suc, ◌+◌, ◌*◌, ◌%◌, ◌<◌, ◌≤◌, Bool, true, false, cond, not, eqb, List, [], ◌∷◌, map, length, get_or, take, sym, refl, ap, ◌∙◌, add-zero, mul-zero, zero-add, arith, length-take, w16, w32, w64, Fits, le-ltb, lt-ltb, eq-eqb, ne_eqb}
 use lib.ListN.{length-map}
 use borrow.Author.Tests.{not-true, not-false}
@@ -16,14 +18,9 @@ use Rattle.isdb_mmt.specs.Formats.Mpt.{mpt_of}
 use Rattle.isdb_mmt.specs.Formats.Plt.{plt_of}
 use Rattle.isdb_mmt.specs.Formats.Tot.{tot_of}
 use Rattle.isdb_mmt.specs.declared.table.tot.Tot.{Tot as TotRead}
-use Rattle.isdb_mmt.specs.declared.table.tot.TotParsed.{TotParsed}
-use Rattle.isdb_mmt.specs.declared.table.tot.TotResult.TheVariants.{Ok as tot_ok, Err as tot_err}
 use Rattle.isdb_mmt.specs.declared.table.mpt.Mpt.{Mpt as MptRead}
 use Rattle.isdb_mmt.specs.declared.table.mpt.MptParsed.{MptParsed}
-use Rattle.isdb_mmt.specs.declared.table.mpt.MaybeMpt.TheVariants.{None as no_mpt, Some as some_mpt}
 use Rattle.isdb_mmt.specs.declared.table.plt.Plt.{Plt as PltRead}
-use Rattle.isdb_mmt.specs.declared.table.plt.MaybePlt.{MaybePlt}
-use Rattle.isdb_mmt.specs.declared.table.plt.MaybePlt.TheVariants.{None as no_plt, Some as some_plt}
 use Rattle.isdb_mmt.specs.Decoder.Kept.{Body, mpt_parses, plt_parses, tot_parses, tot_crc_bad, key_of, declared_section, declared_table, section_of, body_read as model_body, long_table, table_by_id, table_read}
 use Rattle.isdb_mmt.specs.Formats.Eit.{eit_of}
 use Rattle.isdb_mmt.specs.Formats.Sdt.{sdt_of}
@@ -33,10 +30,6 @@ use Rattle.isdb_mmt.specs.Formats.Amt.{amt_of}
 use Rattle.isdb_mmt.specs.declared.table.section.SectionHeader.{SectionHeader}
 use Rattle.isdb_mmt.specs.declared.table.section.SectionError.{SectionError}
 use Rattle.isdb_mmt.specs.declared.table.section.SectionError.TheVariants.{Truncated, Crc, Malformed}
-use Rattle.isdb_mmt.specs.declared.table.section.LongSection.{LongSection}
-use Rattle.isdb_mmt.specs.declared.table.section.LongSection.TheVariants.{Ok as good_section, Err as bad_section}
-use Rattle.isdb_mmt.specs.declared.decoder.place.Found.{Found}
-use Rattle.isdb_mmt.specs.declared.decoder.place.Found.TheVariants.{At, Nothing as not_found}
 use Rattle.isdb_mmt.specs.declared.decoder.section.KeptSection.{KeptSection}
 use Rattle.isdb_mmt.proofs.PlacesFor.{map_names, section_name}
 use Rattle.isdb_mmt.proofs.Lent.{names_of, length_places}
@@ -73,7 +66,7 @@ index_at n l i h = go n 0 i h ∙ ap (λ k. section_place_of (part k section_siz
         go n (at + section_size) i (omega arith) ∙ ap (λ k. section_place_of (part k section_size l)) e
 
 -- a name that is found lies among the names
-pub found_within : (k : ℕ) (names : List ℕ) (x j : ℕ) → found_from k names x ≡ At j → j < k + length names
+pub found_within : (k : ℕ) (names : List ℕ) (x j : ℕ) → found_from k names x ≡ Some j → j < k + length names
 unfolding found_from
 found_within k [] x j e = true_not_false true refl (ap there (sym e))
 found_within k (y ∷ ys) x j e =
@@ -81,8 +74,8 @@ found_within k (y ∷ ys) x j e =
     (λ t. let n : k ≡ j = ap index_in (rw t at e) in omega arith)
     (λ f. let r = found_within (k + 1) ys x j (rw f at e) in omega arith)
 
-module _ (ix : List ℕ) (used x : ℕ) (f : Found) (ef : f ≡ found_from 0 (names_from used section_size 0 ix) x) where
-  pub found_used : (i : ℕ) → f ≡ At i → i < used
+module _ (ix : List ℕ) (used x : ℕ) (f : Option ℕ) (ef : f ≡ found_from 0 (names_from used section_size 0 ix) x) where
+  pub found_used : (i : ℕ) → f ≡ Some i → i < used
   unfolding names_from
   found_used i e =
       let h = found_within 0 (names_from used section_size 0 ix) x i (sym ef ∙ e) in
@@ -93,7 +86,7 @@ module _ (ix : List ℕ) (used x : ℕ) (f : Found) (ef : f ≡ found_from 0 (na
       length_names_of zero at = refl
       length_names_of (suc n) at = ap suc (length_names_of n (at + section_size))
 
-  pub found_place : used ≤ most_sections → (i : ℕ) → f ≡ At i → Fits w64 (section_size * i)
+  pub found_place : used ≤ most_sections → (i : ℕ) → f ≡ Some i → Fits w64 (section_size * i)
   found_place h i e = omega (arith, found_used i e)
 
   by_found : found_from 0 (keys_of (index_of used ix)) x ≡ f
@@ -104,10 +97,10 @@ module _ (ix : List ℕ) (used x : ℕ) (f : Found) (ef : f ≡ found_from 0 (na
     unfolding version_for
     for = ap (version_by (index_of used ix) t h b) (ap (found_from 0 (keys_of (index_of used ix))) (sym ek) ∙ by_found)
 
-    pub version_new : f ≡ not_found → (r : TableOutcome) → r ≡ body_put t h b 0 used x → r ≡ version_for (index_of used ix) t h b
+    pub version_new : f ≡ None → (r : TableOutcome) → r ≡ body_put t h b 0 used x → r ≡ version_for (index_of used ix) t h b
     version_new e r er = er ∙ sym (for ∙ rw (e, length_index used ix, ← ek))
 
-    module _ (i : ℕ) (e : f ≡ At i) (k : KeptSection) (ep : k ≡ place_at ix i) where
+    module _ (i : ℕ) (e : f ≡ Some i) (k : KeptSection) (ep : k ≡ place_at ix i) where
       v : (get_or (index_of used ix) i no_section).version ≡ k.version
       v = ap (λ (z : KeptSection). z.version) (index_at used ix i (found_used i e) ∙ sym ep)
 
@@ -141,11 +134,11 @@ few_table t n en d ed = rw ed (omega (arith, length-take (n + 4) t, en))
 
 -- ---- a section
 
-head_in : (t : Bytes) (h : SectionHeader) → long_section_of t ≡ good_section h → (section_of t).header_and_crc_good ≡ true
+head_in : (t : Bytes) (h : SectionHeader) → long_section_of t ≡ Ok h → (section_of t).header_and_crc_good ≡ true
 unfolding section_of
 head_in t h e = rw e
 
-version_in_lem : (t : Bytes) (h : SectionHeader) → long_section_of t ≡ good_section h → (section_of t).version ≡ h.version
+version_in_lem : (t : Bytes) (h : SectionHeader) → long_section_of t ≡ Ok h → (section_of t).version ≡ h.version
 unfolding section_of
 version_in_lem t h e = rw e
 
@@ -153,7 +146,7 @@ key_in : (t : Bytes) → (section_of t).key ≡ key_of t
 unfolding section_of
 key_in t = refl
 
-module _ (t : Bytes) (h : SectionHeader) (e : long_section_of t ≡ good_section h) where
+module _ (t : Bytes) (h : SectionHeader) (e : long_section_of t ≡ Ok h) where
   abbrev pub read_as : Body → BodyRead
   read_as b = record { ok = b.ok; breaks = b.breaks }
 
@@ -174,9 +167,9 @@ module _ (t : Bytes) (h : SectionHeader) (e : long_section_of t ≡ good_section
       let f : read_as (model_body (get_or t 0 0) t) ≡ body_from (get_or t 0 0) h (part_of t h.body) = body_from_lem (get_or t 0 0) in
       rw (← f, e)
 
-  by_is : (ks : List KeptSection) (f : Found) → version_outcome ks (section_of t) f ≡ version_by ks t h (part_of t h.body) f
-  by_is ks not_found = put_is 0 (length ks)
-  by_is ks (At i) =
+  by_is : (ks : List KeptSection) (f : Option ℕ) → version_outcome ks (section_of t) f ≡ version_by ks t h (part_of t h.body) f
+  by_is ks None = put_is 0 (length ks)
+  by_is ks (Some i) =
       ap (λ w. cond (eqb (get_or ks i no_section).version w) (outcome 0 0 0 0 Nothing) (body_outcome (section_of t) 1 i)) (version_in_lem t h e)
       ∙ ap (λ (z : TableOutcome). cond (eqb (get_or ks i no_section).version h.version) (outcome 0 0 0 0 Nothing) z) (put_is 1 i)
 
@@ -192,11 +185,11 @@ module _ (t : Bytes) (h : SectionHeader) (e : long_section_of t ≡ good_section
       ∙ ap (λ k. version_outcome ks (section_of t) (found_from 0 (keys_of ks) k)) (key_in t)
       ∙ by_is ks (found_from 0 (keys_of ks) (key_of t)))
 
-module _ (t : Bytes) (ks : List KeptSection) (l : LongSection) (el : l ≡ long_section_of t) where
-  pub outcome_good : (h : SectionHeader) → l ≡ good_section h → (b : Bytes) → b ≡ part_of t h.body → (r : TableOutcome) → r ≡ version_for ks t h b → r ≡ section_outcome ks (section_of t)
+module _ (t : Bytes) (ks : List KeptSection) (l : Result SectionHeader SectionError) (el : l ≡ long_section_of t) where
+  pub outcome_good : (h : SectionHeader) → l ≡ Ok h → (b : Bytes) → b ≡ part_of t h.body → (r : TableOutcome) → r ≡ version_for ks t h b → r ≡ section_outcome ks (section_of t)
   outcome_good h e b eb r er = er ∙ ap (version_for ks t h) eb ∙ good_told t h (sym el ∙ e) ks
 
-  module _ (x : SectionError) (e : l ≡ bad_section x) (r : TableOutcome) where
+  module _ (x : SectionError) (e : l ≡ Err x) (r : TableOutcome) where
     pub outcome_crc : x ≡ Crc → r ≡ outcome 1 0 0 0 Nothing → r ≡ section_outcome ks (section_of t)
     unfolding section_outcome section_of
     outcome_crc ex er = er ∙ rw (← el, e, ex)
@@ -209,7 +202,7 @@ module _ (t : Bytes) (ks : List KeptSection) (l : LongSection) (el : l ≡ long_
     unfolding section_outcome section_of
     outcome_bad ex er = er ∙ rw (← el, e, ex)
 
-pub long_is : (ks : List KeptSection) (m p : Recent) (b : Bytes) → table_outcome ks m p (long_table b) ≡ long_outcome ks b
+pub long_is : (ks : List KeptSection) (m p : Option Recent) (b : Bytes) → table_outcome ks m p (long_table b) ≡ long_outcome ks b
 unfolding table_outcome long_outcome
 long_is ks m p b = either (length b <? 7) (λ t. rw t) (λ f. rw f)
 
@@ -223,49 +216,39 @@ long_section ks t h r er = er ∙ rw (le-ltb (length t) 7 h)
 
 -- ---- the others
 
-module _ (r : Recent) (v : ℕ) where
-  pub change_none : not r.there ≡ true → 0 ≡ one (changes_to r v)
-  change_none e = rw (not-true r.there e)
-
-  pub change_same : not r.there ≡ false → r.version ≡ v → 0 ≡ one (changes_to r v)
-  change_same e f = rw (not-false r.there e, eq-eqb r.version v f)
-
-  pub change_other : not r.there ≡ false → (r.version ≡ v → ⊥) → 1 ≡ one (changes_to r v)
-  change_other e f = rw (not-false r.there e, ne_eqb r.version v f)
-
-module _ (m : Recent) (t : Bytes) (x : MptParsed) (ex : x ≡ mpt_of t) where
-  pub mpt_none : x.mpt ≡ no_mpt → outcome 0 1 0 x.breaks Nothing ≡ mpt_outcome m (mpt_parses (mpt_of t).mpt) (mpt_of t).breaks (declared_table t)
+module _ (m : Option Recent) (t : Bytes) (x : MptParsed) (ex : x ≡ mpt_of t) where
+  pub mpt_none : x.mpt ≡ None → outcome 0 1 0 x.breaks Nothing ≡ mpt_outcome m (mpt_parses (mpt_of t).mpt) (mpt_of t).breaks (declared_table t)
   mpt_none e = rw (← ex, e)
 
-  pub mpt_some : (y : MptRead) → x.mpt ≡ some_mpt y → (n : ℕ) → n ≡ be 2 t 2 → (d : Bytes) → d ≡ take (n + 4) t → (v : ℕ) → v ≡ be 1 d 1 → (c : ℕ) → c ≡ one (changes_to m v)
+  pub mpt_some : (y : MptRead) → x.mpt ≡ Some y → (n : ℕ) → n ≡ be 2 t 2 → (d : Bytes) → d ≡ take (n + 4) t → (v : ℕ) → v ≡ be 1 d 1 → (c : ℕ) → c ≡ one (changes_to m v)
       → outcome 0 0 c x.breaks (Mpt v (length d)) ≡ mpt_outcome m (mpt_parses (mpt_of t).mpt) (mpt_of t).breaks (declared_table t)
   mpt_some y e n en d ed v ev c ec =
       let q : declared_table t ≡ d = sym (ed ∙ ap (λ k. take (k + 4) t) en) in
       let w : get_or d 1 0 ≡ v = sym (ev ∙ byte_at d 1) in
       rw (← ex, e, q, w, ec)
 
-module _ (p : Recent) (t : Bytes) (x : MaybePlt) (ex : x ≡ plt_of t) where
-  pub plt_none : x ≡ no_plt → (r : TableOutcome) → r ≡ outcome 0 1 0 0 Nothing → r ≡ plt_outcome p (plt_parses (plt_of t)) (declared_table t)
+module _ (p : Option Recent) (t : Bytes) (x : Option PltRead) (ex : x ≡ plt_of t) where
+  pub plt_none : x ≡ None → (r : TableOutcome) → r ≡ outcome 0 1 0 0 Nothing → r ≡ plt_outcome p (plt_parses (plt_of t)) (declared_table t)
   plt_none e r er = er ∙ rw (← ex, e)
 
-  pub plt_some : (y : PltRead) → x ≡ some_plt y → (n : ℕ) → n ≡ be 2 t 2 → (d : Bytes) → d ≡ take (n + 4) t → (v : ℕ) → v ≡ be 1 d 1 → (c : ℕ) → c ≡ one (changes_to p v)
+  pub plt_some : (y : PltRead) → x ≡ Some y → (n : ℕ) → n ≡ be 2 t 2 → (d : Bytes) → d ≡ take (n + 4) t → (v : ℕ) → v ≡ be 1 d 1 → (c : ℕ) → c ≡ one (changes_to p v)
       → outcome 0 0 c 0 (Plt v (length d)) ≡ plt_outcome p (plt_parses (plt_of t)) (declared_table t)
   plt_some y e n en d ed v ev c ec =
       let q : declared_table t ≡ d = sym (ed ∙ ap (λ k. take (k + 4) t) en) in
       let w : get_or d 1 0 ≡ v = sym (ev ∙ byte_at d 1) in
       rw (← ex, e, q, w, ec)
 
-module _ (t : Bytes) (x : TotParsed) (ex : x ≡ tot_of t) where
+module _ (t : Bytes) (x : Parsed TotRead) (ex : x ≡ tot_of t) where
   abbrev tot_said : TableOutcome
   tot_said = tot_outcome (tot_parses (tot_of t).result) (tot_crc_bad (tot_of t).result) (tot_of t).breaks (declared_section t)
 
-  pub tot_good : (y : TotRead) → x.result ≡ tot_ok y → (n : ℕ) → n ≡ be 2 t 1 % 4096 → (d : Bytes) → d ≡ take (n + 3) t
+  pub tot_good : (y : TotRead) → x.result ≡ Ok y → (n : ℕ) → n ≡ be 2 t 1 % 4096 → (d : Bytes) → d ≡ take (n + 3) t
       → outcome 0 0 0 x.breaks (Tot (length d)) ≡ tot_said
   tot_good y e n en d ed =
       let q : declared_section t ≡ d = sym (ed ∙ ap (λ k. take (k + 3) t) en) in
       rw (← ex, e, q)
 
-  module _ (z : SectionError) (e : x.result ≡ tot_err z) where
+  module _ (z : SectionError) (e : x.result ≡ Err z) where
     pub tot_crc : z ≡ Crc → (r : TableOutcome) → r ≡ outcome 1 0 0 x.breaks Nothing → r ≡ tot_said
     tot_crc ez r er = er ∙ rw (← ex, e, ez)
 
@@ -275,7 +258,7 @@ module _ (t : Bytes) (x : TotParsed) (ex : x ≡ tot_of t) where
     pub tot_bad : z ≡ Malformed → (r : TableOutcome) → r ≡ outcome 0 1 0 x.breaks Nothing → r ≡ tot_said
     tot_bad ez r er = er ∙ rw (← ex, e, ez)
 
-module _ (ks : List KeptSection) (m p : Recent) (t : Bytes) (r : TableOutcome) where
+module _ (ks : List KeptSection) (m p : Option Recent) (t : Bytes) (r : TableOutcome) where
   pub outcome_empty : length t ≡ 0 → r ≡ outcome 0 0 0 0 Nothing → r ≡ table_outcome ks m p (table_read t)
   unfolding table_read table_outcome
   outcome_empty e er = er ∙ rw (eq-eqb (length t) 0 e)

@@ -1,6 +1,9 @@
 -- Readings of kept tables hand out what the view keeps. Assumes nothing.
 use Rattle.std.proofs.Common.{◌≡◌, ℕ, ◌+◌, ◌*◌, ◌<◌, ◌≤◌, Bool, true, false, eqb, ltb, leb, List, [], ◌∷◌, length, sym, refl, ap, ◌∙◌, subst, arith, ltb-false, ltb-true, ne_eqb, eqb-true, leb-true}
-use mathlib.Core.Option.{Option, none, some}
+use Rattle.std.specs.Bool.{then_some}
+use Rattle.std.specs.Prelude.{Option as StdOption, Some, None, Result, Option}
+use Rattle.isdb_mmt.specs.declared.decoder.refusal.Refusal.{Refusal}
+use Rattle.isdb_mmt.specs.declared.decoder.readings.CarriedAsset.{CarriedAsset}
 use lib.Arith.{lt_of_le-ne}
 use borrow.Author.Tests.{eqb-false}
 use Rattle.isdb_tlv.proofs.Guards.{either}
@@ -21,16 +24,10 @@ use Rattle.isdb_mmt.specs.Answers.Readings.{area_part, section_found, section_pa
 use Rattle.isdb_mmt.specs.Answers.ReadingLaws.{names_in, rises, InOrder}
 use Rattle.isdb_mmt.specs.Answers.TableReadingLaws.{says_of, section_bytes, mpt_bytes, Inside, Reads, TablesAreTold, SaysAsset, says_asset, carried_by, mpt_says, kept_says, carried_among, InsideMpt, AssetRead, CarriedAssets, Passes, PassedBelow, AnswerIs, FirstCarriers}
 use Rattle.isdb_mmt.specs.declared.part.Part.{Part}
-use Rattle.isdb_mmt.specs.declared.maybe.MaybeU16.{MaybeU16}
 use Rattle.isdb_mmt.specs.declared.table.mpt.Asset.{Asset}
 use Rattle.isdb_mmt.specs.declared.table.mpt.Mpt.{Mpt}
-use Rattle.isdb_mmt.specs.declared.table.mpt.MaybeMpt.{MaybeMpt}
-use Rattle.isdb_mmt.specs.declared.table.mpt.MaybeMpt.TheVariants.{None as no_mpt, Some as some_mpt}
-use Rattle.isdb_mmt.specs.declared.decoder.readings.AssetReading.{AssetReading}
 use Rattle.isdb_mmt.specs.declared.decoder.limits.Limits.{Limits}
 use Rattle.isdb_mmt.specs.declared.decoder.control.Control.{Control}
-use Rattle.isdb_mmt.specs.declared.decoder.place.Found.{Found}
-use Rattle.isdb_mmt.specs.declared.decoder.place.Found.TheVariants.{At, Nothing}
 use Rattle.isdb_mmt.proofs.Guards.{was_both}
 use Rattle.isdb_mmt.proofs.Names.{true_not_false}
 use Rattle.isdb_mmt.proofs.PlacesFor.{control_names_lem, none_some}
@@ -42,21 +39,21 @@ use Rattle.isdb_mmt.proofs.KeptParts.{found_in_use}
 
 -- ---- a part that may be there, and its bytes
 
-abbrev bytes_in : Bytes → Option Part → Option Bytes
-bytes_in b none = none
-bytes_in b (some p) = some (part_of b p)
+abbrev bytes_in : Bytes → StdOption Part → Option Bytes
+bytes_in b None = None
+bytes_in b (Some p) = Some (part_of b p)
 
-abbrev Within : Bytes → Option Part → Type 0
-Within b none = Unit {0}
-Within b (some p) = p.start + p.length ≤ length b
+abbrev Within : Bytes → StdOption Part → Type 0
+Within b None = Unit {0}
+Within b (Some p) = p.start + p.length ≤ length b
 
-says_so : (parses : Bytes → Bool) (b : Bytes) (o : Option Part) → told_by b (table_if parses b o) ≡ says_of parses (bytes_in b o)
-says_so parses b none = refl
-says_so parses b (some p) = either (parses (part_of b p)) (λ t. rw t refl) (λ f. rw f refl)
+says_so : (parses : Bytes → Bool) (b : Bytes) (o : StdOption Part) → told_by b (table_if parses b o) ≡ says_of parses (bytes_in b o)
+says_so parses b None = refl
+says_so parses b (Some p) = either (parses (part_of b p)) (λ t. rw t refl) (λ f. rw f refl)
 
-stays_inside : (parses : Bytes → Bool) (b : Bytes) (o : Option Part) → Within b o → Inside b (table_if parses b o)
-stays_inside parses b none h = tt
-stays_inside parses b (some p) h = either (parses (part_of b p)) (λ t. rw t h) (λ f. rw f tt)
+stays_inside : (parses : Bytes → Bool) (b : Bytes) (o : StdOption Part) → Within b o → Inside b (table_if parses b o)
+stays_inside parses b None h = tt
+stays_inside parses b (Some p) h = either (parses (part_of b p)) (λ t. rw t h) (λ f. rw f tt)
 
 module _ (s : Session) (ok : sound s ≡ true) where
   abbrev facts : Sound s.state s.others (lengths_of s)
@@ -65,7 +62,7 @@ module _ (s : Session) (ok : sound s ≡ true) where
   abbrev l : Limits
   l = limits_of s.state
 
-  reads : (parses : Bytes → Bool) (o : Option Part) (v : Option Bytes) → bytes_in s.tables o ≡ v → Within s.tables o
+  reads : (parses : Bytes → Bool) (o : StdOption Part) (v : Option Bytes) → bytes_in s.tables o ≡ v → Within s.tables o
       → Reads s.tables (table_read s parses o) parses v
   reads parses o v e w =
       record {
@@ -75,17 +72,17 @@ module _ (s : Session) (ok : sound s ≡ true) where
 
   -- ---- a section
   module _ (k : ℕ) where
-    section_of_lem : (r : Found) → bytes_in s.tables (section_part s r) ≡ section_bytes (kept_entry s r)
-    section_of_lem Nothing = refl
-    section_of_lem (At i) = refl
+    section_of_lem : (r : Option ℕ) → bytes_in s.tables (section_part s r) ≡ section_bytes (kept_entry s r)
+    section_of_lem None = refl
+    section_of_lem (Some i) = refl
 
     section_view : bytes_in s.tables (section_part s (section_found s k)) ≡ section_bytes (find k (view s).store.kept)
     section_view = section_of_lem (section_found s k) ∙ sym (ap section_bytes (section_found_lem s k))
 
-    section_within : (r : Found) → section_found s k ≡ r → Within s.tables (section_part s r)
+    section_within : (r : Option ℕ) → section_found s k ≡ r → Within s.tables (section_part s r)
     unfolding section_found sections_in
-    section_within Nothing e = tt
-    section_within (At i) e =
+    section_within None e = tt
+    section_within (Some i) e =
         let u : i < (used_of s.state).sections =
         found_in_use section_size (used_of s.state).sections section_places k s.state (found_from 0 (names_from (used_of s.state).sections section_size section_places s.state) k) refl i e in
         in_table s facts i (section_at s.state i).length (omega (arith, facts.sections))
@@ -100,13 +97,13 @@ module _ (s : Session) (ok : sound s ≡ true) where
 
   -- ---- an MPT
   module _ (id : ℕ) where
-    at_place : (i : ℕ) (c : Control) (m : Bytes) → bytes_in s.tables (mpt_at l i c) ≡ mpt_bytes (some (control_state_in c m (part ((l.sections + i) * l.table_area) c.mpt_length s.tables)))
+    at_place : (i : ℕ) (c : Control) (m : Bytes) → bytes_in s.tables (mpt_at l i c) ≡ mpt_bytes (Some (control_state_in c m (part ((l.sections + i) * l.table_area) c.mpt_length s.tables)))
     unfolding control_state_in
     at_place i c m = either c.mpt (λ t. rw t refl) (λ f. rw f refl)
 
-    mpt_of_lem : (r : Found) → bytes_in s.tables (mpt_part s r) ≡ mpt_bytes (control_at_place s r)
-    mpt_of_lem Nothing = refl
-    mpt_of_lem (At i) =
+    mpt_of_lem : (r : Option ℕ) → bytes_in s.tables (mpt_part s r) ≡ mpt_bytes (control_at_place s r)
+    mpt_of_lem None = refl
+    mpt_of_lem (Some i) =
         at_place i (control_at s.state i) (part (i * l.message_area) (control_at s.state i).length s.messages)
 
     mpt_view : bytes_in s.tables (mpt_part s (control_found s id)) ≡ mpt_bytes (find id (view s).controls)
@@ -116,10 +113,10 @@ module _ (s : Session) (ok : sound s ≡ true) where
     place_within i h c f =
         either c.mpt (λ t. rw t (in_table s facts (l.sections + i) c.mpt_length (omega arith) (f t))) (λ n. rw n tt)
 
-    mpt_within : (r : Found) → control_found s id ≡ r → Within s.tables (mpt_part s r)
+    mpt_within : (r : Option ℕ) → control_found s id ≡ r → Within s.tables (mpt_part s r)
     unfolding control_found controls_in
-    mpt_within Nothing e = tt
-    mpt_within (At i) e =
+    mpt_within None e = tt
+    mpt_within (Some i) e =
         let u : i < (used_of s.state).control_ids =
         found_in_use control_size (used_of s.state).control_ids control_places id s.state (found_from 0 (names_from (used_of s.state).control_ids control_size control_places s.state) id) refl i e in
         place_within i (omega (arith, facts.controls)) (control_at s.state i)
@@ -133,11 +130,11 @@ module _ (s : Session) (ok : sound s ≡ true) where
         (mpt_within (control_found s id) refl)
 
   -- ---- the PLT and the TOT
-  given_part : (t : Bool) (p : Part) → bytes_in s.tables (given t p) ≡ given t (part_of s.tables p)
+  given_part : (t : Bool) (p : Part) → bytes_in s.tables (then_some t p) ≡ given t (part_of s.tables p)
   given_part true p = refl
   given_part false p = refl
 
-  given_within : (t : Bool) (i n : ℕ) → i < l.sections + l.control_ids + 2 → (t ≡ true → n ≤ l.table_area) → Within s.tables (given t (area_part l i n))
+  given_within : (t : Bool) (i n : ℕ) → i < l.sections + l.control_ids + 2 → (t ≡ true → n ≤ l.table_area) → Within s.tables (then_some t (area_part l i n))
   given_within true i n h f = in_table s facts i n h (f refl)
   given_within false i n h f = tt
 
@@ -166,33 +163,33 @@ kept_tables s ok =
 
 -- ---- the asset that a packet id carries
 
-module _ (p id : ℕ) (tables : Bytes) (rest : AssetReading) where
-  says_carried : (m : Part) (v : MaybeU16) (o : Option Asset) → says_asset tables (carried id m v o rest) ≡ carried_by id (part_of tables m) v o (says_asset tables rest)
-  says_carried m v none = refl
-  says_carried m v (some a) = refl
+module _ (p id : ℕ) (tables : Bytes) (rest : Result (StdOption CarriedAsset) Refusal) where
+  says_carried : (m : Part) (v : Option ℕ) (o : StdOption Asset) → says_asset tables (carried id m v o rest) ≡ carried_by id (part_of tables m) v o (says_asset tables rest)
+  says_carried m v None = refl
+  says_carried m v (Some a) = refl
 
-  says_mpt : (m : Part) (t : MaybeMpt) → says_asset tables (asset_in p id m (part_of tables m) t rest) ≡ mpt_says p id (part_of tables m) t (says_asset tables rest)
-  says_mpt m no_mpt = refl
-  says_mpt m (some_mpt t) =
+  says_mpt : (m : Part) (t : Option Mpt) → says_asset tables (asset_in p id m (part_of tables m) t rest) ≡ mpt_says p id (part_of tables m) t (says_asset tables rest)
+  says_mpt m None = refl
+  says_mpt m (Some t) =
       says_carried m (service_id_of (part_of tables m) t.package_id) (first_carried p (part_of tables m) (assets_from t.assets (part_of tables m) t.start).found)
 
-  says_kept : (o : Option Part) → says_asset tables (asset_if p tables id o rest) ≡ kept_says p id (bytes_in tables o) (says_asset tables rest)
-  says_kept none = refl
-  says_kept (some m) = says_mpt m (mpt_of (part_of tables m)).mpt
+  says_kept : (o : StdOption Part) → says_asset tables (asset_if p tables id o rest) ≡ kept_says p id (bytes_in tables o) (says_asset tables rest)
+  says_kept None = refl
+  says_kept (Some m) = says_mpt m (mpt_of (part_of tables m)).mpt
 
   module _ (r : InsideMpt tables rest) where
-    inside_carried : (m : Part) → m.start + m.length ≤ length tables → (v : MaybeU16) (o : Option Asset) → InsideMpt tables (carried id m v o rest)
-    inside_carried m w v none = r
-    inside_carried m w v (some a) = w
+    inside_carried : (m : Part) → m.start + m.length ≤ length tables → (v : Option ℕ) (o : StdOption Asset) → InsideMpt tables (carried id m v o rest)
+    inside_carried m w v None = r
+    inside_carried m w v (Some a) = w
 
-    inside_mpt : (m : Part) → m.start + m.length ≤ length tables → (t : MaybeMpt) → InsideMpt tables (asset_in p id m (part_of tables m) t rest)
-    inside_mpt m w no_mpt = tt
-    inside_mpt m w (some_mpt t) =
+    inside_mpt : (m : Part) → m.start + m.length ≤ length tables → (t : Option Mpt) → InsideMpt tables (asset_in p id m (part_of tables m) t rest)
+    inside_mpt m w None = tt
+    inside_mpt m w (Some t) =
         inside_carried m w (service_id_of (part_of tables m) t.package_id) (first_carried p (part_of tables m) (assets_from t.assets (part_of tables m) t.start).found)
 
-    inside_kept : (o : Option Part) → Within tables o → InsideMpt tables (asset_if p tables id o rest)
-    inside_kept none w = r
-    inside_kept (some m) w = inside_mpt m w (mpt_of (part_of tables m)).mpt
+    inside_kept : (o : StdOption Part) → Within tables o → InsideMpt tables (asset_if p tables id o rest)
+    inside_kept None w = r
+    inside_kept (Some m) w = inside_mpt m w (mpt_of (part_of tables m)).mpt
 
 module _ (s : Session) (ok : sound s ≡ true) (p : ℕ) where
   says_among : (ids : List ℕ) → says_asset s.tables (asset_among s p ids) ≡ carried_among p (view s).controls ids
@@ -226,7 +223,7 @@ carried_assets s ok p = asset_told_lem s ok p
 
 -- ---- of the MPTs in ascending order, the first that is not passed
 
-some_same : {A : Type 0} (x y : A) → some x ≡ some y → x ≡ y
+some_same : {A : Type 0} (x y : A) → Some x ≡ Some y → x ≡ y
 some_same x y e = cc
 
 above_these : (c j : ℕ) (ids : List ℕ) → rises c ids ≡ true → among j ids ≡ true → c ≤ j
@@ -237,7 +234,7 @@ above_these c j (x ∷ ids) r m =
     let b = leb-true c x q.0 in
     either (eqb x j) (λ t. omega (arith, eqb-true x j t)) (λ f. omega (arith, above_these (x + 1) j ids q.1 (rw f at m)))
 
-kept_named : (m : List (ℕ × ControlState)) (j : ℕ) (b : Bytes) → mpt_bytes (find j m) ≡ some b → among j (names_in m) ≡ true
+kept_named : (m : List (ℕ × ControlState)) (j : ℕ) (b : Bytes) → mpt_bytes (find j m) ≡ Some b → among j (names_in m) ≡ true
 unfolding find among
 kept_named [] j b e = absurd (none_some b e)
 kept_named (x ∷ m) j b e =
@@ -247,7 +244,7 @@ kept_named (x ∷ m) j b e =
 module _ (p : ℕ) (m : List (ℕ × ControlState)) where
   -- those from `a` on stand in a list
   abbrev Listed : ℕ → List ℕ → Type 0
-  Listed a ids = (j : ℕ) (b : Bytes) → mpt_bytes (find j m) ≡ some b → a ≤ j → among j ids ≡ true
+  Listed a ids = (j : ℕ) (b : Bytes) → mpt_bytes (find j m) ≡ Some b → a ≤ j → among j ids ≡ true
 
   module _ (a x : ℕ) (ids : List ℕ) (r : rises a (x ∷ ids) ≡ true) (below : PassedBelow p m a) (listed : Listed a (x ∷ ids)) where
     rise : (a ≤ x) × (rises (x + 1) ids ≡ true)
@@ -269,29 +266,29 @@ module _ (p : ℕ) (m : List (ℕ × ControlState)) where
         let k : among j ids ≡ true = rw g at (listed j b e (ltb-false j a f)) in
         absurd (omega (arith, above_these (x + 1) j ids rise.1 k)))
 
-    below_next : ((b : Bytes) → mpt_bytes (find x m) ≡ some b → Passes p b) → PassedBelow p m (x + 1)
+    below_next : ((b : Bytes) → mpt_bytes (find x m) ≡ Some b → Passes p b) → PassedBelow p m (x + 1)
     below_next f j b h e =
         either (eqb j x) (λ t. let q : j ≡ x = eqb-true j x t in f b (rw q at e))
         (λ n. below_this j b (lt_of_le-ne (omega arith) (eqb-false j x n)) e)
 
     -- from what the MPTs behind this one say
-    module _ (rest : SaysAsset) (on : ((b : Bytes) → mpt_bytes (find x m) ≡ some b → Passes p b) → AnswerIs p m rest) where
-      of_asset : (b : Bytes) → mpt_bytes (find x m) ≡ some b → (t : Mpt) → (mpt_of b).mpt ≡ some_mpt t → (o : Option Asset)
+    module _ (rest : SaysAsset) (on : ((b : Bytes) → mpt_bytes (find x m) ≡ Some b → Passes p b) → AnswerIs p m rest) where
+      of_asset : (b : Bytes) → mpt_bytes (find x m) ≡ Some b → (t : Mpt) → (mpt_of b).mpt ≡ Some t → (o : StdOption Asset)
           → first_carried p b (assets_from t.assets b t.start).found ≡ o
           → AnswerIs p m (carried_by x b (service_id_of b t.package_id) o rest)
-      of_asset b e t d none q =
+      of_asset b e t d None q =
           on (λ c g. let z : b ≡ c = some_same b c (sym e ∙ g) in subst (Passes p) z (record { mpt = t; parses = d; none = q }))
-      of_asset b e t d (some y) q =
+      of_asset b e t d (Some y) q =
           record { kept = e; mpt = t; parses = d; service = refl; asset = q; before = below_this }
 
-      of_mpt : (b : Bytes) → mpt_bytes (find x m) ≡ some b → (t : MaybeMpt) → (mpt_of b).mpt ≡ t → AnswerIs p m (mpt_says p x b t rest)
-      of_mpt b e no_mpt d = (refl, record { id = x; bytes = b; kept = e; broken = d; before = below_this })
-      of_mpt b e (some_mpt t) d =
+      of_mpt : (b : Bytes) → mpt_bytes (find x m) ≡ Some b → (t : Option Mpt) → (mpt_of b).mpt ≡ t → AnswerIs p m (mpt_says p x b t rest)
+      of_mpt b e None d = (refl, record { id = x; bytes = b; kept = e; broken = d; before = below_this })
+      of_mpt b e (Some t) d =
           of_asset b e t d (first_carried p b (assets_from t.assets b t.start).found) refl
 
       of_kept : (o : Option Bytes) → mpt_bytes (find x m) ≡ o → AnswerIs p m (kept_says p x o rest)
-      of_kept none e = on (λ b g. absurd (none_some b (sym e ∙ g)))
-      of_kept (some b) e = of_mpt b e (mpt_of b).mpt refl
+      of_kept None e = on (λ b g. absurd (none_some b (sym e ∙ g)))
+      of_kept (Some b) e = of_mpt b e (mpt_of b).mpt refl
 
   answer : (a : ℕ) (ids : List ℕ) → rises a ids ≡ true → PassedBelow p m a → Listed a ids → AnswerIs p m (carried_among p m ids)
   unfolding carried_among among

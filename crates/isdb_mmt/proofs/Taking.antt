@@ -1,14 +1,12 @@
 -- A packet that is taken, arm by arm: what each arm leaves and answers is what is asked of the packet. Assumes nothing.
+use Rattle.std.specs.Prelude.{None, Some, Option}
 use Rattle.std.proofs.Common.{◌≡◌, ℕ, List, [], map, length, take, drop, sym, refl, ap, ◌∙◌, subst, arith, length-drop}
-use mathlib.Core.Option.{Option}
 use Rattle.isdb_tlv.specs.Tlv.{packet_type}
 use Rattle.isdb_tlv.specs.Mmtp.{mmtp_of}
 use Rattle.isdb_tlv.specs.Si.{sections_of}
 use Rattle.isdb_tlv.specs.declared.mmtp.PayloadType.TheVariants.{Mpu, GenericObject, Messages, FecRepair, Reserved}
 use Rattle.isdb_tlv.specs.declared.mmtp.Header.{Header}
 use Rattle.isdb_tlv.specs.declared.mmtp.Packet.{Packet as MmtpPacket}
-use Rattle.isdb_tlv.specs.declared.mmtp.Parsed.{Parsed}
-use Rattle.isdb_tlv.specs.declared.mmtp.Parsed.TheVariants.{None as not_mmtp, Some as some_mmtp}
 use Rattle.isdb_mmt.specs.Decoder.Packet.{Bytes, MpuPacket, Packet, ip_error, ntp, non_mmtp_of, media, message, control, other, classify, mmtp_in, media_of, by_type, message_packet}
 use Rattle.isdb_mmt.specs.Decoder.Model.{packet_counted, pushed, gives}
 use Rattle.isdb_mmt.specs.Decoder.Needs.{needs}
@@ -22,7 +20,6 @@ use Rattle.isdb_mmt.specs.Pushes.Route.{route_of, routed, time_in, time_given}
 use Rattle.isdb_mmt.specs.Pushes.MediaPush.{MediaPushed}
 use Rattle.isdb_mmt.specs.Pushes.MediaCommit.{CanPushMedia}
 use Rattle.isdb_mmt.specs.Pushes.Push.{Fits, asks_of, PacketPushed, QuietPushed, CanTakePacket}
-use Rattle.isdb_mmt.specs.declared.maybe.MaybeU64.{MaybeU64}
 use Rattle.isdb_mmt.specs.declared.decoder.records.Answer.{Answer}
 use Rattle.isdb_mmt.specs.declared.decoder.route.Route.{Route}
 use Rattle.isdb_mmt.proofs.Counting.{state_countable}
@@ -158,8 +155,8 @@ module _ (s : Session) (rows out : Bytes) (h : Header) (b : Bytes) (can : CanTak
 
 -- ---- MMTP or not
 
-module _ (s : Session) (rows out : Bytes) (b : Bytes) (can : CanTakePacket s b) (x : Parsed) (e : x ≡ mmtp_of b) where
-  pub not_mmtp_lem : x ≡ not_mmtp → (l : List ℕ)
+module _ (s : Session) (rows out : Bytes) (b : Bytes) (can : CanTakePacket s b) (x : Option MmtpPacket) (e : x ≡ mmtp_of b) where
+  pub not_mmtp_lem : x ≡ None → (l : List ℕ)
       → l ≡ with_counters (packet_counted (counters_of s.state) 0 1 0) s.state → (a : Answer) → a ≡ accepted_as 0 0
       → PacketPushed s rows out (mmtp_in b (mmtp_of b)) a.number a.records a.bytes (lent l s.others s.objects s.messages s.tables) rows out
   unfolding gives
@@ -168,7 +165,7 @@ module _ (s : Session) (rows out : Bytes) (b : Bytes) (can : CanTakePacket s b) 
       same_packet s rows out non_mmtp_of (mmtp_in b (mmtp_of b)) (ap (mmtp_in b) (sym k ∙ e)) a.number a.records a.bytes s' rows out
       (quiet_arm s rows out non_mmtp_of refl 0 s' (quiet_non s can.session l f) a g)
 
-  pub is_mmtp : (p : MmtpPacket) → x ≡ some_mmtp p → (d : Bytes) → d ≡ drop p.start b → (a : Answer) (s' : Session) (rows' out' : Bytes)
+  pub is_mmtp : (p : MmtpPacket) → x ≡ Some p → (d : Bytes) → d ≡ drop p.start b → (a : Answer) (s' : Session) (rows' out' : Bytes)
       → PacketPushed s rows out (by_type p.header d p.header.payload_type) a.number a.records a.bytes s' rows' out'
       → PacketPushed s rows out (mmtp_in b (mmtp_of b)) a.number a.records a.bytes s' rows' out'
   is_mmtp p k d j a s' rows' out' q =
@@ -204,12 +201,12 @@ module _ (s : Session) (rows out : Bytes) (kind : ℕ) (b : Bytes) (can : CanTak
     unfolding gives
     route_other k f = counted_arm other refl (ap (routed b) k) (quiet_other s can.session l f)
 
-    pub route_time : (at : ℕ) → r ≡ Route.Time at → (d : Bytes) → d ≡ drop at b → (t : MaybeU64) → t ≡ time_in d
+    pub route_time : (at : ℕ) → r ≡ Route.Time at → (d : Bytes) → d ≡ drop at b → (t : Option ℕ) → t ≡ time_in d
         → l ≡ with_counters (packet_counted (counters_of s.state) 0 0 1) (with_time (time_given t) s.state) → Taken1
     unfolding gives
     route_time at k d j t i f =
         counted_arm (ntp (time_given t)) refl
-        (ap (routed b) k ∙ ap (λ (y : MaybeU64). ntp (time_given y)) (sym (i ∙ ap time_in j))) (quiet_time s can.session (time_given t) l f)
+        (ap (routed b) k ∙ ap (λ (y : Option ℕ). ntp (time_given y)) (sym (i ∙ ap time_in j))) (quiet_time s can.session (time_given t) l f)
 
   pub route_control : r ≡ Route.Control → (n : ℕ) (s' : Session)
       → QuietPushed s (control (map (λ y. take y.size (drop y.offset b)) (sections_of b))) n s' → (a : Answer) → a ≡ refused_as n

@@ -1,11 +1,10 @@
 -- The MPUs of an extended timestamp descriptor: one leads on to a place ahead and lies within the bytes, so that steps from one
 -- to the next go over all of them. Assumes nothing.
+use Rattle.std.specs.Prelude.{None}
 use Rattle.std.proofs.Common.{◌≡◌, ℕ, ◌+◌, ◌-◌, ◌*◌, ◌%◌, ◌<◌, ◌≤◌, Bool, true, false, eqb, ltb, leb, List, length, get_or, refl, arith, ltb-false}
-use mathlib.Core.Option.{none}
 use Rattle.isdb_tlv.specs.Walk.{turn}
 use Rattle.isdb_tlv.proofs.Walk.{Ahead, walk_at}
 use Rattle.isdb_tlv.proofs.Guards.{cond_elim}
-use Rattle.isdb_mmt.specs.Decoder.Maps.{is_some}
 use Rattle.isdb_mmt.specs.Formats.Timestamp.{scale_end, unit_size_of, mpu_at, mpu_item, mpus_from, mpus_whole}
 use Rattle.isdb_mmt.proofs.Steps.{also_some}
 use Rattle.isdb_mmt.specs.declared.part.Part.{Part}
@@ -58,15 +57,15 @@ module _ (s : List ℕ) (own : Bool) where
   pub mpus_at : (at : ℕ) → mpus_from s own at ≡ turn (mpus_from s own) (mpu_item (mpu_at s own at))
   unfolding mpus_from
   mpus_at at =
-      walk_at (λ p. mpu_item (mpu_at s own p)) none (length s) (λ p. ahead_of p (mpu_at s own p) (mpu_inside p)) at
+      walk_at (λ p. mpu_item (mpu_at s own p)) None (length s) (λ p. ahead_of p (mpu_at s own p) (mpu_inside p)) at
 
   -- the three turns of the walk that asks whether they are whole
   pub whole_end : (at : ℕ) → mpu_at s own at ≡ End → mpus_whole s own at ≡ true
-  unfolding mpus_whole is_some
+  unfolding mpus_whole
   whole_end at e = rw (mpus_at at, e)
 
   pub whole_broken : (at : ℕ) → mpu_at s own at ≡ Broken → mpus_whole s own at ≡ false
-  unfolding mpus_whole is_some
+  unfolding mpus_whole
   whole_broken at e = rw (mpus_at at, e)
 
   pub whole_on_lem : (at : ℕ) {q l d n next : ℕ} {units : Part} → mpu_at s own at ≡ Mpu q l d n units next → mpus_whole s own at ≡ mpus_whole s own next

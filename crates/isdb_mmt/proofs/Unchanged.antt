@@ -1,8 +1,8 @@
 -- What a session says lies in its bytes: stored again, it changes nothing. Assumes nothing.
+use Rattle.std.specs.Prelude.{is_some}
 use Rattle.std.proofs.Common.{◌≡◌, ℕ, ◌+◌, ◌*◌, ◌≤◌, Bool, true, false, List, [], ◌∷◌, ◌++◌, map, length, sym, refl, ap, ◌∙◌, arith}
 use Rattle.isdb_tlv.specs.Fields.{written}
 use Rattle.isdb_mmt.specs.Decoder.Packet.{Bytes}
-use Rattle.isdb_mmt.specs.Decoder.Maps.{is_some}
 use Rattle.isdb_mmt.specs.Decoder.Kept.{Kept}
 use Rattle.isdb_mmt.specs.Memory.Lent.{part, over, places_from, indexed}
 use Rattle.isdb_mmt.specs.Memory.Layout.{section_places, section_size}
@@ -47,7 +47,6 @@ kept_same l s (x ∷ xs) k =
     ∙ kept_same l s xs (k + 1)
 
 pub is_there : (b : Bool) {A : Type 0} (a : A) → is_some (given b a) ≡ b
-unfolding is_some
 is_there true a = refl
 is_there false a = refl
 

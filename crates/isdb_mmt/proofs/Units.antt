@@ -1,7 +1,7 @@
 -- The units of an MPU payload: each leads on to a place ahead and its data lie within the declared bytes, so that steps from one
 -- to the next go over all of them. Assumes nothing.
+use Rattle.std.specs.Prelude.{None, Some, Option, is_some}
 use Rattle.std.proofs.Common.{◌≡◌, ℕ, ◌+◌, ◌-◌, ◌≤◌, Bool, true, not, ltb, leb, List, length, refl, ◌∙◌, arith, ltb-false, leb-true}
-use mathlib.Core.Option.{none, Option, some}
 use Rattle.isdb_tlv.specs.Bytes.{be}
 use Rattle.isdb_tlv.specs.Walk.{turn, also}
 use Rattle.isdb_tlv.proofs.Walk.{Ahead, walk_at, plus, one_more as one_more_item}
@@ -11,9 +11,6 @@ use Rattle.isdb_mmt.specs.Formats.Mpu.{unit_in, unit_at, unit_step, item, units_
 use Rattle.isdb_mmt.specs.declared.mpu.Unit.{Unit as DataUnit}
 use Rattle.isdb_mmt.specs.declared.mpu.UnitStep.{UnitStep}
 use Rattle.isdb_mmt.specs.declared.mpu.UnitStep.TheVariants.{End, Malformed, Unit as found}
-use Rattle.isdb_mmt.specs.declared.mpu.UnitCount.{UnitCount}
-use Rattle.isdb_mmt.specs.declared.mpu.UnitCount.TheVariants.{Malformed as not_whole, Count}
-use Rattle.isdb_mmt.specs.Decoder.Maps.{is_some}
 
 abbrev pub Inside : List ℕ → ℕ → UnitStep → Type 0
 Inside s at End = Unit {0}
@@ -64,7 +61,7 @@ module _ (s : List ℕ) (timed aggregated : Bool) where
   pub units_at : (at : ℕ) → units_from s timed aggregated at ≡ turn (units_from s timed aggregated) (item (unit_step s timed aggregated at))
   unfolding units_from
   units_at at =
-      walk_at (λ p. item (unit_step s timed aggregated p)) none (length s) (λ p. ahead_of p (unit_step s timed aggregated p) (unit_inside p)) at
+      walk_at (λ p. item (unit_step s timed aggregated p)) None (length s) (λ p. ahead_of p (unit_step s timed aggregated p) (unit_inside p)) at
 
 -- where a unit was found, they are it and those behind it
 pub units_also : (s : List ℕ) (timed aggregated : Bool) (at next : ℕ) (u : DataUnit) (x : UnitStep) → x ≡ unit_step s timed aggregated at → x ≡ found u next
@@ -72,13 +69,12 @@ pub units_also : (s : List ℕ) (timed aggregated : Bool) (at next : ℕ) (u : D
 units_also s timed aggregated at next u x ex e = rw (units_at s timed aggregated at, ← ex, e)
 
 pub whole_behind : (u : DataUnit) (o : Option (List DataUnit)) → is_some (also u o) ≡ true → is_some o ≡ true
-unfolding is_some
-whole_behind u none h = h
-whole_behind u (some us) h = refl
+whole_behind u None h = h
+whole_behind u (Some us) h = refl
 
 -- the turn of the loop that counts them
-pub one_more : (s : List ℕ) (timed aggregated : Bool) (at k : ℕ) {u : DataUnit} {next : ℕ} {r : UnitCount}
-    → unit_step s timed aggregated at ≡ found u next → plus not_whole Count k (units_from s timed aggregated at) ≡ r
-    → plus not_whole Count (k + 1) (units_from s timed aggregated next) ≡ r
+pub one_more : (s : List ℕ) (timed aggregated : Bool) (at k : ℕ) {u : DataUnit} {next : ℕ} {r : Option ℕ}
+    → unit_step s timed aggregated at ≡ found u next → plus None Some k (units_from s timed aggregated at) ≡ r
+    → plus None Some (k + 1) (units_from s timed aggregated next) ≡ r
 one_more s timed aggregated at k {u} {next} d e =
-    one_more_item not_whole Count k u (units_from s timed aggregated next) (units_at s timed aggregated at ∙ rw d) e
+    one_more_item None Some k u (units_from s timed aggregated next) (units_at s timed aggregated at ∙ rw d) e

@@ -1,6 +1,6 @@
 -- What demand 3 and the questions rule out: each useless decoder of the scope, whatever else it does. Assumes nothing.
+use Rattle.std.specs.Prelude.{None, Some}
 use Rattle.std.proofs.Common.{◌≡◌, ℕ, zero, suc, true, List, [], ◌∷◌, ◌++◌, length, get_or, sym, refl, ap, ◌∙◌, append-nil, arith, ltb-true}
-use mathlib.Core.Option.{none, some}
 use Rattle.isdb_tlv.specs.Guards.{◌<?◌}
 use Rattle.isdb_mmt.specs.Decoder.Packet.{Bytes}
 use Rattle.isdb_mmt.specs.Decoder.Maps.{find, or_else}
@@ -42,7 +42,7 @@ book_lost : (book media_id (packet_of first ∷ [])).lost ≡ 0
 unfolding told
 book_lost = refl
 
-book_held : (book media_id (packet_of begins ∷ [])).held ≡ some ab
+book_held : (book media_id (packet_of begins ∷ [])).held ≡ Some ab
 unfolding told
 book_held = refl
 
@@ -109,7 +109,7 @@ module _ (d : Decoder) (h : Demand3 d) where
       rw (e1, e2, append-nil, delivered_of_append media_id (records_in d start first) (records_in d (then d) second), book_both)
       at (both.holds.ids media_id).delivered
 
-  stays_none : held_in start media_id ≡ none
+  stays_none : held_in start media_id ≡ None
   unfolding opened asset_of find or_else fresh_asset held_bytes
   stays_none = rw (held_said_lem start media_id, (opening (small 9) (blank 2) fits).state) refl
 
@@ -131,7 +131,7 @@ module _ (d : Decoder) (h : Demand3 d) where
             let k = rw (z, delivers_first e1) at (delivers_both e1 e2) in
             omega (arith, ap (λ (l : List Bytes). get_or (get_or l 1 []) 0 0) k);
         moves = λ e l.
-            let k : held_in start media_id ≡ some ab = rw (l, e, book_held) at ((one begins bytes_begins).holds.ids media_id).held in
+            let k : held_in start media_id ≡ Some ab = rw (l, e, book_held) at ((one begins bytes_begins).holds.ids media_id).held in
             omega (arith, ap is_held (sym stays_none ∙ k));
       }
 

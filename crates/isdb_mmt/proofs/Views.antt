@@ -1,13 +1,12 @@
 -- Places and the model's maps: a name's place is its entry, a place that is stored is an entry put, the next free place is a new
 -- entry. Assumes nothing.
+use Rattle.std.specs.Prelude.{None, Some}
 use Rattle.std.proofs.Common.{◌≡◌, ℕ, zero, suc, ◌+◌, ◌-◌, ◌*◌, ◌<◌, ◌≤◌, true, false, eqb, ltb, List, [], ◌∷◌, ◌++◌, map, length, get_or, set, sym, refl, ap, ◌∙◌, inl, inr, add-zero, mul-le-mul_right, arith, ltb-false, ltb-true, eq-eqb, ne_eqb, eqb-true}
-use mathlib.Core.Option.{none, some}
 use lib.Arith.{lt_of_le-ne}
 use borrow.Author.Tests.{eqb-false}
 use Rattle.isdb_tlv.proofs.Guards.{either}
 use Rattle.isdb_mmt.specs.Decoder.Maps.{find, put}
 use Rattle.isdb_mmt.specs.Memory.Lent.{part, over, places_from, found_from, indexed}
-use Rattle.isdb_mmt.specs.declared.decoder.place.Found.TheVariants.{At, Nothing}
 use Rattle.isdb_mmt.proofs.Lent.{places_set, places_snoc, part_apart}
 use Rattle.isdb_mmt.proofs.Names.{true_not_false, there, index_in}
 
@@ -23,10 +22,10 @@ module _ {A : Type 0} where
   -- `e` is found `i` places behind the first
   pub record FoundAt (es : List (ℕ × A)) (x i : ℕ) : Type 0 where
     pub within : i < length es
-    pub found : (d : A) → find x es ≡ some (entry es i d)
+    pub found : (d : A) → find x es ≡ Some (entry es i d)
     pub stored : (a : A) → put x a es ≡ set es i (x, a)
 
-  pub found_at : (es : List (ℕ × A)) (x k j : ℕ) → found_from k (keys es) x ≡ At j → (k ≤ j) × FoundAt es x (j - k)
+  pub found_at : (es : List (ℕ × A)) (x k j : ℕ) → found_from k (keys es) x ≡ Some j → (k ≤ j) × FoundAt es x (j - k)
   unfolding found_from find put
   found_at [] x k j e = true_not_false true refl (ap there (sym e))
   found_at (y ∷ es) x k j e =
@@ -49,8 +48,8 @@ module _ {A : Type 0} where
             }),
       ))
 
-  pub absent : (es : List (ℕ × A)) (x k : ℕ) → found_from k (keys es) x ≡ Nothing
-      → (find x es ≡ none) × ((a : A) → put x a es ≡ es ++ ((x, a) ∷ []))
+  pub absent : (es : List (ℕ × A)) (x k : ℕ) → found_from k (keys es) x ≡ None
+      → (find x es ≡ None) × ((a : A) → put x a es ≡ es ++ ((x, a) ∷ []))
   unfolding found_from find put
   absent [] x k e = (refl, λ a. refl)
   absent (y ∷ es) x k e =

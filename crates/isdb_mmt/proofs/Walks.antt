@@ -1,10 +1,16 @@
 -- The walks over an MPT's assets and their locations, a PLT's packages and deliveries: where the table parses, each step gives
 -- the next element of the whole value. Assumes nothing.
+use Rattle.std.specs.Prelude.{None, Option, Some, is_some}
+use Rattle.isdb_mmt.specs.declared.table.plt.Plt.{Plt}
+use Rattle.isdb_mmt.specs.declared.table.plt.IpDelivery.{IpDelivery}
+use Rattle.isdb_mmt.specs.declared.table.plt.Package.{Package}
+use Rattle.isdb_mmt.specs.declared.table.mpt.Mpt.{Mpt}
+use Rattle.isdb_mmt.specs.declared.table.mpt.Asset.{Asset}
+use Rattle.isdb_mmt.specs.declared.location.Location.{Location}
 use Rattle.std.proofs.Common.{◌≡◌, ℕ, ◌+◌, ◌-◌, true, false, not, eqb, ltb, List, length, get_or, drop, sym, refl, ◌∙◌}
 use Rattle.isdb_tlv.specs.Bytes.{be}
 use Rattle.isdb_tlv.specs.Walk.{turn}
 use Rattle.isdb_tlv.proofs.Guards.{cond_elim, either}
-use Rattle.isdb_mmt.specs.Decoder.Maps.{is_some}
 use Rattle.isdb_mmt.specs.Formats.Location.{location_of}
 use Rattle.isdb_mmt.specs.Formats.Mpt.{declared_length_of, behind_location, locations_end, asset_fields, asset_behind, asset_at_of, asset_item, assets_from, mpt_in, mpt_assets, mpt_table, mpt_of}
 use Rattle.isdb_mmt.specs.Formats.Plt.{package_at_of, behind_package, packages_end, delivery_at_of, delivery_item, deliveries_from, deliveries_whole, plt_with, plt_deliveries, plt_behind, plt_table, plt_in, plt_of}
@@ -13,59 +19,44 @@ use Rattle.isdb_mmt.specs.WholeValues.Steps.{counted}
 use Rattle.isdb_mmt.specs.WholeValues.WholeDescriptors.{location_told, location_seen}
 use Rattle.isdb_mmt.specs.WholeValues.Whole.{asset_told, asset_seen, package_told, package_seen, delivery_told, delivery_seen}
 use Rattle.isdb_mmt.specs.WholeValues.Walks.{AssetsWalk, LocationsWalk, MptTheorem, AssetTheorem, PltWalks, PltTheorem}
-use Rattle.isdb_mmt.specs.declared.location.Located.{Located}
-use Rattle.isdb_mmt.specs.declared.location.Located.TheVariants.{None as not_located, Some as located}
-use Rattle.isdb_mmt.specs.declared.maybe.MaybeUsize.{MaybeUsize}
-use Rattle.isdb_mmt.specs.declared.maybe.MaybeUsize.TheVariants.{None as nowhere, Some as At}
-use Rattle.isdb_mmt.specs.declared.table.mpt.AssetStep.{AssetStep}
-use Rattle.isdb_mmt.specs.declared.table.mpt.AssetStep.TheVariants.{Malformed as no_asset, Asset as asset}
-use Rattle.isdb_mmt.specs.declared.table.mpt.MaybeMpt.{MaybeMpt}
-use Rattle.isdb_mmt.specs.declared.table.mpt.MaybeMpt.TheVariants.{None as no_mpt, Some as some_mpt}
 use Rattle.isdb_mmt.specs.declared.table.mpt.MptParsed.{MptParsed}
-use Rattle.isdb_mmt.specs.declared.table.plt.PackageStep.{PackageStep}
-use Rattle.isdb_mmt.specs.declared.table.plt.PackageStep.TheVariants.{Malformed as no_package, Package as one_package}
-use Rattle.isdb_mmt.specs.declared.table.plt.DeliveryStep.{DeliveryStep}
-use Rattle.isdb_mmt.specs.declared.table.plt.DeliveryStep.TheVariants.{Malformed as no_delivery, Delivery as delivery}
-use Rattle.isdb_mmt.specs.declared.table.plt.MaybePlt.{MaybePlt}
-use Rattle.isdb_mmt.specs.declared.table.plt.MaybePlt.TheVariants.{None as no_plt, Some as some_plt}
 use Rattle.isdb_mmt.proofs.Names.{true_not_false}
 use Rattle.isdb_mmt.proofs.Steps.{also_some, Leads, counts, whole_by}
 
 -- a place that is there
-abbrev There : MaybeUsize → Type 0
-There nowhere = ⊥
-There (At p) = Unit {0}
+abbrev There : Option ℕ → Type 0
+There None = ⊥
+There (Some p) = Unit {0}
 
 module _ (s : List ℕ) where
   -- ---- each counted walk is whole where its loop says so
 
-  location_leads : (n at : ℕ) (d : Located) → There (turn (locations_end n s) (behind_location at d)) → Leads (λ p. There (locations_end n s p)) (location_told s at d)
-  location_leads n at not_located w = w
-  location_leads n at (located l taken) w = w
+  location_leads : (n at : ℕ) (d : Option (Location × ℕ)) → There (turn (locations_end n s) (behind_location at d)) → Leads (λ p. There (locations_end n s p)) (location_told s at d)
+  location_leads n at None w = w
+  location_leads n at (Some (l, taken)) w = w
 
   locations_whole : (n at : ℕ) → There (locations_end n s at) → (counted (location_seen s) n at).whole ≡ true
   locations_whole =
       whole_by (location_seen s) (λ n at. There (locations_end n s at)) (λ n at. location_leads n at (location_of (drop at s)))
 
-  asset_leads : (n : ℕ) (d : AssetStep) → (turn (assets_from n s) (asset_item s d)).whole ≡ true → Leads (λ p. (assets_from n s p).whole ≡ true) (asset_told s d)
-  asset_leads n no_asset w = true_not_false false w refl
-  asset_leads n (asset a next) w = w
+  asset_leads : (n : ℕ) (d : Option (Asset × ℕ)) → (turn (assets_from n s) (asset_item s d)).whole ≡ true → Leads (λ p. (assets_from n s p).whole ≡ true) (asset_told s d)
+  asset_leads n None w = true_not_false false w refl
+  asset_leads n (Some (a, next)) w = w
 
   assets_whole : (n at : ℕ) → (assets_from n s at).whole ≡ true → (counted (asset_seen s) n at).whole ≡ true
   assets_whole = whole_by (asset_seen s) (λ n at. (assets_from n s at).whole ≡ true) (λ n at. asset_leads n (asset_at_of s at))
 
-  package_leads : (n : ℕ) (d : PackageStep) → There (turn (packages_end n s) (behind_package d)) → Leads (λ p. There (packages_end n s p)) (package_told s d)
-  package_leads n no_package w = w
-  package_leads n (one_package p next) w = w
+  package_leads : (n : ℕ) (d : Option (Package × ℕ)) → There (turn (packages_end n s) (behind_package d)) → Leads (λ p. There (packages_end n s p)) (package_told s d)
+  package_leads n None w = w
+  package_leads n (Some (p, next)) w = w
 
   packages_whole : (n at : ℕ) → There (packages_end n s at) → (counted (package_seen s) n at).whole ≡ true
   packages_whole = whole_by (package_seen s) (λ n at. There (packages_end n s at)) (λ n at. package_leads n (package_at_of s at))
 
-  delivery_leads : (n : ℕ) (d : DeliveryStep) → is_some (turn (deliveries_from n s) (delivery_item d)) ≡ true
+  delivery_leads : (n : ℕ) (d : Option (IpDelivery × ℕ)) → is_some (turn (deliveries_from n s) (delivery_item d)) ≡ true
       → Leads (λ p. is_some (deliveries_from n s p) ≡ true) (delivery_told d)
-  unfolding is_some
-  delivery_leads n no_delivery w = true_not_false false w refl
-  delivery_leads n (delivery x next) w = sym (also_some x (deliveries_from n s next)) ∙ w
+  delivery_leads n None w = true_not_false false w refl
+  delivery_leads n (Some (x, next)) w = sym (also_some x (deliveries_from n s next)) ∙ w
 
   deliveries_whole_lem : (n at : ℕ) → deliveries_whole n s at ≡ true → (counted (delivery_seen s) n at).whole ≡ true
   unfolding deliveries_whole
@@ -74,9 +65,9 @@ module _ (s : List ℕ) where
 
   -- ---- an asset that a step gives has its locations
 
-  abbrev AssetGood : AssetStep → Type 0
-  AssetGood no_asset = Unit {0}
-  AssetGood (asset a next) = LocationsWalk s a
+  abbrev AssetGood : Option (Asset × ℕ) → Type 0
+  AssetGood None = Unit {0}
+  AssetGood (Some (a, next)) = LocationsWalk s a
 
   fields_good : (p q end : ℕ) → There (locations_end (get_or s (q + 5) 0) s (q + 6)) → AssetGood (asset_fields s p q end)
   unfolding asset_fields
@@ -85,9 +76,9 @@ module _ (s : List ℕ) where
       cond_elim AssetGood (ltb (length s - (end + 2)) (be 2 s end)) (λ e1. tt) (λ e1.
       counts (location_seen s) (get_or s (q + 5) 0) (q + 6) (locations_whole (get_or s (q + 5) 0) (q + 6) w)))
 
-  behind_good : (p q : ℕ) (d : MaybeUsize) → locations_end (get_or s (q + 5) 0) s (q + 6) ≡ d → AssetGood (asset_behind s p q d)
-  behind_good p q nowhere e = tt
-  behind_good p q (At end) e = fields_good p q end (rw e tt)
+  behind_good : (p q : ℕ) (d : Option ℕ) → locations_end (get_or s (q + 5) 0) s (q + 6) ≡ d → AssetGood (asset_behind s p q d)
+  behind_good p q None e = tt
+  behind_good p q (Some end) e = fields_good p q end (rw e tt)
 
   asset_good : (p : ℕ) → AssetGood (asset_at_of s p)
   unfolding asset_at_of
@@ -100,9 +91,9 @@ module _ (s : List ℕ) where
 
   -- ---- a table's assets
 
-  abbrev MptGood : MaybeMpt → Type 0
-  MptGood no_mpt = Unit {0}
-  MptGood (some_mpt t) = AssetsWalk s t
+  abbrev MptGood : Option Mpt → Type 0
+  MptGood None = Unit {0}
+  MptGood (Some t) = AssetsWalk s t
 
   assets_good : (start n : ℕ) → MptGood (mpt_assets s start n).mpt
   unfolding mpt_assets
@@ -123,9 +114,9 @@ module _ (s : List ℕ) where
 
   -- ---- a table's packages and deliveries
 
-  abbrev PltGood : MaybePlt → Type 0
-  PltGood no_plt = Unit {0}
-  PltGood (some_plt t) = PltWalks s t
+  abbrev PltGood : Option Plt → Type 0
+  PltGood None = Unit {0}
+  PltGood (Some t) = PltWalks s t
 
   with_good : There (packages_end (get_or s 4 0) s 5) → (m start : ℕ) → deliveries_whole m s start ≡ true → PltGood (plt_with s m start)
   with_good w m start h =
@@ -135,16 +126,16 @@ module _ (s : List ℕ) where
       }
 
   deliveries_good : There (packages_end (get_or s 4 0) s 5) → (at : ℕ) → PltGood (plt_deliveries s at)
-  unfolding plt_deliveries deliveries_whole is_some
+  unfolding plt_deliveries deliveries_whole
   deliveries_good w at =
       let h = deliveries_whole (get_or s at 0) s (at + 1) in
       cond_elim PltGood (eqb (length s - at) 0) (λ e. with_good w 0 at refl) (λ e.
       cond_elim PltGood (not h) (λ e1. tt) (λ e1.
       with_good w (get_or s at 0) (at + 1) (either h (λ d. d) (λ d. true_not_false true refl (rw d at e1)))))
 
-  packages_good : (d : MaybeUsize) → packages_end (get_or s 4 0) s 5 ≡ d → PltGood (plt_behind s d)
-  packages_good nowhere e = tt
-  packages_good (At at) e = deliveries_good (rw e tt) at
+  packages_good : (d : Option ℕ) → packages_end (get_or s 4 0) s 5 ≡ d → PltGood (plt_behind s d)
+  packages_good None e = tt
+  packages_good (Some at) e = deliveries_good (rw e tt) at
 
   plt_good : PltGood (plt_table s)
   unfolding plt_table
@@ -153,7 +144,7 @@ module _ (s : List ℕ) where
 
 -- ---- the tables, cut to what they declare
 
-pub cut_elim : (s : List ℕ) (P : MaybeUsize → Type 0) → P nowhere → P (At (be 2 s 2 + 4)) → P (declared_length_of s)
+pub cut_elim : (s : List ℕ) (P : Option ℕ → Type 0) → P None → P (Some (be 2 s 2 + 4)) → P (declared_length_of s)
 unfolding declared_length_of
 cut_elim s P x y =
     cond_elim P (ltb (length s) 4) (λ e. x) (λ e. cond_elim P (ltb (length s) (be 2 s 2 + 4)) (λ e1. x) (λ e1. y))

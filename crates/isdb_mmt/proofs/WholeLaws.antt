@@ -1,12 +1,10 @@
 -- A message packet with which a message is whole, and the model: what is asked and left. Assumes nothing.
 use Rattle.std.proofs.Common.{◌≡◌, ℕ, zero, suc, ◌+◌, ◌*◌, ◌<◌, ◌≤◌, Bool, true, false, not, ltb, List, ◌++◌, map, length, get_or, take, drop, sym, refl, ap, ◌∙◌, subst, arith, length-append, length-drop, length-take, w8, Fits, ltb-false, lt-ltb}
-use mathlib.Core.Option.{Option, some}
 use Rattle.isdb_tlv.specs.Guards.{◌<?◌}
-use Rattle.std.specs.Prelude.{if◌then◌else◌}
+use Rattle.std.specs.Prelude.{if◌then◌else◌, Option, None, Some, is_some}
 use Rattle.isdb_tlv.proofs.Guards.{either, cond_elim}
 use Rattle.isdb_mmt.specs.Memory.Layout.{most_sections, most_message_area, table_ids, control_places, control_size, section_places, section_size}
 use Rattle.isdb_mmt.specs.Decoder.Packet.{Bytes, MessagePacket, message}
-use Rattle.isdb_mmt.specs.Decoder.Maps.{is_some}
 use Rattle.isdb_mmt.specs.Decoder.Reassembly.{PartialMessage, Reassembly, most_message, cut_of, cut_of_all, message_completed}
 use Rattle.isdb_mmt.specs.Decoder.Kept.{KeptTables, Table, table_read, mpt_after_all, stored_all, counted_all}
 use Rattle.isdb_mmt.specs.Decoder.GivenTables.{tables_given}
@@ -20,18 +18,17 @@ use Rattle.isdb_mmt.specs.Memory.Opening.{lent}
 use Rattle.isdb_mmt.specs.Memory.PlacesOf.{table_length, latest_for}
 use Rattle.isdb_mmt.specs.Pushes.Leaves.{section_rows, bytes_over, kept_over, latest_over, control_place_for, message_at, message_in, packet_leaves}
 use Rattle.isdb_mmt.specs.Pushes.Push.{asks_of, QuietPushed}
-use Rattle.isdb_mmt.specs.Pushes.Fragments.{fragment_outcome, by_division, flags_in, continued, in_sequence, grown_length, joined_by, none_joined, control_with, laid_by, area_by, whole_by_of, completes, fragment_counted, CanCount}
+use Rattle.isdb_mmt.specs.Pushes.Fragments.{fragment_outcome, by_division, flags_in, continued, in_sequence, grown_length, joined_by, control_with, laid_by, area_by, whole_by_of, completes, fragment_counted, CanCount}
 use Rattle.isdb_mmt.specs.Pushes.FragmentPush.{place_in, with_reassembly, with_counts}
-use Rattle.isdb_mmt.specs.Pushes.TableOutcome.{index_size}
+use Rattle.isdb_mmt.specs.Pushes.TableOutcome.{index_size, recent_length}
 use Rattle.isdb_mmt.specs.Pushes.Commit.{put_areas, logged_from, CanStoreAreas}
-use Rattle.isdb_mmt.specs.Pushes.Start.{recent_length, latest_with, counters_with, tables_ask, malformed_more, CountsFit}
+use Rattle.isdb_mmt.specs.Pushes.Start.{latest_with, counters_with, tables_ask, malformed_more, CountsFit}
 use Rattle.isdb_mmt.specs.Pushes.WholeMessage.{is_last, before_by, join_by, held_in, WalkedWhole, CanWalkWhole, whole_ask, place_whole, state_left, CanLeaveState, place_for_at, CanPushWhole, CanPushAt}
 use Rattle.isdb_mmt.specs.declared.decoder.limits.Limits.{Limits}
 use Rattle.isdb_mmt.specs.declared.decoder.counts.Counters.{Counters}
 use Rattle.isdb_mmt.specs.declared.decoder.control.Control.{Control}
 use Rattle.isdb_mmt.specs.declared.decoder.messages.FragmentOutcome.{FragmentOutcome}
 use Rattle.isdb_mmt.specs.declared.decoder.messages.FragmentOutcome.TheVariants.{Short, Undivided, First, Orphan, Oversize, Grown, Whole}
-use Rattle.isdb_mmt.specs.declared.decoder.messages.Joined.{Joined}
 use Rattle.isdb_mmt.specs.declared.decoder.messages.ReceivedFragment.{ReceivedFragment}
 use Rattle.isdb_mmt.specs.declared.message.Division.{Division}
 use Rattle.isdb_mmt.specs.declared.message.Division.TheVariants.{Undivided as undivided, First as first, Middle as middle, Last as last_part}
@@ -52,7 +49,7 @@ use Rattle.isdb_mmt.proofs.FragmentPushes.{Met, received_met}
 
 -- ---- by the fragment's fate
 
-whole_is : (f : FragmentOutcome) → completes f ≡ true → (c : Control) (m b : Bytes) → whole_by_of f c m b ≡ some (join_by (is_last f) c m b)
+whole_is : (f : FragmentOutcome) → completes f ≡ true → (c : Control) (m b : Bytes) → whole_by_of f c m b ≡ Some (join_by (is_last f) c m b)
 unfolding whole_by_of
 whole_is Short e c m b = true_not_false false e refl
 whole_is Undivided e c m b = refl
@@ -71,7 +68,7 @@ no_fault Oversize e a = true_not_false false e refl
 no_fault Grown e a = true_not_false false e refl
 no_fault Whole e a = refl
 
-none_after : (f : FragmentOutcome) → completes f ≡ true → (c : Control) (b : Bytes) → joined_by f c b ≡ none_joined
+none_after : (f : FragmentOutcome) → completes f ≡ true → (c : Control) (b : Bytes) → joined_by f c b ≡ None
 unfolding joined_by
 none_after Short e c b = true_not_false false e refl
 none_after Undivided e c b = refl
@@ -296,7 +293,7 @@ module _ (s : Session) (x : MessagePacket) (y : ReceivedFragment) (i k : ℕ) (i
   done : Does reassembly x c m f
   done = does s ok x i k c at f fragment.outcome
 
-  gives_is : message_completed reassembly x ≡ some j
+  gives_is : message_completed reassembly x ≡ Some j
   gives_is = done.whole ∙ whole_is f whole c m b
 
   abbrev ts : List Table
@@ -452,7 +449,7 @@ module _ (s : Session) (x : MessagePacket) (y : ReceivedFragment) (i k : ℕ) (i
                 message_latest s ok i at.free c.mpt c.mpt_length small j c₀ (length j.bytes + 1) r ix₂ log₂ mine₂ w free.full free.few free.fits
                 ∙ ap latest_for (sym store_is)
 
-            mpt_there : r.mpt.there ≡ is_some (control_of x.id n).mpt
+            mpt_there : is_some r.mpt ≡ is_some (control_of x.id n).mpt
             mpt_there =
                 message_mpt_there s ok i at.free c.mpt c.mpt_length small j c₀ (length j.bytes + 1) r ix₂ log₂ mine₂ w free.full free.few free.fits
                 ∙ ap (λ (o : Option Bytes). is_some o) (sym mpt_is)
@@ -525,12 +522,12 @@ module _ (s : Session) (x : MessagePacket) (y : ReceivedFragment) (i k : ℕ) (i
           at_areas = whole_areas r ix₂ log₂ mine₂ w₀ z ez area eb q eq e0 li ll lm u u_is d ed
 
           pub at_taken : ((t : ℕ) → Fits w8 (get_or ix₂ t 0)) → (tables' : List ℕ) → tables' ≡ put_areas z i r (logged_from r.used 0 ix₂ log₂) (u ++ d) s.tables
-              → (others' : List ℕ) → others' ≡ mine₂ → (nj : Joined) → nj ≡ none_joined → (len : ℕ) → len ≡ recent_length r.mpt → (p : Control)
-              → p ≡ control_with x.id x.number nj r.mpt.there len → (state' : List ℕ) → state' ≡ state_left i k p cs r ix₂ s.state
+              → (others' : List ℕ) → others' ≡ mine₂ → (len : ℕ) → len ≡ recent_length r.mpt → (p : Control)
+              → p ≡ control_with x.id x.number None (is_some r.mpt) len → (state' : List ℕ) → state' ≡ state_left i k p cs r ix₂ s.state
               → QuietPushed s (message x) 0 (lent state' others' s.objects s.messages tables')
-          at_taken o tables' et others' eo nj ej len en p ep state' es =
+          at_taken o tables' et others' eo len en p ep state' es =
               whole_taken r ix₂ log₂ mine₂ w₀ z ez area eb q eq e0 li ll lm o u u_is d ed tables' et others' eo p
-              (ep ∙ (λ t. control_with x.id x.number (ej t) r.mpt.there (en t))) state'
+              (ep ∙ (λ t. control_with x.id x.number None (is_some r.mpt) (en t))) state'
               (es ∙ ap (λ (y : Counters). state_left i k p y r ix₂ s.state) cs_is)
 
 -- ---- the packet's place

@@ -1,11 +1,25 @@
 -- Whole values and the lists of the parsers: the same elements. Assumes nothing.
+use Rattle.std.specs.Prelude.{Err, None, Ok, Result, Some, Option, is_some, is_ok}
+use Rattle.isdb_mmt.specs.declared.table.tot.Tot.{Tot}
+use Rattle.isdb_mmt.specs.declared.table.nit.Nit.{Nit}
+use Rattle.isdb_mmt.specs.declared.table.bit.Bit.{Bit}
+use Rattle.isdb_mmt.specs.declared.table.sdt.Sdt.{Sdt}
+use Rattle.isdb_mmt.specs.declared.table.eit.Eit.{Eit}
+use Rattle.isdb_mmt.specs.declared.table.section.SectionError.{SectionError}
+use Rattle.isdb_mmt.specs.declared.table.amt.Amt.{Amt}
+use Rattle.isdb_mmt.specs.declared.table.section.SectionHeader.{SectionHeader}
+use Rattle.isdb_mmt.specs.declared.table.amt.AmtService.{AmtService}
+use Rattle.isdb_mmt.specs.declared.table.plt.Plt.{Plt}
+use Rattle.isdb_mmt.specs.declared.table.plt.IpDelivery.{IpDelivery}
+use Rattle.isdb_mmt.specs.declared.table.plt.Package.{Package}
+use Rattle.isdb_mmt.specs.declared.table.mpt.Mpt.{Mpt}
+use Rattle.isdb_mmt.specs.declared.table.mpt.Asset.{Asset}
+use Rattle.isdb_mmt.specs.declared.location.Location.{Location}
 use Rattle.std.proofs.Common.{◌≡◌, ℕ, zero, suc, ◌+◌, ◌%◌, not, eqb, List, [], ◌∷◌, map, length, take, drop, sym, refl, ap, ◌∙◌, arith, take-take}
-use mathlib.Core.Option.{Option, none, some}
 use Rattle.isdb_tlv.specs.Bytes.{be}
 use Rattle.isdb_tlv.proofs.Guards.{either}
 use Rattle.isdb_tlv.proofs.Numbers.{be_take}
 use Rattle.isdb_tlv.specs.Walk.{Next, stop, more, turn, run, also}
-use Rattle.isdb_mmt.specs.Decoder.Maps.{is_some}
 use Rattle.isdb_mmt.specs.Formats.Location.{location_of}
 use Rattle.isdb_mmt.specs.Formats.Section.{length12, entries_from}
 use Rattle.isdb_mmt.specs.Formats.Mpt.{location_item, locations_of, asset_at_of, asset_item, assets_from, mpt_of}
@@ -18,86 +32,52 @@ use Rattle.isdb_mmt.specs.Formats.Nit.{stream_of, streams_of, nit_of}
 use Rattle.isdb_mmt.specs.Formats.Tot.{tot_of}
 use Rattle.isdb_mmt.specs.Formats.Desc.{split_of}
 use Rattle.isdb_mmt.specs.Standards.StdB60.{loop_sent, descriptor_in}
-use Rattle.isdb_mmt.specs.Decoder.Kept.{declared_table, declared_section, body_read, mpt_parses, plt_parses, tot_parses, eit_body_ok, sdt_body_ok, bit_body_ok, nit_body_ok, amt_body_ok}
+use Rattle.isdb_mmt.specs.Decoder.Kept.{declared_table, declared_section, body_read, mpt_parses, plt_parses, tot_parses}
 use Rattle.isdb_mmt.specs.WholeValues.Steps.{Stood, at_end, malformed, element, Found, required, counted, to_end}
 use Rattle.isdb_mmt.specs.WholeValues.WholeDescriptors.{WholeLocation, location_told, location_seen}
 use Rattle.isdb_mmt.specs.WholeValues.Whole.{whole_asset, asset_told, asset_seen, mpt_told, whole_package, package_told, package_seen, delivery_told, delivery_seen, plt_told}
 use Rattle.isdb_mmt.specs.WholeValues.WholeSections.{described, flow_told, flow_seen, amt_told, event_seen, eit_told, service_seen, sdt_told, broadcaster_seen, bit_told, whole_stream, stream_seen, nit_told, tot_told}
 use Rattle.isdb_mmt.specs.WholeValues.WholeLists.{section_whole, ValuesTheorem, CutTheorem, if_whole, ListsTheorem, whole_sent, SentTheorem}
-use Rattle.isdb_mmt.specs.declared.location.Located.{Located}
-use Rattle.isdb_mmt.specs.declared.location.Located.TheVariants.{None as not_located, Some as located}
-use Rattle.isdb_mmt.specs.declared.table.mpt.AssetStep.{AssetStep}
-use Rattle.isdb_mmt.specs.declared.table.mpt.AssetStep.TheVariants.{Malformed as no_asset, Asset as asset}
-use Rattle.isdb_mmt.specs.declared.table.mpt.MaybeMpt.{MaybeMpt}
-use Rattle.isdb_mmt.specs.declared.table.mpt.MaybeMpt.TheVariants.{None as no_mpt, Some as some_mpt}
-use Rattle.isdb_mmt.specs.declared.table.plt.PackageStep.{PackageStep}
-use Rattle.isdb_mmt.specs.declared.table.plt.PackageStep.TheVariants.{Malformed as no_package, Package as one_package}
-use Rattle.isdb_mmt.specs.declared.table.plt.DeliveryStep.{DeliveryStep}
-use Rattle.isdb_mmt.specs.declared.table.plt.DeliveryStep.TheVariants.{Malformed as no_delivery, Delivery as delivery}
-use Rattle.isdb_mmt.specs.declared.table.plt.MaybePlt.{MaybePlt}
-use Rattle.isdb_mmt.specs.declared.table.plt.MaybePlt.TheVariants.{None as no_plt, Some as some_plt}
-use Rattle.isdb_mmt.specs.declared.table.amt.AmtStep.{AmtStep}
-use Rattle.isdb_mmt.specs.declared.table.amt.AmtStep.TheVariants.{Malformed as no_flow_of, Service as flow}
-use Rattle.isdb_mmt.specs.declared.table.amt.AmtResult.{AmtResult}
-use Rattle.isdb_mmt.specs.declared.table.amt.AmtResult.TheVariants.{Ok as amt_ok, Err as amt_err}
 use Rattle.isdb_mmt.specs.declared.table.eit.Event.{Event}
-use Rattle.isdb_mmt.specs.declared.table.eit.EitResult.{EitResult}
-use Rattle.isdb_mmt.specs.declared.table.eit.EitResult.TheVariants.{Ok as eit_ok, Err as eit_err}
 use Rattle.isdb_mmt.specs.declared.table.sdt.SdtService.{SdtService}
-use Rattle.isdb_mmt.specs.declared.table.sdt.SdtResult.{SdtResult}
-use Rattle.isdb_mmt.specs.declared.table.sdt.SdtResult.TheVariants.{Ok as sdt_ok, Err as sdt_err}
 use Rattle.isdb_mmt.specs.declared.table.bit.Broadcaster.{Broadcaster}
-use Rattle.isdb_mmt.specs.declared.table.bit.BitResult.{BitResult}
-use Rattle.isdb_mmt.specs.declared.table.bit.BitResult.TheVariants.{Ok as bit_ok, Err as bit_err}
-use Rattle.isdb_mmt.specs.declared.table.nit.NitResult.{NitResult}
-use Rattle.isdb_mmt.specs.declared.table.nit.NitResult.TheVariants.{Ok as nit_ok, Err as nit_err}
-use Rattle.isdb_mmt.specs.declared.table.tot.TotResult.{TotResult}
-use Rattle.isdb_mmt.specs.declared.table.tot.TotResult.TheVariants.{Ok as tot_ok, Err as tot_err}
 use Rattle.isdb_mmt.proofs.SectionWalks.{entries_found, event_tells, service_tells, broadcaster_tells, stream_with, stream_tells}
 use Rattle.isdb_mmt.proofs.DescriptorWalks.{loop_is, loop_found}
 use Rattle.isdb_mmt.proofs.StdB60.{loops as loops_read}
 
 -- ---- a table that parses has a whole value
 
-mpt_outcome_lem : (s : List ℕ) (d : MaybeMpt) → is_some (mpt_told s d) ≡ mpt_parses d
-unfolding is_some
-mpt_outcome_lem s no_mpt = refl
-mpt_outcome_lem s (some_mpt t) = refl
+mpt_outcome_lem : (s : List ℕ) (d : Option Mpt) → is_some (mpt_told s d) ≡ mpt_parses d
+mpt_outcome_lem s None = refl
+mpt_outcome_lem s (Some t) = refl
 
-plt_outcome_lem : (s : List ℕ) (d : MaybePlt) → is_some (plt_told s d) ≡ plt_parses d
-unfolding is_some
-plt_outcome_lem s no_plt = refl
-plt_outcome_lem s (some_plt t) = refl
+plt_outcome_lem : (s : List ℕ) (d : Option Plt) → is_some (plt_told s d) ≡ plt_parses d
+plt_outcome_lem s None = refl
+plt_outcome_lem s (Some t) = refl
 
-amt_told_lem : (s : List ℕ) (d : AmtResult) → is_some (amt_told s d) ≡ amt_body_ok d
-unfolding is_some
-amt_told_lem s (amt_err e) = refl
-amt_told_lem s (amt_ok h t) = refl
+amt_told_lem : (s : List ℕ) (d : Result (SectionHeader × Amt) SectionError) → is_some (amt_told s d) ≡ is_ok d
+amt_told_lem s (Err e) = refl
+amt_told_lem s (Ok (h, t)) = refl
 
-eit_told_lem : (s : List ℕ) (d : EitResult) → is_some (eit_told s d) ≡ eit_body_ok d
-unfolding is_some
-eit_told_lem s (eit_err e) = refl
-eit_told_lem s (eit_ok h t) = refl
+eit_told_lem : (s : List ℕ) (d : Result (SectionHeader × Eit) SectionError) → is_some (eit_told s d) ≡ is_ok d
+eit_told_lem s (Err e) = refl
+eit_told_lem s (Ok (h, t)) = refl
 
-sdt_told_lem : (s : List ℕ) (d : SdtResult) → is_some (sdt_told s d) ≡ sdt_body_ok d
-unfolding is_some
-sdt_told_lem s (sdt_err e) = refl
-sdt_told_lem s (sdt_ok h t) = refl
+sdt_told_lem : (s : List ℕ) (d : Result (SectionHeader × Sdt) SectionError) → is_some (sdt_told s d) ≡ is_ok d
+sdt_told_lem s (Err e) = refl
+sdt_told_lem s (Ok (h, t)) = refl
 
-bit_told_lem : (s : List ℕ) (d : BitResult) → is_some (bit_told s d) ≡ bit_body_ok d
-unfolding is_some
-bit_told_lem s (bit_err e) = refl
-bit_told_lem s (bit_ok h t) = refl
+bit_told_lem : (s : List ℕ) (d : Result (SectionHeader × Bit) SectionError) → is_some (bit_told s d) ≡ is_ok d
+bit_told_lem s (Err e) = refl
+bit_told_lem s (Ok (h, t)) = refl
 
-nit_told_lem : (s : List ℕ) (d : NitResult) → is_some (nit_told s d) ≡ nit_body_ok d
-unfolding is_some
-nit_told_lem s (nit_err e) = refl
-nit_told_lem s (nit_ok h t) = refl
+nit_told_lem : (s : List ℕ) (d : Result (SectionHeader × Nit) SectionError) → is_some (nit_told s d) ≡ is_ok d
+nit_told_lem s (Err e) = refl
+nit_told_lem s (Ok (h, t)) = refl
 
-tot_outcome_lem : (s : List ℕ) (d : TotResult) → is_some (tot_told s d) ≡ tot_parses d
-unfolding is_some
-tot_outcome_lem s (tot_err e) = refl
-tot_outcome_lem s (tot_ok t) = refl
+tot_outcome_lem : (s : List ℕ) (d : Result Tot SectionError) → is_some (tot_told s d) ≡ tot_parses d
+tot_outcome_lem s (Err e) = refl
+tot_outcome_lem s (Ok t) = refl
 
 section_outcome_lem : (id : ℕ) (b : List ℕ) → section_whole id b ≡ (body_read id b).ok
 unfolding body_read
@@ -144,13 +124,13 @@ cuts = record { table = table_cut; section = section_cut }
 -- a list that is refused whole where one element does not stand there, beside the elements before it
 module _ {A : Type 0} where
   abbrev refusing : Stood A → Next (Option (List A))
-  refusing at_end = stop none
-  refusing malformed = stop none
+  refusing at_end = stop None
+  refusing malformed = stop None
   refusing (element x next) = more next (also x)
 
   module _ (step : ℕ → Stood A) (item : ℕ → Next (Option (List A))) (told : (at : ℕ) → item at ≡ refusing (step at)) where
     abbrev items : ℕ → ℕ → Option (List A)
-    items = run item (λ p. some [])
+    items = run item (λ p. Some [])
 
     also_whole_lem : (x : A) (l : Found A) → if_whole (record { found = x ∷ l.found; whole = l.whole }) ≡ also x (if_whole l)
     also_whole_lem x l = either l.whole (λ e. rw e) (λ e. rw e)
@@ -166,43 +146,43 @@ module _ {A : Type 0} where
     all_found (suc n) at = found_on n (all_found n) (step at) ∙ ap (turn (items n)) (sym (told at))
 
 module _ (s : List ℕ) where
-  asset_on : (n : ℕ) → ((at : ℕ) → (counted (asset_seen s) n at).found ≡ map (whole_asset s) (assets_from n s at).found) → (d : AssetStep)
+  asset_on : (n : ℕ) → ((at : ℕ) → (counted (asset_seen s) n at).found ≡ map (whole_asset s) (assets_from n s at).found) → (d : Option (Asset × ℕ))
       → (turn (counted (asset_seen s) n) (required (asset_told s d))).found ≡ map (whole_asset s) (turn (assets_from n s) (asset_item s d)).found
-  asset_on n h no_asset = refl
-  asset_on n h (asset a next) = ap (λ l. whole_asset s a ∷ l) (h next)
+  asset_on n h None = refl
+  asset_on n h (Some (a, next)) = ap (λ l. whole_asset s a ∷ l) (h next)
 
   assets_found : (n at : ℕ) → (counted (asset_seen s) n at).found ≡ map (whole_asset s) (assets_from n s at).found
   assets_found zero at = refl
   assets_found (suc n) at = asset_on n (assets_found n) (asset_at_of s at)
 
-  location_on : (n : ℕ) → ((at : ℕ) → map (λ (l : WholeLocation). l.location) (counted (location_seen s) n at).found ≡ locations_of n s at) → (at : ℕ) (d : Located)
+  location_on : (n : ℕ) → ((at : ℕ) → map (λ (l : WholeLocation). l.location) (counted (location_seen s) n at).found ≡ locations_of n s at) → (at : ℕ) (d : Option (Location × ℕ))
       → map (λ (l : WholeLocation). l.location) (turn (counted (location_seen s) n) (required (location_told s at d))).found ≡ turn (locations_of n s) (location_item at d)
-  location_on n h at not_located = refl
-  location_on n h at (located l taken) = ap (λ k. l ∷ k) (h (at + taken))
+  location_on n h at None = refl
+  location_on n h at (Some (l, taken)) = ap (λ k. l ∷ k) (h (at + taken))
 
   locations_found : (n at : ℕ) → map (λ (l : WholeLocation). l.location) (counted (location_seen s) n at).found ≡ locations_of n s at
   locations_found zero at = refl
   locations_found (suc n) at = location_on n (locations_found n) at (location_of (drop at s))
 
-  package_on : (n : ℕ) → ((at : ℕ) → (counted (package_seen s) n at).found ≡ map (whole_package s) (packages_of n s at)) → (d : PackageStep)
+  package_on : (n : ℕ) → ((at : ℕ) → (counted (package_seen s) n at).found ≡ map (whole_package s) (packages_of n s at)) → (d : Option (Package × ℕ))
       → (turn (counted (package_seen s) n) (required (package_told s d))).found ≡ map (whole_package s) (turn (packages_of n s) (package_item d))
-  package_on n h no_package = refl
-  package_on n h (one_package p next) = ap (λ l. whole_package s p ∷ l) (h next)
+  package_on n h None = refl
+  package_on n h (Some (p, next)) = ap (λ l. whole_package s p ∷ l) (h next)
 
   packages_found : (n at : ℕ) → (counted (package_seen s) n at).found ≡ map (whole_package s) (packages_of n s at)
   packages_found zero at = refl
   packages_found (suc n) at = package_on n (packages_found n) (package_at_of s at)
 
-  delivery_told_lem : (d : DeliveryStep) → delivery_item d ≡ refusing (delivery_told d)
-  delivery_told_lem no_delivery = refl
-  delivery_told_lem (delivery x next) = refl
+  delivery_told_lem : (d : Option (IpDelivery × ℕ)) → delivery_item d ≡ refusing (delivery_told d)
+  delivery_told_lem None = refl
+  delivery_told_lem (Some (x, next)) = refl
 
   deliveries_found : (n at : ℕ) → if_whole (counted (delivery_seen s) n at) ≡ deliveries_from n s at
   deliveries_found = all_found (delivery_seen s) (λ p. delivery_item (delivery_at_of s p)) (λ p. delivery_told_lem (delivery_at_of s p))
 
-  flow_told_lem : (d : AmtStep) → service_item d ≡ refusing (flow_told d)
-  flow_told_lem no_flow_of = refl
-  flow_told_lem (flow x next) = refl
+  flow_told_lem : (d : Option (AmtService × ℕ)) → service_item d ≡ refusing (flow_told d)
+  flow_told_lem None = refl
+  flow_told_lem (Some (x, next)) = refl
 
   flows_found : (n at : ℕ) → if_whole (counted (flow_seen s) n at) ≡ services_from n s at
   flows_found = all_found (flow_seen s) (λ p. service_item (service_at s p)) (λ p. flow_told_lem (service_at s p))
@@ -255,7 +235,6 @@ lists =
 -- ---- a conforming sender's descriptors
 
 pub sent : SentTheorem
-unfolding is_some
 sent ds h =
     let s = loop_sent ds in
     let r = loops_read ds h in

@@ -1,4 +1,9 @@
 -- Parts lie within their bytes. Assumes nothing.
+use Rattle.isdb_mmt.specs.declared.table.bit.Bit.{Bit}
+use Rattle.isdb_mmt.specs.declared.table.tot.Tot.{Tot}
+use Rattle.isdb_mmt.specs.declared.table.section.Parsed.{Parsed}
+use Rattle.std.specs.Prelude.{None, Option, Some}
+use Rattle.isdb_mmt.specs.declared.timestamp.Extended.{Extended}
 use Rattle.std.proofs.Common.{ℕ, ◌+◌, ◌-◌, ◌≤◌, Bool, not, eqb, ltb, leb, List, length, get_or, take, drop, arith, ltb-false, leb-false}
 use Rattle.isdb_tlv.specs.Bytes.{be}
 use Rattle.isdb_tlv.specs.Crc.{crc_of}
@@ -19,20 +24,12 @@ use Rattle.isdb_mmt.specs.Decoder.Kept.{declared_table, declared_section}
 use Rattle.isdb_mmt.specs.WholeValues.WholeParts.{UrlLies, LocatedLies, LocationLies, RawLies, TextsLie, UnitsLie, TlvLies, MptLies, AssetLies, PackageLies, BodyLies, EventLies, ServiceLies, BroadcasterLies, StreamLies, BitLies, NitLies, TotLies, PartsTheorem}
 use Rattle.isdb_mmt.specs.declared.location.Location.{Location}
 use Rattle.isdb_mmt.specs.declared.location.Location.TheVariants.{SameFlow, Mpeg2Ts, Mpeg2TsIpv6, Url}
-use Rattle.isdb_mmt.specs.declared.location.Located.{Located}
-use Rattle.isdb_mmt.specs.declared.location.Located.TheVariants.{None as not_located, Some as located}
-use Rattle.isdb_mmt.specs.declared.timestamp.MaybeExtended.{MaybeExtended}
-use Rattle.isdb_mmt.specs.declared.timestamp.MaybeExtended.TheVariants.{None as not_extended, Some as extended}
 use Rattle.isdb_mmt.specs.declared.timestamp.MpuStep.{MpuStep}
 use Rattle.isdb_mmt.specs.declared.timestamp.MpuStep.TheVariants.{End as no_mpu, Broken as broken_mpu, Mpu}
 use Rattle.isdb_mmt.specs.declared.desc.Step.{Step}
 use Rattle.isdb_mmt.specs.declared.desc.Step.TheVariants.{End, Broken, Raw}
 use Rattle.isdb_mmt.specs.declared.table.section.SectionHeader.{SectionHeader}
-use Rattle.isdb_mmt.specs.declared.maybe.MaybeUsize.{MaybeUsize}
-use Rattle.isdb_mmt.specs.declared.maybe.MaybeUsize.TheVariants.{None as nowhere, Some as At}
 use Rattle.isdb_mmt.specs.declared.table.mpt.MptParsed.{MptParsed}
-use Rattle.isdb_mmt.specs.declared.table.bit.BitParsed.{BitParsed}
-use Rattle.isdb_mmt.specs.declared.table.tot.TotParsed.{TotParsed}
 use Rattle.isdb_mmt.proofs.Entries.{section_elim, entry_elim}
 use Rattle.isdb_mmt.proofs.Descriptors.{Inside, step_inside}
 use Rattle.isdb_mmt.proofs.Timestamps.{Inside as MpuInside, mpu_inside}
@@ -63,9 +60,9 @@ module _ (s : List ℕ) where
       cond_elim (LocatedLies s) (eqb t 4) (λ e4. sized_lies 37 (Mpeg2TsIpv6 (be 2 s 33) (be 2 s 35)) (λ h. tt)) (λ e4.
       cond_elim (LocatedLies s) (eqb t 5) (λ e5. url_lies) (λ e5. tt)))))))
 
-maybe_lies : (s : List ℕ) (d : Located) → LocatedLies s d → LocationLies s (location_in d)
-maybe_lies s not_located w = tt
-maybe_lies s (located l taken) w = w
+maybe_lies : (s : List ℕ) (d : Option (Location × ℕ)) → LocatedLies s d → LocationLies s (location_in d)
+maybe_lies s None w = tt
+maybe_lies s (Some (l, taken)) w = w
 
 -- ---- descriptors
 
@@ -88,9 +85,9 @@ module _ (s : List ℕ) where
       cond_elim (TlvLies s) (ltb (length s - (at + 2)) n) (λ e1. tt) (λ e1.
       let a = ltb-false (length s - at) 2 e in let b = ltb-false (length s - (at + 2)) n e1 in omega arith))
 
-  extended_lies : (m : MaybeExtended) → TextsLie s (extended_in s m)
-  extended_lies not_extended = omega arith
-  extended_lies (extended e) = tt
+  extended_lies : (m : Option Extended) → TextsLie s (extended_in s m)
+  extended_lies None = omega arith
+  extended_lies (Some e) = tt
 
   timestamp_lies : TextsLie s (extended_timestamp s)
   unfolding extended_timestamp
@@ -160,9 +157,9 @@ module _ (s : List ℕ) where
       let b = ltb-false (length s - (end + 2)) (be 2 s end) e1 in
       (h, omega arith)))
 
-  behind_lies : (p : ℕ) → p + 6 + get_or s (p + 5) 0 ≤ length s → (d : MaybeUsize) → AssetLies s (asset_behind s p (p + 6 + get_or s (p + 5) 0) d)
-  behind_lies p h nowhere = tt
-  behind_lies p h (At end) = fields_lie p end h
+  behind_lies : (p : ℕ) → p + 6 + get_or s (p + 5) 0 ≤ length s → (d : Option ℕ) → AssetLies s (asset_behind s p (p + 6 + get_or s (p + 5) 0) d)
+  behind_lies p h None = tt
+  behind_lies p h (Some end) = fields_lie p end h
 
   asset_lies : (p : ℕ) → AssetLies s (asset_at_of s p)
   unfolding asset_at_of
@@ -192,9 +189,9 @@ module _ (s : List ℕ) where
       let b = ltb-false (length s - start) n e2 in
       assets_lie a n (omega arith))))
 
-  package_in_lem : (at n : ℕ) → at + 1 + n ≤ length s → (d : Located) → LocatedLies (drop (at + 1 + n) s) d → PackageLies s (package_in at n d)
-  package_in_lem at n h not_located w = tt
-  package_in_lem at n h (located l taken) w = (h, w)
+  package_in_lem : (at n : ℕ) → at + 1 + n ≤ length s → (d : Option (Location × ℕ)) → LocatedLies (drop (at + 1 + n) s) d → PackageLies s (package_in at n d)
+  package_in_lem at n h None w = tt
+  package_in_lem at n h (Some (l, taken)) w = (h, w)
 
   package_lies : (at : ℕ) → PackageLies s (package_at_of s at)
   unfolding package_at_of
@@ -242,8 +239,8 @@ module _ (s : List ℕ) where
   bit_body_lem h =
       let b = part_of s h.body in
       let n = length12 b 0 + 2 in
-      cond_elim (λ (r : BitParsed). BitLies s r.result) (ltb (length b) 2) (λ e. tt) (λ e.
-      cond_elim (λ (r : BitParsed). BitLies s r.result) (ltb (length b) n) (λ e1. tt) (λ e1.
+      cond_elim (λ (r : Parsed (SectionHeader × Bit)). BitLies s r.result) (ltb (length b) 2) (λ e. tt) (λ e.
+      cond_elim (λ (r : Parsed (SectionHeader × Bit)). BitLies s r.result) (ltb (length b) n) (λ e1. tt) (λ e1.
       cond_elim (BitLies s) (entries_from b 1 n).whole (λ w. let a = ltb-false (length b) n e1 in omega arith) (λ w. tt)))
 
   nit_body_lem : (h : SectionHeader) → NitLies s (nit_body h (part_of s h.body))
@@ -262,12 +259,12 @@ module _ (s : List ℕ) where
   tot_fields_lem : TotLies s (tot_fields_in s).result
   tot_fields_lem =
       let n = length12 s 8 + 10 in
-      cond_elim (λ (r : TotParsed). TotLies s r.result) (ltb (length s) n) (λ e. tt) (λ e.
+      cond_elim (λ (r : Parsed Tot). TotLies s r.result) (ltb (length s) n) (λ e. tt) (λ e.
       let a = ltb-false (length s) n e in omega arith)
 
 bit_lies : (s : List ℕ) → BitLies s (bit_of s).result
 unfolding bit_of
-bit_lies s = section_elim (λ (r : BitParsed). BitLies s r.result) _ bit_body s (λ e. tt) (bit_body_lem s) (long_section_of s)
+bit_lies s = section_elim (λ (r : Parsed (SectionHeader × Bit)). BitLies s r.result) _ bit_body s (λ e. tt) (bit_body_lem s) (long_section_of s)
 
 nit_lies : (s : List ℕ) → NitLies s (nit_of s)
 unfolding nit_of
@@ -277,10 +274,10 @@ tot_lies : (s : List ℕ) → TotLies (declared_section s) (tot_of s).result
 unfolding tot_of tot_fields
 tot_lies s =
     let n = length12 s 1 + 3 in
-    cond_elim (λ (r : TotParsed). TotLies (declared_section s) r.result) (ltb (length s) 3) (λ e. tt) (λ e.
-    cond_elim (λ (r : TotParsed). TotLies (declared_section s) r.result) (ltb (length12 s 1) 11) (λ e1. tt) (λ e1.
-    cond_elim (λ (r : TotParsed). TotLies (declared_section s) r.result) (ltb (length s) n) (λ e2. tt) (λ e2.
-    cond_elim (λ (r : TotParsed). TotLies (declared_section s) r.result) (not (eqb (crc_of (take n s)) 0)) (λ e3. tt) (λ e3.
+    cond_elim (λ (r : Parsed Tot). TotLies (declared_section s) r.result) (ltb (length s) 3) (λ e. tt) (λ e.
+    cond_elim (λ (r : Parsed Tot). TotLies (declared_section s) r.result) (ltb (length12 s 1) 11) (λ e1. tt) (λ e1.
+    cond_elim (λ (r : Parsed Tot). TotLies (declared_section s) r.result) (ltb (length s) n) (λ e2. tt) (λ e2.
+    cond_elim (λ (r : Parsed Tot). TotLies (declared_section s) r.result) (not (eqb (crc_of (take n s)) 0)) (λ e3. tt) (λ e3.
     tot_fields_lem (declared_section s)))))
 
 mpt_lies : (s : List ℕ) → MptLies (declared_table s) (mpt_of s).mpt

@@ -1,5 +1,5 @@
 -- A message packet with which a message is whole: what is asked and left is the model's. Assumes nothing.
-use Rattle.std.proofs.Common.{◌≡◌, ℕ, ◌+◌, ◌*◌, ◌<◌, ◌≤◌, Bool, List, ◌++◌, length, take, drop, replicate, ap, ◌∙◌, arith, length-take, w32, w64, Fits, le-ltb, lt-ltb, eq-eqb, ne_eqb}
+use Rattle.std.proofs.Common.{Option, ◌≡◌, ℕ, ◌+◌, ◌*◌, ◌<◌, ◌≤◌, Bool, List, ◌++◌, length, take, drop, replicate, ap, ◌∙◌, arith, length-take, w32, w64, Fits, le-ltb, lt-ltb, eq-eqb, ne_eqb}
 use Rattle.isdb_tlv.specs.Fields.{written}
 use Rattle.isdb_tlv.proofs.Fields.{length_written}
 use Rattle.isdb_mmt.specs.Memory.Layout.{most_sections, most_count, used_place, control_places, control_size, section_places, section_size, state_size}
@@ -83,7 +83,7 @@ module _ (state others joined tables ix log mine : List ℕ) (i : ℕ) (c : Cont
   pub walk_before : (i + 1) * l.message_area ≤ length joined
   walk_before = rw el can.room
 
-  module _ (ix₁ log₁ mine₁ : List ℕ) (ei : ix₁ ≡ part section_places index_size state) (eg₁ : log₁ ≡ replicate (length log) 0) (em : mine₁ ≡ others) (mpt : Recent)
+  module _ (ix₁ log₁ mine₁ : List ℕ) (ei : ix₁ ≡ part section_places index_size state) (eg₁ : log₁ ≡ replicate (length log) 0) (em : mine₁ ≡ others) (mpt : Option Recent)
       (ep : mpt ≡ recent_at tables ((l.sections + i) * l.table_area) c.mpt c.mpt_length) (g : WalkState) (eg : g ≡ walk_start state tables cs mpt) (a : Bytes)
       (ea : a ≡ before_by last (part (i * l.message_area) c.length joined)) (d : Bytes) (ed : d ≡ drop 2 b) where
     log_is : log₁ ≡ replicate most_sections 0
@@ -92,7 +92,7 @@ module _ (state others joined tables ix log mine : List ℕ) (i : ℕ) (c : Cont
     going_is : g ≡ walk_from state tables cs i c
     going_is =
         eg
-        ∙ ap (λ (z : Recent). walk_start state tables cs z)
+        ∙ ap (λ (z : Option Recent). walk_start state tables cs z)
         (ep ∙ ap (λ (z : Limits). recent_at tables ((z.sections + i) * z.table_area) c.mpt c.mpt_length) el)
 
     bytes_are : a ++ d ≡ (join_by last c (held_in state joined i c) b).bytes

@@ -1,4 +1,6 @@
 pub mod Layout
+pub mod Refusals
+pub mod Lending
 pub mod Lent
 pub mod Limits
 pub mod Session

@@ -1,6 +1,6 @@
 // The decoder's session, in memory that the host lends: its limits and their questions, its places, opening and the check
 // before a call.
-ghost use Rattle.std.specs.Prelude.{◌≡◌, ◌≤◌, length, replicate};
+ghost use Rattle.std.specs.Prelude.{◌≡◌, ◌≤◌, length};
 ghost use Rattle.isdb_mmt.specs.Memory.Lent.{over};
 ghost use Rattle.isdb_mmt.specs.Memory.Layout.{table_ids, state_size};
 ghost use Rattle.isdb_mmt.specs.Memory.Check.{sound};
@@ -37,39 +37,21 @@ mod push_message;
 pub mod readings;
 mod reassembler;
 pub mod records;
+pub mod refusal;
 mod room;
 mod route;
 mod section;
+pub mod session;
 mod start;
 mod table_outcome;
 mod take;
 mod walk;
 
-fn clear(s: &mut [u8])
-    ensures { s.new ≡ replicate (length s.old) 0 }
-{
-    let mut i = 0;
-    while i < s.len() {
-        s[i] = 0;
-        i += 1;
-    }
-}
-
-fn clear_counts(s: &mut [u64])
-    ensures { s.new ≡ replicate (length s.old) 0 }
-{
-    let mut i = 0;
-    while i < s.len() {
-        s[i] = 0;
-        i += 1;
-    }
-}
-
 fn open_state(s: &mut [u8], l: Limits)
     requires { state_size ≤ length s.old }
     ensures { s.new ≡ over 0 (opened_state l) s.old }
 {
-    clear(&mut s[..STATE_SIZE]);
+    s[..STATE_SIZE].fill(0);
     head::store_limits(s, l);
 }
 
@@ -93,7 +75,7 @@ fn open_in(
     let number = limits::ask(l, lengths);
     if number == 0 {
         open_state(state, l);
-        clear_counts(others);
+        others.fill(0);
     }
     number
 }

@@ -4,15 +4,16 @@
 ghost use Rattle.std.specs.Prelude.{◌≡◌};
 ghost use Rattle.isdb_mmt.specs.Formats.Desc.{length_width_of, step_at, counted, split_of, other, location_in, access_control, scrambler, stream_identifier, service_text, short_event_of, hevc, extended_timestamp, descriptor_of, is_other_of, first_of, service_at, genre_at};
 
-use crate::location::{Located, Location, MaybeLocation};
+use crate::location::Location;
 use crate::part::Part;
-use crate::timestamp::{Extended, MaybeExtended};
-use crate::{part, timestamp};
+use crate::timestamp::Extended;
+use crate::{descriptor_walk, part, timestamp};
 use isdb_tlv::bytes;
 
 pub mod tag;
 
 // The width in bytes of the length field that follows a tag.
+#[tactic(auto, unfolding(crate::specs::Formats::Desc::length_width_of))]
 pub fn length_width(tag: u16) -> usize
     ensures { result ≡ length_width_of tag }
 {
@@ -34,6 +35,7 @@ pub enum Step {
 }
 
 // The loop's descriptors, by a cursor that starts at 0.
+#[tactic(auto, using(crate::proofs::Descriptors::width_le, crate::proofs::Descriptors::length_is), unfolding(crate::specs::Formats::Desc::step_at))]
 pub fn next(b: &[u8], at: usize) -> Step
     ensures { result ≡ step_at b.now at }
 {
@@ -68,39 +70,23 @@ pub struct Counted {
     pub broken: bool,
 }
 
+#[tactic(auto, using(crate::proofs::Descriptors::raw_lies, crate::proofs::Descriptors::plus_zero), unfolding(crate::specs::Formats::Desc::split_of))]
 pub fn decode_all(b: &[u8]) -> Counted
     ensures { result ≡ counted (split_of b.now) }
 {
-    let mut at: usize = 0;
+    let mut walk = descriptor_walk::new(b);
     let mut count: usize = 0;
-    loop {
-        match next(b, at) {
-            Step::Raw {
-                tag: _,
-                body: _,
-                next,
-            } => {
-                count += 1;
-                at = next;
-            }
-            Step::Broken(_) => {
-                return Counted {
-                    count,
-                    broken: true,
-                };
-            }
-            Step::End => {
-                return Counted {
-                    count,
-                    broken: false,
-                };
-            }
-        }
+    while let Some(_) = walk.next() {
+        count += 1;
+    }
+    Counted {
+        count,
+        broken: matches!(descriptor_walk::step(walk), Step::Broken(_)),
     }
 }
 
 // An ISO 639 language code.
-#[derive(Clone, Copy)]
+#[derive(Clone, Copy, Debug, PartialEq, Eq)]
 pub struct Language {
     pub first: u8,
     pub second: u8,
@@ -118,7 +104,7 @@ pub enum Descriptor {
     // 8004h: CA system, and where its ECM or EMM travels. A URL's place counts from byte 2 of the body.
     AccessControl {
         ca_system_id: u16,
-        location: MaybeLocation,
+        location: Option<Location>,
     },
     // 8005h: what is scrambled, and by which system.
     Scrambler {
@@ -172,15 +158,14 @@ fn kept(tag: u16, b: &[u8]) -> Descriptor
     }
 }
 
-fn maybe_location(l: Located) -> MaybeLocation
+fn maybe_location(l: Option<(Location, usize)>) -> Option<Location>
     ensures { result ≡ location_in l }
 {
-    match l {
-        Located::None => MaybeLocation::None,
-        Located::Some(l, _) => MaybeLocation::Some(l),
-    }
+    let (location, _) = l?;
+    Some(location)
 }
 
+#[tactic(auto, unfolding(crate::specs::Formats::Desc::access_control))]
 fn access_control(b: &[u8]) -> Descriptor
     ensures { result ≡ access_control b.now }
 {
@@ -193,6 +178,7 @@ fn access_control(b: &[u8]) -> Descriptor
     }
 }
 
+#[tactic(auto, using(isdb_tlv::proofs::Fields::be_one), unfolding(crate::specs::Formats::Desc::scrambler))]
 fn scrambler_of(b: &[u8]) -> Descriptor
     ensures { result ≡ scrambler b.now }
 {
@@ -205,6 +191,7 @@ fn scrambler_of(b: &[u8]) -> Descriptor
     }
 }
 
+#[tactic(auto, unfolding(crate::specs::Formats::Desc::stream_identifier))]
 fn stream_identifier(b: &[u8]) -> Descriptor
     ensures { result ≡ stream_identifier b.now }
 {
@@ -216,6 +203,7 @@ fn stream_identifier(b: &[u8]) -> Descriptor
     }
 }
 
+#[tactic(auto, using(isdb_tlv::proofs::Fields::be_one), unfolding(crate::specs::Formats::Desc::service_text))]
 fn service_of(b: &[u8]) -> Descriptor
     ensures { result ≡ service_text b.now }
 {
@@ -241,6 +229,7 @@ fn service_of(b: &[u8]) -> Descriptor
     }
 }
 
+#[tactic(auto, using(isdb_tlv::proofs::Fields::be_one), unfolding(crate::specs::Formats::Desc::short_event_of))]
 fn short_event(b: &[u8]) -> Descriptor
     ensures { result ≡ short_event_of b.now }
 {
@@ -270,6 +259,7 @@ fn short_event(b: &[u8]) -> Descriptor
     }
 }
 
+#[tactic(auto, using(isdb_tlv::proofs::Fields::be_one), unfolding(crate::specs::Formats::Desc::hevc))]
 fn hevc_of(b: &[u8]) -> Descriptor
     ensures { result ≡ hevc b.now }
 {
@@ -284,17 +274,19 @@ fn hevc_of(b: &[u8]) -> Descriptor
     }
 }
 
+#[tactic(auto, unfolding(crate::specs::Formats::Desc::extended_timestamp))]
 fn extended_timestamp(b: &[u8]) -> Descriptor
     ensures { result ≡ extended_timestamp b.now }
 {
     match timestamp::parse_extended(b) {
-        MaybeExtended::None => kept(tag::MPU_EXTENDED_TIMESTAMP, b),
-        MaybeExtended::Some(e) => Descriptor::ExtendedTimestamp(e),
+        None => kept(tag::MPU_EXTENDED_TIMESTAMP, b),
+        Some(e) => Descriptor::ExtendedTimestamp(e),
     }
 }
 
 impl Descriptor {
     // The descriptor of a tag and a body.
+    #[tactic(auto, unfolding(crate::specs::Formats::Desc::descriptor_of))]
     pub fn decode(tag: u16, b: &[u8]) -> Descriptor
         ensures { result ≡ descriptor_of tag b.now }
     {
@@ -321,39 +313,24 @@ impl Descriptor {
     pub fn is_other(self) -> bool
         ensures { result ≡ is_other_of self }
     {
-        match self {
-            Descriptor::Other { tag: _, body: _ } => true,
-            _ => false,
-        }
+        matches!(self, Descriptor::Other { .. })
     }
 }
 
-// The first descriptor of a loop that has a tag and could be decoded, with its body's place in the loop.
-#[derive(Clone, Copy)]
-pub enum Found {
-    None,
-    Some(Descriptor, Part),
-}
-
-pub fn first_of(b: &[u8], tag: u16) -> Found
+#[tactic(auto, using(crate::proofs::Descriptors::raw_lies))]
+pub fn first_of(b: &[u8], tag: u16) -> Option<(Descriptor, Part)>
     ensures { result ≡ first_of tag b.now 0 }
 {
-    let mut at: usize = 0;
-    loop {
-        match next(b, at) {
-            Step::Raw { tag: t, body, next } => {
-                if t == tag {
-                    let d = Descriptor::decode(t, body.of(b));
-                    if !d.is_other() {
-                        return Found::Some(d, body);
-                    }
-                }
-                at = next;
+    let mut walk = descriptor_walk::new(b);
+    while let Some((t, body)) = walk.next() {
+        if t == tag {
+            let d = Descriptor::decode(t, body.of(b));
+            if !d.is_other() {
+                return Some((d, body));
             }
-            Step::Broken(_) => return Found::None,
-            Step::End => return Found::None,
         }
     }
+    None
 }
 
 // An entry of a service list.
@@ -368,6 +345,7 @@ pub enum ServiceStep {
 }
 
 // The entries of a service list's body, 3 bytes each, by a cursor that starts at 0.
+#[tactic(auto, using(isdb_tlv::proofs::Fields::be_one), unfolding(crate::specs::Formats::Desc::service_at))]
 pub fn next_service(b: &[u8], at: usize) -> ServiceStep
     ensures { result ≡ service_at b.now at }
 {
@@ -394,6 +372,7 @@ pub enum GenreStep {
 }
 
 // The genres of a content descriptor's body, 2 bytes each, by a cursor that starts at 0.
+#[tactic(auto, using(isdb_tlv::proofs::Fields::be_one), unfolding(crate::specs::Formats::Desc::genre_at))]
 pub fn next_genre(b: &[u8], at: usize) -> GenreStep
     ensures { result ≡ genre_at b.now at }
 {

@@ -1,14 +1,34 @@
 // A descriptor loop with a position in it: the walk of desc::next as a value. Each function is thin; the work is done by desc::next.
-ghost use Rattle.std.specs.Prelude.{◌≡◌};
-ghost use Rattle.isdb_mmt.specs.Formats.Desc.{step_at};
+ghost use Rattle.std.specs.Prelude.{◌≡◌, ◌-◌, length};
+ghost use Rattle.std.specs.Iterator.{at_most};
+ghost use Rattle.isdb_mmt.specs.Formats.Desc.{step_at, Walked};
 
 use crate::desc;
 use crate::desc::Step;
+use crate::part::Part;
 
 #[derive(Clone, Copy)]
 pub struct DescriptorWalk<'a> {
     pub src: &'a [u8],
     pub at: usize,
+}
+
+// The descriptors, by tag and body. Where they end, step tells the loop's end from one that does not fit.
+impl<'a> Iterator for DescriptorWalk<'a> {
+    type Item = (u16, Part);
+
+    ghost next_gives = { λ w r t. (t.src ≡ w.src) × Walked w.src.now w.at r t.at };
+
+    ghost remaining = { λ w. at_most (length w.src.now - w.at) };
+
+    #[tactic(auto, using(crate::proofs::Descriptors::raw_lies))]
+    fn next(&mut self) -> Option<(u16, Part)> {
+        let Step::Raw { tag, body, next } = desc::next(self.src, self.at) else {
+            return None;
+        };
+        self.at = next;
+        Some((tag, body))
+    }
 }
 
 // At the loop's first descriptor.

@@ -3,11 +3,10 @@
 ghost use Rattle.std.specs.Prelude.{◌≡◌};
 ghost use Rattle.isdb_mmt.specs.Formats.Location.{sized, url_of, ipv4_at, ipv6_at, location_of, packet_id_of};
 
-use crate::maybe::MaybeU16;
 use crate::part::Part;
 use isdb_tlv::bytes;
 
-#[derive(Clone, Copy)]
+#[derive(Clone, Copy, Debug, PartialEq, Eq)]
 pub enum Location {
     // 00h: an MMTP packet id in the same IP data flow.
     SameFlow(u16),
@@ -42,20 +41,6 @@ pub enum Location {
     Url(Part),
 }
 
-// A location that may be absent.
-#[derive(Clone, Copy)]
-pub enum MaybeLocation {
-    None,
-    Some(Location),
-}
-
-// A location and the bytes it took.
-#[derive(Clone, Copy)]
-pub enum Located {
-    None,
-    Some(Location, usize),
-}
-
 fn ipv4_at(b: &[u8]) -> Location
     ensures { result ≡ ipv4_at b.now }
 {
@@ -81,20 +66,22 @@ fn ipv6_at(b: &[u8]) -> Location
 }
 
 // A location of n bytes, where they are there.
-fn if_present(b: &[u8], n: usize, l: Location) -> Located
+#[tactic(auto, unfolding(crate::specs::Formats::Location::sized))]
+fn if_present(b: &[u8], n: usize, l: Location) -> Option<(Location, usize)>
     ensures { result ≡ sized b.now n l }
 {
     if b.len() < n {
-        return Located::None;
+        return None;
     }
-    Located::Some(l, n)
+    Some((l, n))
 }
 
-fn url(b: &[u8]) -> Located
+#[tactic(auto, using(isdb_tlv::proofs::Fields::be_one), unfolding(crate::specs::Formats::Location::url_of))]
+fn url(b: &[u8]) -> Option<(Location, usize)>
     ensures { result ≡ url_of b.now }
 {
     if b.len() < 2 {
-        return Located::None;
+        return None;
     }
     let length = bytes::get_u8(b, 1) as usize;
     if_present(b, length + 2, Location::Url(Part { start: 2, length }))
@@ -102,11 +89,12 @@ fn url(b: &[u8]) -> Located
 
 impl Location {
     // One location at the start of b, and the bytes it took.
-    pub fn parse(b: &[u8]) -> Located
+    #[tactic(auto, using(isdb_tlv::proofs::Fields::be_one), unfolding(crate::specs::Formats::Location::location_of))]
+    pub fn parse(b: &[u8]) -> Option<(Location, usize)>
         ensures { result ≡ location_of b.now }
     {
         if b.len() < 1 {
-            return Located::None;
+            return None;
         }
         match bytes::get_u8(b, 0) {
             0x00 => if_present(b, 3, Location::SameFlow(bytes::get_u16(b, 1))),
@@ -130,37 +118,21 @@ impl Location {
                 },
             ),
             0x05 => url(b),
-            _ => Located::None,
+            _ => None,
         }
     }
 
     // The MMTP packet id that the location designates, if any.
-    pub fn packet_id(self) -> MaybeU16
+    pub fn packet_id(self) -> Option<u16>
         ensures { result ≡ packet_id_of self }
     {
         match self {
-            Location::SameFlow(p) => MaybeU16::Some(p),
-            Location::Ipv4 {
-                src: _,
-                dst: _,
-                port: _,
-                packet_id,
-            } => MaybeU16::Some(packet_id),
-            Location::Ipv6 {
-                src_high: _,
-                src_low: _,
-                dst_high: _,
-                dst_low: _,
-                port: _,
-                packet_id,
-            } => MaybeU16::Some(packet_id),
-            Location::Mpeg2Ts {
-                network_id: _,
-                ts_id: _,
-                pid: _,
-            } => MaybeU16::None,
-            Location::Mpeg2TsIpv6 { port: _, pid: _ } => MaybeU16::None,
-            Location::Url(_) => MaybeU16::None,
+            Location::SameFlow(p) => Some(p),
+            Location::Ipv4 { packet_id, .. } => Some(packet_id),
+            Location::Ipv6 { packet_id, .. } => Some(packet_id),
+            Location::Mpeg2Ts { .. } => None,
+            Location::Mpeg2TsIpv6 { .. } => None,
+            Location::Url(_) => None,
         }
     }
 }

@@ -9,7 +9,7 @@ use crate::part::Part;
 use isdb_tlv::{bytes, mmtp};
 
 // What a control payload's first byte says.
-#[derive(Clone, Copy)]
+#[derive(Clone, Copy, Debug, PartialEq, Eq)]
 pub enum Division {
     // 00: a whole message.
     Undivided,
@@ -21,7 +21,7 @@ pub enum Division {
     Last,
 }
 
-#[derive(Clone, Copy)]
+#[derive(Clone, Copy, Debug, PartialEq, Eq)]
 pub struct Fragment {
     pub division: Division,
     // Lengths of 4 bytes where aggregated, else of 2.
@@ -29,22 +29,22 @@ pub struct Fragment {
     pub aggregated: bool,
 }
 
-// The division of a payload that starts with a byte. Its data start at 2.
-pub fn fragment_of(flags: u8) -> Fragment
-    ensures { result ≡ fragment_of flags }
-{
-    let long_length = flags / 2 % 2 == 1;
-    let aggregated = flags % 2 == 1;
-    let division = match flags / 64 {
-        0 => Division::Undivided,
-        1 => Division::First,
-        2 => Division::Middle,
-        _ => Division::Last,
-    };
-    Fragment {
-        division,
-        long_length,
-        aggregated,
+// From the first byte of a payload. Its data start at 2.
+impl From<u8> for Fragment {
+    ghost from_gives = { λ flags f. f ≡ fragment_of flags };
+
+    #[tactic(auto, unfolding(crate::specs::Formats::Message::division_of))]
+    fn from(flags: u8) -> Fragment {
+        Fragment {
+            division: match flags / 64 {
+                0 => Division::Undivided,
+                1 => Division::First,
+                2 => Division::Middle,
+                _ => Division::Last,
+            },
+            long_length: flags / 2 % 2 == 1,
+            aggregated: flags % 2 == 1,
+        }
     }
 }
 
@@ -65,6 +65,7 @@ fn prefix_width(long: bool) -> u8
 }
 
 // The messages of an aggregated payload's data, by a cursor that starts at 0.
+#[tactic(auto, unfolding(crate::specs::Formats::Message::aggregated_at))]
 pub fn next_message(b: &[u8], long: bool, at: usize) -> MessageStep
     ensures { result ≡ aggregated_at b.now long at }
 {
@@ -99,19 +100,13 @@ fn body_part(m: &[u8]) -> Part
     requires { 7 ≤ length m.now }
     ensures { result ≡ body_part m.now }
 {
-    let n = bytes::get_u32(m, 3) as usize;
-    if m.len() - 7 < n {
-        return Part {
-            start: 7,
-            length: m.len() - 7,
-        };
-    }
     Part {
         start: 7,
-        length: n,
+        length: (m.len() - 7).min(bytes::get_u32(m, 3) as usize),
     }
 }
 
+#[tactic(auto, unfolding(crate::specs::Formats::Message::section_table))]
 fn section_table(m: &[u8]) -> Content
     ensures { result ≡ section_table m.now }
 {
@@ -128,6 +123,7 @@ fn section_table(m: &[u8]) -> Content
     })
 }
 
+#[tactic(auto, using(isdb_tlv::proofs::Fields::be_one), unfolding(crate::specs::Formats::Message::pa_tables))]
 fn pa_tables(m: &[u8]) -> Content
     ensures { result ≡ pa_tables m.now }
 {
@@ -145,6 +141,7 @@ fn pa_tables(m: &[u8]) -> Content
 }
 
 // A message, by its id: PA, M2 section, CA, M2 short section; others hold no table.
+#[tactic(auto, unfolding(crate::specs::Formats::Message::content_of))]
 pub fn content_of(m: &[u8]) -> Content
     ensures { result ≡ content_of m.now }
 {
@@ -167,6 +164,7 @@ pub enum TableStep {
 }
 
 // The tables of a PA message's body, by a cursor that starts where content says.
+#[tactic(auto, unfolding(crate::specs::Formats::Message::table_at))]
 pub fn next_table(body: &[u8], at: usize) -> TableStep
     ensures { result ≡ table_at body.now at }
 {

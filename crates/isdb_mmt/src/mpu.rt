@@ -1,17 +1,16 @@
 // MPU payloads (ARIB STD-B60, 6.3.2, Table 6-1): the payload header and the units, and what follows from a packet's and an
 // MPU's sequence number.
 // Translated from mpu.rs of isdb-rs (Apache-2.0, see NOTICE) and changed.
-ghost use Rattle.std.specs.Prelude.{◌≡◌, ◌≤◌, false, length};
+ghost use Rattle.std.specs.Prelude.{◌≡◌, ◌≤◌, false, length, is_some};
 ghost use Rattle.isdb_tlv.specs.Guards.{◌≤?◌};
 ghost use Rattle.std.specs.Prelude.{if◌then◌else◌};
-ghost use Rattle.isdb_mmt.specs.Formats.Mpu.{fragment_code_of, fragment_type_of, indicator_code_of, indicator, completes_of, payload_header_fields, payload_header, mfu_at, has_header, header_or, unit_in, unit_at, unit_step, units_of, counted, declared_of, follows, lost_from};
+ghost use Rattle.isdb_mmt.specs.Formats.Mpu.{fragment_code_of, fragment_type_of, indicator_code_of, indicator, completes_of, payload_header_fields, payload_header, mfu_at, unit_in, unit_at, unit_step, units_of, counted, declared_of, follows, lost_from};
 
-use crate::maybe::MaybeU32;
 use crate::part::Part;
 use isdb_tlv::bytes;
 
 // MPU_fragment_type (Table 6-2).
-#[derive(Clone, Copy)]
+#[derive(Clone, Copy, Debug, PartialEq, Eq)]
 pub enum FragmentType {
     // 0.
     MpuMetadata,
@@ -23,11 +22,12 @@ pub enum FragmentType {
     Reserved(u8),
 }
 
-impl FragmentType {
-    // From the 4-bit field; higher bits of code are not looked at.
-    pub fn from_code(code: u8) -> FragmentType
-        ensures { result ≡ fragment_type_of code }
-    {
+// From the 4-bit field; higher bits of code are not looked at.
+impl From<u8> for FragmentType {
+    ghost from_gives = { λ code t. t ≡ fragment_type_of code };
+
+    #[tactic(auto, unfolding(crate::specs::Formats::Mpu::fragment_type_of))]
+    fn from(code: u8) -> FragmentType {
         match code % 16 {
             0 => FragmentType::MpuMetadata,
             1 => FragmentType::MovieFragmentMetadata,
@@ -35,11 +35,13 @@ impl FragmentType {
             c => FragmentType::Reserved(c),
         }
     }
+}
 
-    pub fn code(self) -> u8
-        ensures { result ≡ fragment_code_of self }
-    {
-        match self {
+impl From<FragmentType> for u8 {
+    ghost from_gives = { λ t code. code ≡ fragment_code_of t };
+
+    fn from(t: FragmentType) -> u8 {
+        match t {
             FragmentType::MpuMetadata => 0,
             FragmentType::MovieFragmentMetadata => 1,
             FragmentType::Mfu => 2,
@@ -49,7 +51,7 @@ impl FragmentType {
 }
 
 // fragmentation_indicator (Table 6-3).
-#[derive(Clone, Copy)]
+#[derive(Clone, Copy, Debug, PartialEq, Eq)]
 pub enum FragmentationIndicator {
     // 00: undivided.
     Complete,
@@ -61,11 +63,12 @@ pub enum FragmentationIndicator {
     Last,
 }
 
-impl FragmentationIndicator {
-    // From the 2-bit field; higher bits of code are not looked at.
-    pub fn from_code(code: u8) -> FragmentationIndicator
-        ensures { result ≡ indicator code }
-    {
+// From the 2-bit field; higher bits of code are not looked at.
+impl From<u8> for FragmentationIndicator {
+    ghost from_gives = { λ code i. i ≡ indicator code };
+
+    #[tactic(auto, unfolding(crate::specs::Formats::Mpu::indicator))]
+    fn from(code: u8) -> FragmentationIndicator {
         match code % 4 {
             0 => FragmentationIndicator::Complete,
             1 => FragmentationIndicator::Head,
@@ -73,32 +76,34 @@ impl FragmentationIndicator {
             _ => FragmentationIndicator::Last,
         }
     }
+}
 
-    pub fn code(self) -> u8
-        ensures { result ≡ indicator_code_of self }
-    {
-        match self {
+impl From<FragmentationIndicator> for u8 {
+    ghost from_gives = { λ i code. code ≡ indicator_code_of i };
+
+    fn from(i: FragmentationIndicator) -> u8 {
+        match i {
             FragmentationIndicator::Complete => 0,
             FragmentationIndicator::Head => 1,
             FragmentationIndicator::Middle => 2,
             FragmentationIndicator::Last => 3,
         }
     }
+}
 
+impl FragmentationIndicator {
     // Whether a unit ends with this payload.
     pub fn completes(self) -> bool
         ensures { result ≡ completes_of self }
     {
-        match self {
-            FragmentationIndicator::Complete => true,
-            FragmentationIndicator::Head => false,
-            FragmentationIndicator::Middle => false,
-            FragmentationIndicator::Last => true,
-        }
+        matches!(
+            self,
+            FragmentationIndicator::Complete | FragmentationIndicator::Last
+        )
     }
 }
 
-#[derive(Clone, Copy)]
+#[derive(Clone, Copy, Debug, PartialEq, Eq)]
 pub struct PayloadHeader {
     pub fragment_type: FragmentType,
     pub timed: bool,
@@ -108,21 +113,15 @@ pub struct PayloadHeader {
     pub mpu_sequence_number: u32,
 }
 
-#[derive(Clone, Copy)]
-pub enum MaybeHeader {
-    None,
-    Some(PayloadHeader),
-}
-
 fn header_fields(p: &[u8]) -> PayloadHeader
     requires { 8 ≤ length p.now }
     ensures { result ≡ payload_header_fields p.now }
 {
     let f = p[2];
     PayloadHeader {
-        fragment_type: FragmentType::from_code(f / 16),
+        fragment_type: FragmentType::from(f / 16),
         timed: f / 8 % 2 == 1,
-        fragmentation: FragmentationIndicator::from_code(f / 2),
+        fragmentation: FragmentationIndicator::from(f / 2),
         aggregated: f % 2 == 1,
         fragment_counter: p[3],
         mpu_sequence_number: bytes::get_u32(p, 4),
@@ -130,19 +129,20 @@ fn header_fields(p: &[u8]) -> PayloadHeader
 }
 
 // The header of a payload: the declared bytes are to be there, and 8 bytes of the payload, whatever it declares.
-pub fn parse_header(p: &[u8]) -> MaybeHeader
+#[tactic(auto, unfolding(crate::specs::Formats::Mpu::payload_header))]
+pub fn parse_header(p: &[u8]) -> Option<PayloadHeader>
     ensures { result ≡ payload_header p.now }
 {
     if p.len() < 2 {
-        return MaybeHeader::None;
+        return None;
     }
     if p.len() < bytes::get_u16(p, 0) as usize + 2 {
-        return MaybeHeader::None;
+        return None;
     }
     if p.len() < 8 {
-        return MaybeHeader::None;
+        return None;
     }
-    MaybeHeader::Some(header_fields(p))
+    Some(header_fields(p))
 }
 
 // The declared bytes of a payload, of which its units are.
@@ -153,7 +153,7 @@ pub fn declared(p: &[u8]) -> &[u8]
 }
 
 // The header of an MFU of timed data.
-#[derive(Clone, Copy)]
+#[derive(Clone, Copy, Debug, PartialEq, Eq)]
 pub struct MfuHeader {
     pub movie_fragment_sequence_number: u32,
     pub sample_number: u32,
@@ -162,44 +162,20 @@ pub struct MfuHeader {
     pub dependency_counter: u8,
 }
 
-#[derive(Clone, Copy)]
-pub enum MaybeMfu {
-    None,
-    Some(MfuHeader),
-}
-
-impl MaybeMfu {
-    pub fn is_some(self) -> bool
-        ensures { result ≡ has_header self }
-    {
-        match self {
-            MaybeMfu::None => false,
-            MaybeMfu::Some(_) => true,
-        }
-    }
-
-    // The header; one that is absent has all fields 0.
-    pub fn or_zero(self) -> MfuHeader
-        ensures { result ≡ header_or self }
-    {
-        match self {
-            MaybeMfu::None => MfuHeader {
-                movie_fragment_sequence_number: 0,
-                sample_number: 0,
-                offset: 0,
-                priority: 0,
-                dependency_counter: 0,
-            },
-            MaybeMfu::Some(h) => h,
-        }
-    }
-}
+// What stands for a header that is absent.
+pub const NO_HEADER: MfuHeader = MfuHeader {
+    movie_fragment_sequence_number: 0,
+    sample_number: 0,
+    offset: 0,
+    priority: 0,
+    dependency_counter: 0,
+};
 
 // A unit: a header where the data are timed, else an item id; its data by their place in the declared bytes.
 #[derive(Clone, Copy)]
 pub struct Unit {
-    pub mfu: MaybeMfu,
-    pub item_id: MaybeU32,
+    pub mfu: Option<MfuHeader>,
+    pub item_id: Option<u32>,
     pub data: Part,
 }
 
@@ -210,6 +186,7 @@ pub enum UnitStep {
     Unit(Unit, usize),
 }
 
+#[tactic(auto, using(isdb_tlv::proofs::Fields::be_one))]
 fn mfu_at(b: &[u8]) -> MfuHeader
     ensures { result ≡ mfu_at b.now }
 {
@@ -223,6 +200,7 @@ fn mfu_at(b: &[u8]) -> MfuHeader
 }
 
 // The unit in the bytes from at to end.
+#[tactic(auto, unfolding(crate::specs::Formats::Mpu::unit_in))]
 fn unit_in(q: &[u8], timed: bool, at: usize, end: usize) -> UnitStep
     requires { (at ≤ end) × (end ≤ length q.now) }
     ensures { result ≡ unit_in q.now timed at end }
@@ -235,8 +213,8 @@ fn unit_in(q: &[u8], timed: bool, at: usize, end: usize) -> UnitStep
         }
         return UnitStep::Unit(
             Unit {
-                mfu: MaybeMfu::Some(mfu_at(b)),
-                item_id: MaybeU32::None,
+                mfu: Some(mfu_at(b)),
+                item_id: None,
                 data: Part {
                     start: at + 14,
                     length: n - 14,
@@ -250,8 +228,8 @@ fn unit_in(q: &[u8], timed: bool, at: usize, end: usize) -> UnitStep
     }
     UnitStep::Unit(
         Unit {
-            mfu: MaybeMfu::None,
-            item_id: MaybeU32::Some(bytes::get_u32(b, 0)),
+            mfu: None,
+            item_id: Some(bytes::get_u32(b, 0)),
             data: Part {
                 start: at + 4,
                 length: n - 4,
@@ -262,6 +240,7 @@ fn unit_in(q: &[u8], timed: bool, at: usize, end: usize) -> UnitStep
 }
 
 // The unit at a place: behind a length of 2 bytes where aggregated, else all that is left.
+#[tactic(auto, unfolding(crate::specs::Formats::Mpu::unit_at))]
 fn unit_at(q: &[u8], timed: bool, aggregated: bool, at: usize) -> UnitStep
     requires { at ≤ length q.now }
     ensures { result ≡ unit_at q.now timed aggregated at }
@@ -280,56 +259,32 @@ fn unit_at(q: &[u8], timed: bool, aggregated: bool, at: usize) -> UnitStep
     unit_in(q, timed, start, start + n)
 }
 
-// Where the unit of a place is to stand: the first one at 8, also for a place before it.
-fn first_at(at: usize) -> usize
-    ensures { result ≡ (if at ≤? 8 then 8 else at) }
-{
-    if at <= 8 {
-        return 8;
-    }
-    at
-}
-
-// Whether n bytes end at a place behind the first unit's.
-fn is_end(n: usize, at: usize) -> bool
-    ensures { result ≡ (if at ≤? 8 then false else n ≤? at) }
-{
-    if at <= 8 {
-        return false;
-    }
-    n <= at
-}
-
 // The units of a payload's declared bytes q, by a cursor: the first one stands at 8, where there is to be one, and a place before
 // it means it too.
+#[tactic(auto, unfolding(crate::specs::Formats::Mpu::unit_step))]
 pub fn next_unit(q: &[u8], timed: bool, aggregated: bool, at: usize) -> UnitStep
     ensures { result ≡ unit_step q.now timed aggregated at }
 {
     if q.len() < 8 {
         return UnitStep::Malformed;
     }
-    if is_end(q.len(), at) {
+    if 8 < at && q.len() <= at {
         return UnitStep::End;
     }
-    unit_at(q, timed, aggregated, first_at(at))
+    unit_at(q, timed, aggregated, at.max(8))
 }
 
-// How many units there are, where all are whole.
-#[derive(Clone, Copy)]
-pub enum UnitCount {
-    Malformed,
-    Count(usize),
-}
-
-pub fn count_units(q: &[u8], timed: bool, aggregated: bool) -> UnitCount
+#[tactic(auto, using(crate::proofs::Units::unit_lies, crate::proofs::Units::units_at, crate::proofs::Units::one_more, isdb_tlv::proofs::Walk::plus_zero), unfolding(crate::specs::Formats::Mpu::units_of, crate::specs::Formats::Mpu::counted))]
+pub fn count_units(q: &[u8], timed: bool, aggregated: bool) -> Option<usize>
     ensures { result ≡ counted (units_of q.now timed aggregated) }
 {
     let mut at: usize = 8;
     let mut n: usize = 0;
+    // No iterator: a step has three answers, and the two that end the loop differ.
     loop {
         match next_unit(q, timed, aggregated, at) {
-            UnitStep::End => return UnitCount::Count(n),
-            UnitStep::Malformed => return UnitCount::Malformed,
+            UnitStep::End => return Some(n),
+            UnitStep::Malformed => return None,
             UnitStep::Unit(_, next) => {
                 n += 1;
                 at = next;
@@ -339,6 +294,7 @@ pub fn count_units(q: &[u8], timed: bool, aggregated: bool) -> UnitCount
 }
 
 // Whether a number is the one behind another; behind 4,294,967,295 comes 0.
+#[tactic(auto, unfolding(crate::specs::Formats::Mpu::follows))]
 pub fn follows_on(old: u32, new: u32) -> bool
     ensures { result ≡ follows old new }
 {
@@ -346,9 +302,10 @@ pub fn follows_on(old: u32, new: u32) -> bool
 }
 
 // How many packets are lost from one number to the next, 1,048,576 at most.
+#[tactic(auto, unfolding(crate::specs::Formats::Mpu::lost_from))]
 pub fn lost(old: u32, new: u32) -> u32
     ensures { result ≡ lost_from old new }
 {
     let d = std::num::wrapping_sub_u32(new, std::num::wrapping_add_u32(old, 1));
-    if d < 1048576 { d } else { 1048576 }
+    d.min(1_048_576)
 }

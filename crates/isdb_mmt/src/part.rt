@@ -4,7 +4,7 @@ ghost use Rattle.isdb_mmt.specs.Formats.Part.{part_of, count_of_usize};
 
 use isdb_tlv::bytes;
 
-#[derive(Clone, Copy)]
+#[derive(Clone, Copy, Debug, PartialEq, Eq)]
 pub struct Part {
     pub start: usize,
     pub length: usize,
@@ -15,9 +15,7 @@ impl Part {
     pub fn of(self, b: &[u8]) -> &[u8]
         ensures { result.now ≡ part_of b.now self }
     {
-        let start = self.start;
-        let length = self.length;
-        bytes::part(b, start, length)
+        bytes::part(b, self.start, self.length)
     }
 }
 
@@ -25,10 +23,7 @@ impl Part {
 pub(crate) fn left(b: &[u8], at: usize) -> usize
     ensures { result ≡ length b.now - at }
 {
-    if b.len() <= at {
-        return 0;
-    }
-    b.len() - at
+    b.len().saturating_sub(at)
 }
 
 // A slice has fewer than 2^64 bytes, which a definition over lists does not know.

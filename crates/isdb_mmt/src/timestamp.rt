@@ -3,7 +3,6 @@
 ghost use Rattle.std.specs.Prelude.{◌≡◌};
 ghost use Rattle.isdb_mmt.specs.Formats.Timestamp.{timestamp_at, scale_end, head_end, timescale_of, default_offset, unit_size_of, mpu_at, mpus_whole, extended_of, unit_at, unit_step};
 
-use crate::maybe::{MaybeU16, MaybeU32};
 use crate::part;
 use crate::part::Part;
 use isdb_tlv::bytes;
@@ -20,6 +19,7 @@ pub enum TimestampStep {
 }
 
 // The entries, 12 bytes each, by a cursor that starts at 0.
+#[tactic(auto, unfolding(crate::specs::Formats::Timestamp::timestamp_at))]
 pub fn next_timestamp(b: &[u8], at: usize) -> TimestampStep
     ensures { result ≡ timestamp_at b.now at }
 {
@@ -37,18 +37,12 @@ pub fn next_timestamp(b: &[u8], at: usize) -> TimestampStep
 #[derive(Clone, Copy)]
 pub struct Extended {
     // Time units per second, where given.
-    pub timescale: MaybeU32,
+    pub timescale: Option<u32>,
     // The PTS offset of every access unit, where there is one for all (pts_offset_type 1).
-    pub default_pts_offset: MaybeU16,
+    pub default_pts_offset: Option<u16>,
     // Each access unit has a PTS offset of its own (pts_offset_type 2).
     pub own_pts_offset: bool,
     pub start: usize,
-}
-
-#[derive(Clone, Copy)]
-pub enum MaybeExtended {
-    None,
-    Some(Extended),
 }
 
 // One MPU; units are the bytes of its access units.
@@ -73,6 +67,7 @@ fn unit_size(own: bool) -> usize
 }
 
 // The MPUs of a descriptor's body, by a cursor that starts at the head's start; own is the head's own_pts_offset.
+#[tactic(auto, using(crate::proofs::Timestamps::units_le, crate::proofs::Fields::first_field, crate::proofs::Fields::field, crate::proofs::Fields::byte_field), unfolding(crate::specs::Formats::Timestamp::mpu_at))]
 pub fn next_mpu(b: &[u8], own: bool, at: usize) -> MpuStep
     ensures { result ≡ mpu_at b.now own at }
 {
@@ -104,18 +99,12 @@ fn mpus_whole(b: &[u8], own: bool, from: usize) -> bool
     ensures { result ≡ mpus_whole b.now own from }
 {
     let mut at = from;
+    // No iterator: a step has three answers, and the two that end the loop differ.
     loop {
         match next_mpu(b, own, at) {
             MpuStep::End => return true,
             MpuStep::Broken => return false,
-            MpuStep::Mpu {
-                mpu_sequence_number: _,
-                leap_indicator: _,
-                decoding_time_offset: _,
-                access_units: _,
-                units: _,
-                next,
-            } => at = next,
+            MpuStep::Mpu { next, .. } => at = next,
         }
     }
 }
@@ -137,43 +126,44 @@ fn head_end(flags: u8) -> usize
     }
 }
 
-fn timescale_of(b: &[u8], flags: u8) -> MaybeU32
+fn timescale_of(b: &[u8], flags: u8) -> Option<u32>
     ensures { result ≡ timescale_of b.now flags }
 {
     if flags % 2 == 0 {
-        MaybeU32::None
+        None
     } else {
-        MaybeU32::Some(bytes::get_u32(b, 1))
+        Some(bytes::get_u32(b, 1))
     }
 }
 
-fn default_offset(b: &[u8], flags: u8) -> MaybeU16
+fn default_offset(b: &[u8], flags: u8) -> Option<u16>
     ensures { result ≡ default_offset b.now flags }
 {
     if flags / 2 % 4 == 1 {
-        MaybeU16::Some(bytes::get_u16(b, scale_end(flags)))
+        Some(bytes::get_u16(b, scale_end(flags)))
     } else {
-        MaybeU16::None
+        None
     }
 }
 
 // A whole extended timestamp descriptor, or none where its body does not fit its structure.
-pub fn parse_extended(b: &[u8]) -> MaybeExtended
+#[tactic(auto, using(isdb_tlv::proofs::Fields::be_one), unfolding(crate::specs::Formats::Timestamp::extended_of))]
+pub fn parse_extended(b: &[u8]) -> Option<Extended>
     ensures { result ≡ extended_of b.now }
 {
     if b.len() < 1 {
-        return MaybeExtended::None;
+        return None;
     }
     let flags = bytes::get_u8(b, 0);
     let start = head_end(flags);
     if b.len() < start {
-        return MaybeExtended::None;
+        return None;
     }
     let own_pts_offset = flags / 2 % 4 == 2;
     if !mpus_whole(b, own_pts_offset, start) {
-        return MaybeExtended::None;
+        return None;
     }
-    MaybeExtended::Some(Extended {
+    Some(Extended {
         timescale: timescale_of(b, flags),
         default_pts_offset: default_offset(b, flags),
         own_pts_offset,
@@ -186,38 +176,33 @@ pub fn parse_extended(b: &[u8]) -> MaybeExtended
 pub struct AccessUnit {
     pub dts_pts_offset: u16,
     // Its own, or the default where there is one.
-    pub pts_offset: MaybeU16,
+    pub pts_offset: Option<u16>,
 }
 
-#[derive(Clone, Copy)]
-pub enum AccessUnitStep {
-    End,
-    Unit(AccessUnit, usize),
-}
-
+#[tactic(auto, using(isdb_tlv::proofs::Numbers::be_drop))]
 fn access_unit(units: &[u8], e: Extended, at: usize) -> AccessUnit
     ensures { result ≡ unit_at units.now e at }
 {
-    let default_pts_offset = e.default_pts_offset;
     if e.own_pts_offset {
         return AccessUnit {
             dts_pts_offset: bytes::get_u16(units, at),
-            pts_offset: MaybeU16::Some(bytes::get_u16(bytes::rest(units, at), 2)),
+            pts_offset: Some(bytes::get_u16(bytes::rest(units, at), 2)),
         };
     }
     AccessUnit {
         dts_pts_offset: bytes::get_u16(units, at),
-        pts_offset: default_pts_offset,
+        pts_offset: e.default_pts_offset,
     }
 }
 
 // The access units of an MPU whose units these are, by a cursor that starts at 0; e is the descriptor's head.
-pub fn next_access_unit(units: &[u8], e: Extended, at: usize) -> AccessUnitStep
+#[tactic(auto, unfolding(crate::specs::Formats::Timestamp::unit_step))]
+pub fn next_access_unit(units: &[u8], e: Extended, at: usize) -> Option<(AccessUnit, usize)>
     ensures { result ≡ unit_step units.now e at }
 {
     let size = unit_size(e.own_pts_offset);
     if part::left(units, at) < size {
-        return AccessUnitStep::End;
+        return None;
     }
-    AccessUnitStep::Unit(access_unit(units, e, at), at + size)
+    Some((access_unit(units, e, at), at + size))
 }

@@ -1,4 +1,10 @@
 -- The text of a table and its whole value. Assumes nothing.
+use Rattle.isdb_mmt.specs.declared.table.section.Parsed.{Parsed}
+use Rattle.std.specs.Prelude.{Err, None, Ok, Option, Result, Some}
+use Rattle.isdb_mmt.specs.declared.table.mpt.Asset.{Asset}
+use Rattle.isdb_mmt.specs.declared.table.plt.IpDelivery.{IpDelivery}
+use Rattle.isdb_mmt.specs.declared.table.amt.AmtService.{AmtService}
+use Rattle.isdb_mmt.specs.declared.table.section.SectionError.{SectionError}
 use Rattle.std.proofs.Common.{◌≡◌, ℕ, ◌+◌, ltb, List, [], ◌∷◌, ◌++◌, length, refl, ap, arith}
 use Rattle.isdb_tlv.proofs.Guards.{cond_elim}
 use Rattle.isdb_mmt.specs.WholeValues.Steps.{Stood, Gives, Counts, AllOf}
@@ -11,20 +17,13 @@ use Rattle.isdb_mmt.specs.Formats.Amt.{service_at}
 use Rattle.isdb_mmt.specs.Formats.Eit.{event_step}
 use Rattle.isdb_mmt.specs.Formats.Sdt.{service_step}
 use Rattle.isdb_mmt.specs.Formats.Nit.{stream_step}
-use Rattle.isdb_mmt.specs.Formats.Section.{length12, long_section_of, in_section, entries_from}
-use Rattle.isdb_mmt.specs.Formats.Bit.{bit_parsed, broadcaster_step, bit_body, bit_of}
+use Rattle.isdb_mmt.specs.Formats.Section.{length12, long_section_of, in_section, entries_from, parsed}
+use Rattle.isdb_mmt.specs.Formats.Bit.{broadcaster_step, bit_body, bit_of}
 use Rattle.isdb_mmt.specs.declared.table.section.SectionHeader.{SectionHeader}
-use Rattle.isdb_mmt.specs.declared.table.section.LongSection.{LongSection}
-use Rattle.isdb_mmt.specs.declared.table.section.LongSection.TheVariants.{Ok as good, Err as bad}
 use Rattle.isdb_mmt.specs.declared.table.bit.Bit.{Bit}
-use Rattle.isdb_mmt.specs.declared.table.bit.BitParsed.{BitParsed}
-use Rattle.isdb_mmt.specs.declared.table.bit.BitResult.{BitResult}
-use Rattle.isdb_mmt.specs.declared.table.bit.BitResult.TheVariants.{Ok as bit_ok, Err as bit_err}
 use Rattle.isdb_mmt.specs.declared.table.bit.Broadcaster.{Broadcaster}
 use Rattle.isdb_mmt.specs.declared.table.bit.BroadcasterStep.{BroadcasterStep}
 use Rattle.isdb_mmt.specs.declared.table.bit.BroadcasterStep.TheVariants.{End as no_broadcaster, Malformed as broken_broadcaster, Broadcaster as broadcaster}
-use Rattle.isdb_mmt.specs.declared.table.amt.AmtStep.{AmtStep}
-use Rattle.isdb_mmt.specs.declared.table.amt.AmtStep.TheVariants.{Malformed as no_flow_of, Service as flow}
 use Rattle.isdb_mmt.specs.declared.table.sdt.SdtService.{SdtService}
 use Rattle.isdb_mmt.specs.declared.table.sdt.SdtStep.{SdtStep}
 use Rattle.isdb_mmt.specs.declared.table.sdt.SdtStep.TheVariants.{End as no_service, Malformed as broken_service, Service as service}
@@ -33,10 +32,6 @@ use Rattle.isdb_mmt.specs.declared.table.eit.EventStep.{EventStep}
 use Rattle.isdb_mmt.specs.declared.table.eit.EventStep.TheVariants.{End as no_event, Malformed as broken_event, Event as event}
 use Rattle.isdb_mmt.specs.declared.table.nit.StreamStep.{StreamStep}
 use Rattle.isdb_mmt.specs.declared.table.nit.StreamStep.TheVariants.{End as no_stream, Malformed as broken_stream, Stream as stream}
-use Rattle.isdb_mmt.specs.declared.table.plt.DeliveryStep.{DeliveryStep}
-use Rattle.isdb_mmt.specs.declared.table.plt.DeliveryStep.TheVariants.{Malformed as no_delivery, Delivery as delivery}
-use Rattle.isdb_mmt.specs.declared.table.mpt.AssetStep.{AssetStep}
-use Rattle.isdb_mmt.specs.declared.table.mpt.AssetStep.TheVariants.{Malformed as no_asset, Asset as asset}
 use Rattle.isdb_mmt.proofs.AllWalks.{walks}
 use Rattle.isdb_text.specs.Elements.{Element, texts}
 use Rattle.isdb_text.specs.DumpTables.{flow_text, flow_element, service_text, service_element, event_text, event_element, broadcaster_text, broadcaster_element, stream_text, stream_element, delivery_text, delivery_element, asset_text, asset_element}
@@ -57,13 +52,13 @@ module _ {A : Type 0} (step : ℕ → Stood A) (text : A → List ℕ) (own : �
   texts_all : {n at : ℕ} {l : List A} → AllOf step n at l → texts own n at ≡ joined text l
   texts_all {n} {at} {l} c = rw (← c.count) (texts_given l at c.ends.stop c.ends.gives)
 
-as_flow : (x : AmtStep) → flow_element x ≡ shown_by flow_text (flow_told x)
-as_flow no_flow_of = refl
-as_flow (flow f next) = refl
+as_flow : (x : Option (AmtService × ℕ)) → flow_element x ≡ shown_by flow_text (flow_told x)
+as_flow None = refl
+as_flow (Some (f, next)) = refl
 
-as_delivery : (x : DeliveryStep) → delivery_element x ≡ shown_by delivery_text (delivery_told x)
-as_delivery no_delivery = refl
-as_delivery (delivery d next) = refl
+as_delivery : (x : Option (IpDelivery × ℕ)) → delivery_element x ≡ shown_by delivery_text (delivery_told x)
+as_delivery None = refl
+as_delivery (Some (d, next)) = refl
 
 module _ (s : List ℕ) where
   as_event : (x : EventStep) → event_element s x ≡ shown_by (λ (d : Described Event). event_text s d.value) (event_told s x)
@@ -87,29 +82,29 @@ module _ (s : List ℕ) where
   as_stream broken_stream = refl
   as_stream (stream e next) = refl
 
-  as_asset : (x : AssetStep) → asset_element s x ≡ shown_by (λ (d : WholeAsset). asset_text s d.asset) (asset_told s x)
-  as_asset no_asset = refl
-  as_asset (asset a next) = refl
+  as_asset : (x : Option (Asset × ℕ)) → asset_element s x ≡ shown_by (λ (d : WholeAsset). asset_text s d.asset) (asset_told s x)
+  as_asset None = refl
+  as_asset (Some (a, next)) = refl
 
 -- the broadcasters of a BIT stand behind its first descriptors
-abbrev Starts : List ℕ → BitResult → Type 0
-Starts s (bit_err e) = Unit {0}
-Starts s (bit_ok h t) = end_of t.descriptors ≡ length12 (part_of s h.body) 0 + 2
+abbrev Starts : List ℕ → Result (SectionHeader × Bit) SectionError → Type 0
+Starts s (Err e) = Unit {0}
+Starts s (Ok (h, t)) = end_of t.descriptors ≡ length12 (part_of s h.body) 0 + 2
 
 starts_body : (s : List ℕ) (h : SectionHeader) → Starts s (bit_body h (part_of s h.body)).result
 unfolding bit_body
 starts_body s h =
     let b = part_of s h.body in
     let n = length12 b 0 + 2 in
-    cond_elim (λ (r : BitParsed). Starts s r.result) (ltb (length b) 2) (λ e. tt) (λ e.
-    cond_elim (λ (r : BitParsed). Starts s r.result) (ltb (length b) n) (λ e1. tt) (λ e1.
+    cond_elim (λ (r : Parsed (SectionHeader × Bit)). Starts s r.result) (ltb (length b) 2) (λ e. tt) (λ e.
+    cond_elim (λ (r : Parsed (SectionHeader × Bit)). Starts s r.result) (ltb (length b) n) (λ e1. tt) (λ e1.
     cond_elim (Starts s) (entries_from b 1 n).whole (λ w. omega arith) (λ w. tt)))
 
-starts_section : (s : List ℕ) (d : LongSection) → Starts s (in_section (λ x. bit_parsed (bit_err x) 0) bit_body s d).result
-starts_section s (bad e) = tt
-starts_section s (good h) = starts_body s h
+starts_section : (s : List ℕ) (d : Result SectionHeader SectionError) → Starts s (in_section (λ x. parsed (Err x) 0) bit_body s d).result
+starts_section s (Err e) = tt
+starts_section s (Ok h) = starts_body s h
 
-starts : (s : List ℕ) (h : SectionHeader) (t : Bit) → (bit_of s).result ≡ bit_ok h t
+starts : (s : List ℕ) (h : SectionHeader) (t : Bit) → (bit_of s).result ≡ Ok (h, t)
     → end_of t.descriptors ≡ length12 (part_of s h.body) 0 + 2
 unfolding bit_of
 starts s h t e = rw e at (starts_section s (long_section_of s))

@@ -1,89 +1,39 @@
 -- The lines of `feeddump`, part by part. Assumes nothing.
-use Rattle.std.proofs.Common.{◌≡◌, ℕ, zero, suc, ◌+◌, ◌-◌, ◌*◌, ◌%◌, ◌<◌, ◌≤◌, Bool, true, false, not, T, List, [], ◌∷◌, length, take, drop, sym, refl, ap, ◌∙◌, true≢false, arith, w64, Fits, le-ltb, lt-ltb, eq-eqb, ne_eqb, le-leb}
+use Rattle.std.proofs.Common.{◌≡◌, ℕ, zero, suc, ◌+◌, ◌-◌, ◌*◌, ◌%◌, ◌<◌, ◌≤◌, Bool, true, false, not, T, List, [], ◌∷◌, take, drop, sym, refl, ap, ◌∙◌, true≢false, arith, le-ltb, lt-ltb, eq-eqb, ne_eqb, le-leb}
+use Rattle.std.specs.Prelude.{Option, Some, None, Result, Ok, Err, unwrap_or}
+use Rattle.isdb_mmt.specs.declared.decoder.refusal.Refusal.{Refusal}
+use Rattle.isdb_mmt.specs.declared.decoder.readings.Held.{Held}
+use Rattle.isdb_mmt.specs.Formats.Maybe.{given}
 use mathlib.Core.Bool.{beq}
 use lib.Ieee.{Float, nan, inf, fin, binary64, to_bits, eq, is_nan, up, down}
 use borrow.Author.Tests.{lt-leb}
 use Rattle.isdb_tlv.proofs.Guards.{either}
 use Rattle.isdb_tlv.specs.Bytes.{be}
-use Rattle.isdb_tlv.specs.Crc.{crc_of}
 use Rattle.isdb_tlv.specs.Fields.{written}
-use Rattle.isdb_tlv.proofs.Fields.{length_written}
 use Rattle.isdb_mmt.specs.Formats.Ntp.{Seconds}
 use Rattle.isdb_mmt.specs.Formats.Part.{part_of}
 use Rattle.isdb_mmt.specs.Memory.Check.{sound}
 use Rattle.isdb_mmt.specs.Memory.Session.{Session, limits_of, used_of, control_place_of}
 use Rattle.isdb_mmt.specs.Memory.Lent.{part, flag, flag_byte, names_from}
 use Rattle.isdb_mmt.specs.Memory.Layout.{most_control_ids, most_message_area, table_ids, control_places, control_size}
-use Rattle.isdb_mmt.specs.Formats.Maybe.{given_u16, number_u16, given_u32, number_u32}
-use Rattle.isdb_mmt.specs.Pushes.Records.{row_size, held_fields}
-use Rattle.isdb_mmt.specs.Answers.Readings.{name_read, most_name, next_media_read, next_control_read, media_read, held_read, asset_read}
-use Rattle.isdb_mmt.specs.Answers.Readings.{counters_read, time_read, count_read, control_read}
-use Rattle.isdb_mmt.specs.declared.maybe.MaybeU32.TheVariants.{None as no_u32}
-use Rattle.isdb_mmt.specs.declared.decoder.records.Answer.{Answer}
+use Rattle.isdb_mmt.specs.Pushes.Records.{held_fields}
+use Rattle.isdb_mmt.specs.Answers.Readings.{name_read, most_name, next_media_read, next_control_read, media_read, held_read, asset_read, counters_read, time_read, control_read}
 use Rattle.isdb_mmt.specs.declared.decoder.counts.Counters.{Counters}
-use Rattle.isdb_mmt.specs.declared.decoder.readings.CountersReading.{CountersReading}
-use Rattle.isdb_mmt.specs.declared.decoder.readings.CountersReading.TheVariants.{Refused as counters_refused, Counters as the_counters}
-use Rattle.isdb_mmt.specs.declared.decoder.readings.TimeReading.{TimeReading}
-use Rattle.isdb_mmt.specs.declared.decoder.readings.TimeReading.TheVariants.{Refused as time_refused, Nothing as no_time, Timestamp}
-use Rattle.isdb_mmt.specs.declared.decoder.readings.CountReading.{CountReading}
-use Rattle.isdb_mmt.specs.declared.decoder.readings.CountReading.TheVariants.{Refused as count_refused, Count}
-use Rattle.isdb_mmt.specs.declared.decoder.readings.NameReading.{NameReading}
-use Rattle.isdb_mmt.specs.declared.decoder.readings.NameReading.TheVariants.{Refused as name_refused, Nothing as no_name_of, Name}
-use Rattle.isdb_mmt.specs.declared.decoder.readings.MpuRange.{MpuRange}
-use Rattle.isdb_mmt.specs.declared.decoder.readings.MaybeRange.{MaybeRange}
-use Rattle.isdb_mmt.specs.declared.decoder.readings.MaybeRange.TheVariants.{None as no_range, Some as some_range}
 use Rattle.isdb_mmt.specs.declared.decoder.readings.MediaState.{MediaState}
-use Rattle.isdb_mmt.specs.declared.decoder.readings.MediaReading.{MediaReading}
-use Rattle.isdb_mmt.specs.declared.decoder.readings.MediaReading.TheVariants.{Refused as media_refused, Nothing as no_media}
-use Rattle.isdb_mmt.specs.declared.decoder.readings.MediaReading.TheVariants.{Media as the_media}
 use Rattle.isdb_mmt.specs.declared.decoder.readings.HeldObject.{HeldObject}
-use Rattle.isdb_mmt.specs.declared.decoder.readings.HeldReading.{HeldReading}
-use Rattle.isdb_mmt.specs.declared.decoder.readings.HeldReading.TheVariants.{Refused as held_refused, NoId, Nothing as no_object}
-use Rattle.isdb_mmt.specs.declared.decoder.readings.HeldReading.TheVariants.{Object as the_object}
 use Rattle.isdb_mmt.specs.declared.decoder.readings.CarriedAsset.{CarriedAsset}
-use Rattle.isdb_mmt.specs.declared.decoder.readings.AssetReading.{AssetReading}
-use Rattle.isdb_mmt.specs.declared.decoder.readings.AssetReading.TheVariants.{Refused as asset_refused, Nothing as no_asset}
-use Rattle.isdb_mmt.specs.declared.decoder.readings.AssetReading.TheVariants.{Asset as the_asset}
 use Rattle.isdb_mmt.specs.declared.decoder.readings.ControlState.{ControlState}
-use Rattle.isdb_mmt.specs.declared.decoder.readings.ControlReading.{ControlReading}
-use Rattle.isdb_mmt.specs.declared.decoder.readings.ControlReading.TheVariants.{Refused as control_refused, Nothing as no_control}
-use Rattle.isdb_mmt.specs.declared.decoder.readings.ControlReading.TheVariants.{Control as the_control}
 use Rattle.isdb_text.specs.Text.{Wrote, ascii, bytes_as_hex}
 use Rattle.isdb_text.specs.Fill.{filled}
-use Rattle.isdb_text.specs.DumpSession.{data_text, record_text, packet_line, mfu_line, feed_counters, table_counters, message_counters}
-use Rattle.isdb_text.specs.DumpSession.{counter_lines}
-use Rattle.isdb_text.specs.DumpSession.{unix_bits, ntp_line, stats_line, range_line, state_lines, media_lines}
-use Rattle.isdb_text.specs.DumpSession.{object_line, held_line, carried_line, asset_line, media_text}
-use Rattle.isdb_text.specs.DumpSession.{text_and_above, ascending_text, all_media, other_line, other_text, other_last, other_lines}
-use Rattle.isdb_text.specs.DumpSession.{feed_lines, session_lines}
-use Rattle.isdb_text.specs.DumpSession.{control_line, index_from, control_index, joined_line, message_line, control_text, all_controls}
-use Rattle.isdb_mmt.proofs.Limits.{areas_fit}
+use Rattle.isdb_text.specs.DumpSession.{data_text, record_text, mfu_line, feed_counters, table_counters, message_counters, counter_lines, unix_bits, ntp_line, stats_line, range_line, state_lines, media_lines, object_line, held_line, carried_line, asset_line, media_text, text_and_above, ascending_text, all_media, other_text, other_last, other_lines, feed_lines, session_lines, control_line, index_from, control_index, joined_line, message_line, control_text, all_controls}
 use Rattle.isdb_mmt.proofs.Names.{next as next_name, end as no_name}
 use Rattle.isdb_text.proofs.Written.{wrote_append, Left, left_less, left_none}
 use Rattle.isdb_text.proofs.Lists.{none_between}
+use Rattle.isdb_mmt.specs.Formats.Maybe.{given}
 
 -- ---- a packet
 
 module _ {l m : List ℕ} {at q : ℕ} where
-  module _ (number kind n : ℕ) (a : Answer) where
-    pub wrote_taken : a.number ≡ 0
-        → Wrote l at
-        (filled (ascii "packet # kind %% length # records # bytes #\n") (number ∷ kind ∷ n ∷ a.records ∷ a.bytes ∷ [])) m q
-        → Wrote l at (packet_line number kind n a) m q
-    unfolding packet_line
-    wrote_taken e w = rw (eq-eqb _ _ e) w
-
-    pub wrote_turned_down : (a.number ≡ 0 → ⊥)
-        → Wrote l at (filled (ascii "packet # kind %% length # refused #\n") (number ∷ kind ∷ n ∷ a.number ∷ [])) m q
-        → Wrote l at (packet_line number kind n a) m q
-    unfolding packet_line
-    wrote_turned_down e w = rw (ne_eqb _ _ e) w
-
-  pub wrote_data : (b : List ℕ) (k : ℕ) → k ≡ crc_of b → Wrote l at (filled (ascii " # %%%%%%%%\n") (length b ∷ k ∷ [])) m q
-      → Wrote l at (data_text b) m q
-  unfolding data_text
-  wrote_data b k e w = rw (← e) w
-
   module _ {k : List ℕ} {p : ℕ} where
     pub wrote_record : (row b : List ℕ) → Wrote l at (bytes_as_hex row) k p → Wrote k p (data_text b) m q → Wrote l at (record_text row b) m q
     unfolding record_text
@@ -97,24 +47,10 @@ module _ {l m : List ℕ} {at q : ℕ} where
 -- ---- the feed
 
 module _ {l m : List ℕ} {at q : ℕ} where
-  module _ (r : CountersReading) where
-    pub wrote_counters : {j k : List ℕ} {o p : ℕ} (c : Counters) → r ≡ the_counters c → Wrote l at (feed_counters c) j o
+  module _ (r : Result Counters Refusal) where
+    pub wrote_counters : {j k : List ℕ} {o p : ℕ} (c : Counters) → r ≡ Ok c → Wrote l at (feed_counters c) j o
         → Wrote j o (table_counters c) k p → Wrote k p (message_counters c) m q → Wrote l at (counter_lines r) m q
     wrote_counters c e u v w = rw e (wrote_append u (wrote_append v w))
-
-    pub wrote_no_counters : (n : ℕ) → r ≡ counters_refused n → Wrote l at [] m q → Wrote l at (counter_lines r) m q
-    wrote_no_counters n e w = rw e w
-
-  module _ (r : TimeReading) where
-    pub wrote_time : (t b : ℕ) → r ≡ Timestamp t → b ≡ unix_bits t
-        → Wrote l at (filled (ascii "ntp %%%%%%%%%%%%%%%% unix_bits %%%%%%%%%%%%%%%%\n") (t ∷ b ∷ [])) m q → Wrote l at (ntp_line r) m q
-    wrote_time t b e d w = rw (e, ← d) w
-
-    pub wrote_no_time : r ≡ no_time → Wrote l at (ascii "ntp none\n") m q → Wrote l at (ntp_line r) m q
-    wrote_no_time e w = rw e w
-
-    pub wrote_refused_time : (n : ℕ) → r ≡ time_refused n → Wrote l at [] m q → Wrote l at (ntp_line r) m q
-    wrote_refused_time n e w = rw e w
 
 pub not_nan : (x : Float) → eq x x ≡ true → T (not (is_nan x))
 unfolding eq is_nan
@@ -147,34 +83,12 @@ bits_of_none t x s e = sym (nan_bits x e) ∙ bits_known t x s
 
 -- ---- a media id
 
-pub row_long : (id : ℕ) (o : HeldObject) (row : List ℕ) → row ≡ written (held_fields id o) → length row ≡ row_size
-row_long id o row e = ap length e ∙ length_written (held_fields id o)
-
 module _ {l m : List ℕ} {at q : ℕ} (id : ℕ) where
-  module _ (r : MaybeRange) where
-    pub wrote_no_range : r ≡ no_range → Wrote l at (filled (ascii "media # mpu_range none\n") (id ∷ [])) m q
-        → Wrote l at (range_line id r) m q
-    wrote_no_range e w = rw e w
-
-    pub wrote_range : (x : MpuRange) → r ≡ some_range x
-        → Wrote l at (filled (ascii "media # mpu_range # #\n") (id ∷ x.first ∷ x.last ∷ [])) m q → Wrote l at (range_line id r) m q
-    wrote_range x e w = rw e w
-
-  pub wrote_state : {j k : List ℕ} {o p : ℕ} (x : MediaState) (g n : ℕ) → g ≡ given_u32 x.sequence → n ≡ number_u32 x.sequence
+  pub wrote_state : {j k : List ℕ} {o p : ℕ} (x : MediaState) (g n : ℕ) → g ≡ given x.sequence → n ≡ unwrap_or x.sequence 0
       → Wrote l at (stats_line id x.stats) j o → Wrote j o (range_line id x.mpu_range) k p
       → Wrote k p (filled (ascii "media # last_sequence ?\n") (id ∷ g ∷ n ∷ [])) m q → Wrote l at (state_lines id x) m q
   unfolding state_lines
   wrote_state x g n eg en u v w = wrote_append u (wrote_append v (rw (← eg, ← en) w))
-
-  module _ (r : MediaReading) where
-    pub wrote_media : (x : MediaState) → r ≡ the_media x → Wrote l at (state_lines id x) m q → Wrote l at (media_lines id r) m q
-    wrote_media x e w = rw e w
-
-    pub wrote_no_media : r ≡ no_media → Wrote l at [] m q → Wrote l at (media_lines id r) m q
-    wrote_no_media e w = rw e w
-
-    pub wrote_refused_media : (n : ℕ) → r ≡ media_refused n → Wrote l at [] m q → Wrote l at (media_lines id r) m q
-    wrote_refused_media n e w = rw e w
 
   pub wrote_object : {k : List ℕ} {p : ℕ} (o : HeldObject) (objects row b : List ℕ) → row ≡ written (held_fields id o)
       → b ≡ part_of objects o.bytes → Wrote l at (filled (ascii "media # held ") (id ∷ [])) k p → Wrote k p (record_text row b) m q
@@ -182,41 +96,15 @@ module _ {l m : List ℕ} {at q : ℕ} (id : ℕ) where
   unfolding object_line
   wrote_object o objects row b er eb v w = wrote_append v (rw (← er, ← eb) w)
 
-  module _ (r : HeldReading) (objects : List ℕ) where
-    pub wrote_held : (o : HeldObject) → r ≡ the_object o → Wrote l at (object_line id o objects) m q → Wrote l at (held_line id r objects) m q
-    wrote_held o e w = rw e w
-
-    pub wrote_nothing_held : r ≡ no_object → Wrote l at (filled (ascii "media # held none\n") (id ∷ [])) m q
-        → Wrote l at (held_line id r objects) m q
-    wrote_nothing_held e w = rw e w
-
-    pub wrote_no_id : r ≡ NoId → Wrote l at [] m q → Wrote l at (held_line id r objects) m q
-    wrote_no_id e w = rw e w
-
-    pub wrote_refused_held : (n : ℕ) → r ≡ held_refused n → Wrote l at [] m q → Wrote l at (held_line id r objects) m q
-    wrote_refused_held n e w = rw e w
-
-  pub wrote_carried : {j k : List ℕ} {o p : ℕ} (a : CarriedAsset) (tables t b : List ℕ) (g n : ℕ) → g ≡ given_u16 a.service_id
-      → n ≡ number_u16 a.service_id
+  pub wrote_carried : {j k : List ℕ} {o p : ℕ} (a : CarriedAsset) (tables t b : List ℕ) (g n : ℕ) → g ≡ given a.service_id
+      → n ≡ unwrap_or a.service_id 0
       → Wrote l at (filled (ascii "media # asset_of service ? type %%%%%%%% id ") (id ∷ g ∷ n ∷ a.asset.asset_type ∷ [])) j o
       → t ≡ part_of tables a.mpt → b ≡ part_of t a.asset.asset_id → Wrote j o (bytes_as_hex b) k p → Wrote k p (10 ∷ []) m q
       → Wrote l at (carried_line id a tables) m q
   unfolding carried_line
   wrote_carried a tables t b g n eg en u et eb v w = rw (← eg, ← en, ← et, ← eb) (wrote_append u (wrote_append v w))
 
-  module _ (r : AssetReading) (tables : List ℕ) where
-    pub wrote_asset : (a : CarriedAsset) → r ≡ the_asset a → Wrote l at (carried_line id a tables) m q
-        → Wrote l at (asset_line id r tables) m q
-    wrote_asset a e w = rw e w
-
-    pub wrote_no_asset : r ≡ no_asset → Wrote l at (filled (ascii "media # asset_of none\n") (id ∷ [])) m q
-        → Wrote l at (asset_line id r tables) m q
-    wrote_no_asset e w = rw e w
-
-    pub wrote_refused_asset : (n : ℕ) → r ≡ asset_refused n → Wrote l at [] m q → Wrote l at (asset_line id r tables) m q
-    wrote_refused_asset n e w = rw e w
-
-  pub wrote_media_text : {j k : List ℕ} {o p : ℕ} (s : Session) (x : MediaReading) (h : HeldReading) (a : AssetReading) (c : ℕ)
+  pub wrote_media_text : {j k : List ℕ} {o p : ℕ} (s : Session) (x : Result (Option MediaState) Refusal) (h : Result Held Refusal) (a : Result (Option CarriedAsset) Refusal) (c : ℕ)
       → x ≡ media_read s id → h ≡ held_read s id → c ≡ id % 65536 → a ≡ asset_read s c → Wrote l at (media_lines id x) j o
       → Wrote j o (held_line id h s.objects) k p → Wrote k p (asset_line id a s.tables) m q → Wrote l at (media_text s id) m q
   unfolding media_text
@@ -225,28 +113,28 @@ module _ {l m : List ℕ} {at q : ℕ} (id : ℕ) where
 
 -- ---- ids in ascending order
 
-no_text : (next : ℕ → NameReading) (text : ℕ → List ℕ) (a : ℕ) → ((above : ℕ → List ℕ) → text_and_above text above (next a) ≡ []) → (k : ℕ)
+no_text : (next : ℕ → Result (Option ℕ) Refusal) (text : ℕ → List ℕ) (a : ℕ) → ((above : ℕ → List ℕ) → text_and_above text above (next a) ≡ []) → (k : ℕ)
     → ascending_text k next text a ≡ []
 unfolding ascending_text
 no_text next text a h zero = refl
 no_text next text a h (suc k) = h (ascending_text k next text)
 
-module _ {l : List ℕ} {at : ℕ} {whole m : List ℕ} {p : ℕ} (next : ℕ → NameReading) (text : ℕ → List ℕ) (left a : ℕ)
+module _ {l : List ℕ} {at : ℕ} {whole m : List ℕ} {p : ℕ} (next : ℕ → Result (Option ℕ) Refusal) (text : ℕ → List ℕ) (left a : ℕ)
     (f : Left l at whole m p (ascending_text left next text a)) where
-  pub ascending_turn : (n : NameReading) → n ≡ next a → (id : ℕ) → n ≡ Name id → 0 < left → {m' : List ℕ} {q : ℕ}
+  pub ascending_turn : (n : Result (Option ℕ) Refusal) → n ≡ next a → (o : Option ℕ) → n ≡ Ok o → (id : ℕ) → o ≡ Some id → 0 < left → {m' : List ℕ} {q : ℕ}
       → Wrote m p (text id) m' q → Left l at whole m' q (ascending_text (left - 1) next text (id + 1))
   unfolding ascending_text
-  ascending_turn n e id d h w =
+  ascending_turn n e o d id y h w =
       let g : left ≡ suc (left - 1) = omega arith in
-      left_less f (ap (λ (k : ℕ). ascending_text k next text a) g ∙ rw (← e, d) refl) w
+      left_less f (ap (λ (k : ℕ). ascending_text k next text a) g ∙ rw (← e, d, y) refl) w
 
   no_next : ((above : ℕ → List ℕ) → text_and_above text above (next a) ≡ []) → ascending_text left next text a ≡ []
   no_next h = no_text next text a h left
 
-  pub ascending_none : (n : NameReading) → n ≡ next a → n ≡ no_name_of → Wrote l at whole m p
-  ascending_none n e d = left_none f (no_next (λ above. rw (← e, d)))
+  pub ascending_none : (n : Result (Option ℕ) Refusal) → n ≡ next a → (o : Option ℕ) → n ≡ Ok o → o ≡ None → Wrote l at whole m p
+  ascending_none n e o d y = left_none f (no_next (λ above. rw (← e, d, y)))
 
-  pub ascending_refused : (n : NameReading) → n ≡ next a → (k : ℕ) → n ≡ name_refused k → Wrote l at whole m p
+  pub ascending_refused : (n : Result (Option ℕ) Refusal) → n ≡ next a → (k : Refusal) → n ≡ Err k → Wrote l at whole m p
   ascending_refused n e k d = left_none f (no_next (λ above. rw (← e, d)))
 
   pub ascending_above : ((above : ℕ → List ℕ) → text_and_above text above (next a) ≡ []) → Wrote l at whole m p
@@ -258,7 +146,7 @@ module _ {l : List ℕ} {at : ℕ} {whole m : List ℕ} {p : ℕ} (next : ℕ �
 
 module _ (s : Session) (text above : ℕ → List ℕ) (a : ℕ) (h : most_name < a) where
   none_above : (names : List ℕ) → text_and_above text above (name_read s names a most_name) ≡ []
-  none_above names = either (sound s) (λ t. rw (t, none_between names no_u32 a most_name h)) (λ f. rw f)
+  none_above names = either (sound s) (λ t. rw (t, none_between names None a most_name h)) (λ f. rw f)
 
   pub no_media_above : text_and_above text above (next_media_read s a) ≡ []
   unfolding next_media_read
@@ -269,30 +157,19 @@ module _ (s : Session) (text above : ℕ → List ℕ) (a : ℕ) (h : most_name 
   no_control_above = none_above _
 
 module _ {l : List ℕ} {at : ℕ} {whole m : List ℕ} {p : ℕ} (s : Session) (text : ℕ → List ℕ) (left a : ℕ) where
-  pub media_most : Left l at whole m p (ascending_text left (next_media_read s) text a) → (n : NameReading) → n ≡ next_media_read s a
-      → (id : ℕ) → n ≡ Name id → 0 < left → {m' : List ℕ} {q : ℕ} → Wrote m p (text id) m' q → id ≡ 4294967295 → Wrote l at whole m' q
-  media_most f n e id d h w b =
-      ascending_above _ _ _ _ (ascending_turn _ _ _ _ f n e id d h w) (λ above. no_media_above s text above (id + 1) (omega arith))
+  pub media_most : Left l at whole m p (ascending_text left (next_media_read s) text a) → (n : Result (Option ℕ) Refusal) → n ≡ next_media_read s a
+      → (o : Option ℕ) → n ≡ Ok o → (id : ℕ) → o ≡ Some id → 0 < left → {m' : List ℕ} {q : ℕ} → Wrote m p (text id) m' q → id ≡ 4294967295 → Wrote l at whole m' q
+  media_most f n e o d id y h w b =
+      ascending_above _ _ _ _ (ascending_turn _ _ _ _ f n e o d id y h w) (λ above. no_media_above s text above (id + 1) (omega arith))
 
-  pub control_most : Left l at whole m p (ascending_text left (next_control_read s) text a) → (n : NameReading) → n ≡ next_control_read s a
-      → (id : ℕ) → n ≡ Name id → 0 < left → {m' : List ℕ} {q : ℕ} → Wrote m p (text id) m' q → id ≡ 4294967295 → Wrote l at whole m' q
-  control_most f n e id d h w b =
-      ascending_above _ _ _ _ (ascending_turn _ _ _ _ f n e id d h w) (λ above. no_control_above s text above (id + 1) (omega arith))
+  pub control_most : Left l at whole m p (ascending_text left (next_control_read s) text a) → (n : Result (Option ℕ) Refusal) → n ≡ next_control_read s a
+      → (o : Option ℕ) → n ≡ Ok o → (id : ℕ) → o ≡ Some id → 0 < left → {m' : List ℕ} {q : ℕ} → Wrote m p (text id) m' q → id ≡ 4294967295 → Wrote l at whole m' q
+  control_most f n e o d id y h w b =
+      ascending_above _ _ _ _ (ascending_turn _ _ _ _ f n e o d id y h w) (λ above. no_control_above s text above (id + 1) (omega arith))
 
 -- ---- a control id
 
 module _ {l m : List ℕ} {at q : ℕ} (id : ℕ) where
-  module _ (r : ControlReading) where
-    pub wrote_control : (c : ControlState) (g n : ℕ) → r ≡ the_control c → g ≡ given_u32 c.sequence → n ≡ number_u32 c.sequence
-        → Wrote l at (filled (ascii "control # last_sequence ?\n") (id ∷ g ∷ n ∷ [])) m q → Wrote l at (control_line id r) m q
-    wrote_control c g n e eg en w = rw (e, ← eg, ← en) w
-
-    pub wrote_no_control : r ≡ no_control → Wrote l at [] m q → Wrote l at (control_line id r) m q
-    wrote_no_control e w = rw e w
-
-    pub wrote_refused_control : (n : ℕ) → r ≡ control_refused n → Wrote l at [] m q → Wrote l at (control_line id r) m q
-    wrote_refused_control n e w = rw e w
-
   module _ (place area : List ℕ) (j : Bool) (ej : j ≡ flag place 9) where
     pub wrote_none_joined : j ≡ false → Wrote l at (filled (ascii "control # held none\n") (id ∷ [])) m q
         → Wrote l at (joined_line id place area) m q
@@ -324,14 +201,11 @@ module _ {l m : List ℕ} {at q : ℕ} (id : ℕ) where
       unfolding message_line limits_of
       wrote_message g b place area eb ep er w = rw (lt-leb _ _ h, ← ea, le-ltb _ _ g, ← eb, ← ep, ← er) w
 
-  pub wrote_control_text : {k : List ℕ} {p : ℕ} (s : Session) (c : ControlReading) (i : ℕ) → c ≡ control_read s id
+  pub wrote_control_text : {k : List ℕ} {p : ℕ} (s : Session) (c : Result (Option ControlState) Refusal) (i : ℕ) → c ≡ control_read s id
       → i ≡ control_index s.state id → Wrote l at (control_line id c) k p → Wrote k p (message_line id i s.state s.messages) m q
       → Wrote l at (control_text s id) m q
   unfolding control_text
   wrote_control_text s c i ec ei v w = rw (← ec, ← ei) (wrote_append v w)
-
-pub area_fits : (i a : ℕ) → (i < most_control_ids) × (a ≤ most_message_area) → Fits w64 (i * a)
-area_fits i a h = areas_fit i a (omega (arith, h.0)) (omega (arith, h.1))
 
 -- the index of its place, turn by turn
 pub index_start : (state : List ℕ) (id n : ℕ) → n ≡ be 4 state 61
@@ -339,37 +213,24 @@ pub index_start : (state : List ℕ) (id n : ℕ) → n ≡ be 4 state 61
 unfolding control_index used_of
 index_start state id n e = let z : n - 0 ≡ n = omega arith in rw (z, e) refl
 
-module _ (state : List ℕ) (id n i p : ℕ) (y : ℕ) (inv : y ≡ index_from i (names_from (n - i) control_size p state) id) where
-  pub index_hit : i < n → (v : ℕ) → v ≡ be 4 state p → v ≡ id → i ≡ y
+module _ (state : List ℕ) (id n i : ℕ) (y : ℕ)
+    (inv : y ≡ index_from i (names_from (n - i) control_size (control_places + control_size * i) state) id) where
+  pub index_hit : i < n → (v : ℕ) → v ≡ be 4 state (control_places + control_size * i) → v ≡ id → i ≡ y
   unfolding index_from
-  index_hit h v d e = sym (inv ∙ rw (next_name state control_size n i p h) (rw (eq-eqb _ _ (sym d ∙ e))))
+  index_hit h v d e = sym (inv ∙ rw (next_name state control_size n i (control_places + control_size * i) h) (rw (eq-eqb _ _ (sym d ∙ e))))
 
-  pub index_miss : i < n → (v : ℕ) → v ≡ be 4 state p → (v ≡ id → ⊥)
-      → y ≡ index_from (i + 1) (names_from (n - (i + 1)) control_size (p + control_size) state) id
+  pub index_miss : i < n → (v : ℕ) → v ≡ be 4 state (control_places + control_size * i) → (v ≡ id → ⊥)
+      → y ≡ index_from (i + 1) (names_from (n - (i + 1)) control_size (control_places + control_size * (i + 1)) state) id
   unfolding index_from
-  index_miss h v d e = inv ∙ rw (next_name state control_size n i p h) (rw (ne_eqb _ _ (λ z. e (d ∙ z))))
+  index_miss h v d e =
+      let g : control_places + control_size * (i + 1) ≡ control_places + control_size * i + control_size = omega arith in
+      inv ∙ rw (next_name state control_size n i (control_places + control_size * i) h) (rw (ne_eqb _ _ (λ z. e (d ∙ z)), g))
 
   pub index_end : n ≤ i → i ≡ y
   unfolding index_from
-  index_end h = sym (inv ∙ rw (no_name state control_size n i p h))
+  index_end h = sym (inv ∙ rw (no_name state control_size n i (control_places + control_size * i) h))
 
 -- ---- tables that are not decoded
-
-module _ {l m : List ℕ} {at q : ℕ} (id : ℕ) (r : CountReading) where
-  pub wrote_none_counted : (n : ℕ) → r ≡ Count n → n ≡ 0 → Wrote l at [] m q → Wrote l at (other_line id r) m q
-  wrote_none_counted n e z w = rw (e, eq-eqb n 0 z) w
-
-  pub wrote_counted : (n : ℕ) → r ≡ Count n → (n ≡ 0 → ⊥) → Wrote l at (filled (ascii "other 0x%% #\n") (id ∷ n ∷ [])) m q
-      → Wrote l at (other_line id r) m q
-  wrote_counted n e z w = rw (e, ne_eqb n 0 z) w
-
-  pub wrote_refused_count : (n : ℕ) → r ≡ count_refused n → Wrote l at [] m q → Wrote l at (other_line id r) m q
-  wrote_refused_count n e w = rw e w
-
-pub wrote_other : {l m : List ℕ} {at q : ℕ} (s : Session) (id : ℕ) (r : CountReading) → r ≡ count_read s id → Wrote l at (other_line id r) m q
-    → Wrote l at (other_text s id) m q
-unfolding other_text
-wrote_other s id r e w = rw (← e) w
 
 module _ {l : List ℕ} {at : ℕ} {whole m : List ℕ} {p : ℕ} (s : Session) (id : ℕ)
     (f : Left l at whole m p (other_last (table_ids - id) s)) where
@@ -387,7 +248,7 @@ module _ {l : List ℕ} {at : ℕ} {whole m : List ℕ} {p : ℕ} (s : Session) 
 
 -- ---- the whole
 
-pub wrote_feed : {l k m : List ℕ} {at p q : ℕ} (s : Session) (n : CountersReading) (t : TimeReading) → n ≡ counters_read s
+pub wrote_feed : {l k m : List ℕ} {at p q : ℕ} (s : Session) (n : Result Counters Refusal) (t : Result (Option ℕ) Refusal) → n ≡ counters_read s
     → t ≡ time_read s → Wrote l at (counter_lines n) k p → Wrote k p (ntp_line t) m q → Wrote l at (feed_lines s) m q
 unfolding feed_lines
 wrote_feed s n t en et v w = rw (← en, ← et) (wrote_append v w)

@@ -10,6 +10,5 @@ pub mod Elements
 pub mod DumpWhole
 pub mod Lists
 pub mod Dumped
-pub mod PacketLines
 pub mod PacketWalk
 pub mod PacketsTold

@@ -2,7 +2,7 @@
 use Rattle.std.proofs.Common.{◌≡◌, ℕ, zero, suc, ◌+◌, ◌-◌, ◌*◌, ◌/◌, ◌%◌, ◌^◌, ◌<◌, ◌≤◌, ltb, List, [], ◌∷◌, ◌++◌, length, get_or, drop, refl, ap, ◌∙◌, pow-suc, add-one, arith, drop_of_length-le, drop-cons, ltb-false, le-ltb, lt-ltb}
 use native.Mathlib.Nat.{pow-le-pow_right, div-eq_of_lt}
 use Rattle.isdb_tlv.proofs.Guards.{either}
-use Rattle.isdb_text.specs.Text.{Wrote, digit, decimal_in, decimal_of, hex_digit, hex_of, pairs_of, bytes_as_hex}
+use Rattle.isdb_text.specs.Text.{Wrote, digit, decimal_in, decimal_of, hex_digit, hex_of, pairs_of}
 use Rattle.isdb_text.proofs.Written.{wrote_append, Left, left_less, left_none}
 
 -- how many steps are allowed makes no difference, once they suffice
@@ -89,12 +89,3 @@ module _ {l : List ℕ} {at : ℕ} {whole m : List ℕ} {p : ℕ} where
   pub pairs_end : (s : List ℕ) (i : ℕ) → Left l at whole m p (pairs_of (drop i s)) → length s ≤ i → Wrote l at whole m p
   unfolding pairs_of
   pairs_end s i f h = left_none f (rw (drop_none s i h))
-
-module _ {l m : List ℕ} {at r : ℕ} (s : List ℕ) where
-  pub hex_none : length s < 1 → Wrote l at (45 ∷ []) m r → Wrote l at (bytes_as_hex s) m r
-  unfolding bytes_as_hex
-  hex_none h w = rw (lt-ltb (length s) 1 h) w
-
-  pub hex_some : 1 ≤ length s → Wrote l at (pairs_of s) m r → Wrote l at (bytes_as_hex s) m r
-  unfolding bytes_as_hex
-  hex_some h w = rw (le-ltb (length s) 1 h) w

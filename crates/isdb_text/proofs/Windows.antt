@@ -1,44 +1,37 @@
--- Bytes moved to the front of a window, one after the other. Assumes nothing.
-use Rattle.std.proofs.Common.{◌≡◌, ℕ, suc, ◌+◌, ◌-◌, ◌<◌, ◌≤◌, List, [], ◌∷◌, ◌++◌, length, get_or, take, drop, set, sym, refl, ◌∙◌, zero-add, arith, length-drop, length-take-le, get_or-drop, take_all, get_or-set_other, take-suc}
-use lib.Seq.{sets}
+-- Bytes moved to the front of a window. Assumes nothing.
+use Rattle.std.proofs.Common.{◌≡◌, ℕ, ◌-◌, ◌≤◌, leb, min, List, [], length, take, drop, sym, refl, ◌∙◌, arith, length-drop, length-take-le, take_all, drop_of_length-le, leb-false, leb-true}
+use Rattle.std.specs.List.{copy_within}
+use Rattle.std.proofs.lemmas.List.Edits.{sets-eq}
+use Rattle.isdb_tlv.proofs.Guards.{either}
 use Rattle.isdb_text.specs.Text.{Wrote}
 use Rattle.isdb_text.specs.Window.{left_of}
-use Rattle.isdb_text.proofs.Written.{sets_append}
 
--- so many are moved
-abbrev pub moved : List ℕ → ℕ → ℕ → List ℕ
-moved w at i = sets w 0 (take i (drop at w))
+none : (n : ℕ) (s : List ℕ) → s ≡ [] → take n s ≡ []
+none n s e = rw e (take_all n [] (omega arith))
 
--- behind what is stored
-sets_behind : (l s : List ℕ) (at j : ℕ) → at + length s ≤ j → get_or (sets l at s) j 0 ≡ get_or l j 0
-sets_behind l [] at j h = refl
-sets_behind l (a ∷ s) at j h =
-    sets_behind (set l at a) s (suc at) j (omega arith) ∙ get_or-set_other l at j a 0 (λ e. absurd (omega (arith, e)))
-
-module _ (w : List ℕ) (at i j : ℕ) (p : j ≡ at + i) (m : List ℕ) (e : m ≡ moved w at i) where
-  pub moved_turn : length m ≡ length w → j < length m → set m i (get_or m j 0) ≡ moved w at (i + 1)
-  moved_turn o h =
+-- `e` is where the window's bytes end at most, and `a` where what is moved begins
+module _ (w : List ℕ) (at end e a : ℕ) (p : e ≡ min end (length w)) (q : a ≡ min at e) where
+  within : at ≤ e → take (end - at) (drop at w) ≡ take (e - a) (drop a w)
+  within h =
+      let b : a ≡ at = omega (arith, q) in
       let n : length (drop at w) ≡ length w - at = length-drop at w in
-      let k : length (take i (drop at w)) ≡ i = length-take-le i (drop at w) (omega arith) in
-      let b : get_or (moved w at i) j 0 ≡ get_or w j 0 = sets_behind w (take i (drop at w)) 0 j (omega arith) in
-      let x : get_or m j 0 ≡ get_or (drop at w) i 0 = rw (e, b, p) (sym (get_or-drop at w i 0)) in
-      let t : take (suc i) (drop at w) ≡ take i (drop at w) ++ (get_or (drop at w) i 0 ∷ []) = take-suc (drop at w) i 0 (omega arith) in
-      let u : i + 1 ≡ suc i = omega arith in
-      rw (x, e, u, t, sets_append w 0 (take i (drop at w)) (get_or (drop at w) i 0 ∷ []), k, zero-add i) refl
+      either (leb end (length w))
+      (λ t. let g : e ≡ end = omega (arith, p, leb-true _ _ t) in rw (b, g) refl)
+      (λ f. let g : e ≡ length w = omega (arith, p, leb-false _ _ f) in
+      rw (b, g) (take_all (end - at) (drop at w) (omega (arith, leb-false _ _ f)) ∙ sym (take_all (length w - at) (drop at w) (omega arith))))
 
-  module _ (end : ℕ) (f : i ≤ end - at) (g : i ≤ length w - at) where
-    count : length (take i (drop at w)) ≡ i
-    count = length-take-le i (drop at w) (rw (length-drop at w) g)
+  nothing : e ≤ at → take (end - at) (drop at w) ≡ take (e - a) (drop a w)
+  nothing h =
+      let z : e - a ≡ 0 = omega (arith, q) in
+      either (leb end (length w))
+      (λ t. let y : end - at ≡ 0 = omega (arith, p, leb-true _ _ t) in rw (z, y) refl)
+      (λ f. rw z (none (end - at) (drop at w) (drop_of_length-le w {i = at} (omega (arith, p, leb-false _ _ f)))))
 
-    all : left_of w at end ≡ take i (drop at w) → Wrote w 0 (left_of w at end) m i
-    all t = rw t (record { bytes = e; place = rw count (omega arith) })
-
-    pub moved_all : end ≤ j → Wrote w 0 (left_of w at end) m i
-    unfolding left_of
-    moved_all h = let u : end - at ≡ i = omega arith in all (rw u refl)
-
-    pub moved_within : length m ≡ length w → length m ≤ j → Wrote w 0 (left_of w at end) m i
-    unfolding left_of
-    moved_within o h =
-        let n : length (drop at w) ≡ length w - at = length-drop at w in
-        all (take_all (end - at) (drop at w) (omega arith) ∙ sym (take_all i (drop at w) (omega arith)))
+  -- what is left of the window is what is moved
+  pub moved : (m : List ℕ) → m ≡ copy_within w a e 0 → Wrote w 0 (left_of w at end) m (e - a)
+  unfolding left_of
+  moved m h =
+      let t : take (end - at) (drop at w) ≡ take (e - a) (drop a w) =
+      either (leb at e) (λ h. within (leb-true _ _ h)) (λ h. nothing (omega (arith, leb-false _ _ h))) in
+      let n : length (take (e - a) (drop a w)) ≡ e - a = length-take-le (e - a) (drop a w) (rw (length-drop a w) (omega (arith, p, q))) in
+      rw t (record { bytes = h ∙ rw (sets-eq (take (e - a) (drop a w)) w 0 (omega (arith, n, p)), n) refl; place = omega (arith, n, p) })

@@ -16,10 +16,6 @@ sets_append l at (a ∷ s) t =
     let e : at + suc (length s) ≡ suc at + length s = omega arith in
     rw e (sets_append (set l at a) (suc at) s t)
 
--- a byte where none fits
-pub wrote_beyond : {l : List ℕ} {at : ℕ} (a : ℕ) → length l ≤ at → Wrote l at (a ∷ []) l (length l + 1)
-wrote_beyond {l} {at} a h = record { bytes = sym (sets_beyond l at (a ∷ []) h); place = omega arith }
-
 module _ {a b c s t : List ℕ} {i j k : ℕ} where
   -- one text behind another is both as one
   pub wrote_append : Wrote a i s b j → Wrote b j t c k → Wrote a i (s ++ t) c k

@@ -1,5 +1,5 @@
 -- Locations and descriptors as `feeddump` writes them.
-use Rattle.std.specs.Prelude.{ℕ, ◌+◌, ◌*◌, Bool, List, [], ◌∷◌, ◌++◌, length, drop}
+use Rattle.std.specs.Prelude.{ℕ, ◌+◌, ◌*◌, Bool, List, [], ◌∷◌, ◌++◌, length, drop, None, Option, Some}
 use Rattle.isdb_tlv.specs.Guards.{◌<?◌, ◌≤?◌, ◌=?◌}
 use Rattle.std.specs.Prelude.{if◌then◌else◌}
 use Rattle.isdb_tlv.specs.declared.ip.Address.{Address}
@@ -9,24 +9,14 @@ use Rattle.isdb_mmt.specs.Formats.Desc.{step_at, descriptor_of, service_at, genr
 use Rattle.isdb_mmt.specs.Formats.Timestamp.{timestamp_at, mpu_at, unit_step}
 use Rattle.isdb_mmt.specs.Formats.Nit.{tlv_step_at, frequency_of}
 use Rattle.isdb_mmt.specs.declared.part.Part.{Part}
-use Rattle.isdb_mmt.specs.declared.maybe.MaybeU16.{MaybeU16}
-use Rattle.isdb_mmt.specs.declared.maybe.MaybeU16.TheVariants.{None as no_u16, Some as some_u16}
-use Rattle.isdb_mmt.specs.declared.maybe.MaybeU32.{MaybeU32}
-use Rattle.isdb_mmt.specs.declared.maybe.MaybeU32.TheVariants.{None as no_u32, Some as some_u32}
-use Rattle.isdb_mmt.specs.declared.maybe.MaybeU64.{MaybeU64}
-use Rattle.isdb_mmt.specs.declared.maybe.MaybeU64.TheVariants.{None as no_u64, Some as some_u64}
 use Rattle.isdb_mmt.specs.declared.location.Location.{Location}
 use Rattle.isdb_mmt.specs.declared.location.Location.TheVariants.{SameFlow, Ipv4, Ipv6, Mpeg2Ts, Mpeg2TsIpv6, Url}
-use Rattle.isdb_mmt.specs.declared.location.MaybeLocation.{MaybeLocation}
-use Rattle.isdb_mmt.specs.declared.location.MaybeLocation.TheVariants.{None as no_location, Some as some_location}
 use Rattle.isdb_mmt.specs.declared.timestamp.TimestampStep.{TimestampStep}
 use Rattle.isdb_mmt.specs.declared.timestamp.TimestampStep.TheVariants.{End as no_timestamp, Timestamp}
 use Rattle.isdb_mmt.specs.declared.timestamp.Extended.{Extended}
 use Rattle.isdb_mmt.specs.declared.timestamp.MpuStep.{MpuStep}
 use Rattle.isdb_mmt.specs.declared.timestamp.MpuStep.TheVariants.{End as no_mpu, Broken as broken_mpu, Mpu}
 use Rattle.isdb_mmt.specs.declared.timestamp.AccessUnit.{AccessUnit}
-use Rattle.isdb_mmt.specs.declared.timestamp.AccessUnitStep.{AccessUnitStep}
-use Rattle.isdb_mmt.specs.declared.timestamp.AccessUnitStep.TheVariants.{End as no_unit, Unit as access_unit}
 use Rattle.isdb_mmt.specs.declared.desc.Language.{Language}
 use Rattle.isdb_mmt.specs.declared.desc.ServiceStep.{ServiceStep}
 use Rattle.isdb_mmt.specs.declared.desc.ServiceStep.TheVariants.{End as no_service, Service as service}
@@ -44,17 +34,17 @@ use Rattle.isdb_text.specs.Fill.{filled}
 use Rattle.isdb_text.specs.Elements.{Element, ended, element, texts}
 
 -- numbers that may be absent
-abbrev pub u16_text : MaybeU16 → List ℕ
-u16_text no_u16 = ascii "none"
-u16_text (some_u16 n) = decimal_of n
+abbrev pub u16_text : Option ℕ → List ℕ
+u16_text None = ascii "none"
+u16_text (Some n) = decimal_of n
 
-abbrev pub u32_text : MaybeU32 → List ℕ
-u32_text no_u32 = ascii "none"
-u32_text (some_u32 n) = decimal_of n
+abbrev pub u32_text : Option ℕ → List ℕ
+u32_text None = ascii "none"
+u32_text (Some n) = decimal_of n
 
-abbrev pub u64_text : MaybeU64 → List ℕ
-u64_text no_u64 = ascii "none"
-u64_text (some_u64 n) = decimal_of n
+abbrev pub u64_text : Option ℕ → List ℕ
+u64_text None = ascii "none"
+u64_text (Some n) = decimal_of n
 
 -- an address, two digits a byte
 abbrev pub address_text : Address → List ℕ
@@ -121,9 +111,9 @@ genres_text s = if length s <? 2 then ascii "-" else genres_from s (length s) 0
 unfoldable pub unit_text : AccessUnit → List ℕ
 unit_text u = filled (ascii "#/") (u.dts_pts_offset ∷ []) ++ u16_text u.pts_offset
 
-abbrev pub unit_element : ℕ → AccessUnitStep → Element
-unit_element at no_unit = ended
-unit_element at (access_unit u next) = element (comma 0 at ++ unit_text u) next
+abbrev pub unit_element : ℕ → Option (AccessUnit × ℕ) → Element
+unit_element at None = ended
+unit_element at (Some (u, next)) = element (comma 0 at ++ unit_text u) next
 
 abbrev pub units_from : List ℕ → Extended → ℕ → ℕ → List ℕ
 units_from s e n from = texts (λ at. unit_element at (unit_step s e at)) n from
@@ -154,11 +144,11 @@ extended_text s e =
     ascii "extended_timestamp timescale " ++ (u32_text e.timescale
     ++ (ascii " default_pts_offset " ++ (u16_text e.default_pts_offset ++ (ascii " mpus " ++ mpus_text s e))))
 
-abbrev pub ca_location_text : List ℕ → MaybeLocation → List ℕ
-ca_location_text s no_location = ascii "none"
-ca_location_text s (some_location l) = location_text s l
+abbrev pub ca_location_text : List ℕ → Option Location → List ℕ
+ca_location_text s None = ascii "none"
+ca_location_text s (Some l) = location_text s l
 
-unfoldable pub access_control_text : List ℕ → ℕ → MaybeLocation → List ℕ
+unfoldable pub access_control_text : List ℕ → ℕ → Option Location → List ℕ
 access_control_text s ca l = filled (ascii "access_control # location ") (ca ∷ []) ++ ca_location_text (drop 2 s) l
 
 unfoldable pub service_text : List ℕ → ℕ → Part → Part → List ℕ

@@ -1,11 +1,12 @@
 -- The lines of a kept table as `feeddump` writes them, by which table it is.
 use Rattle.std.specs.Prelude.{ℕ, List, []}
+use Rattle.std.specs.Prelude.{Option, Some, None, Result, Ok, Err}
+use Rattle.isdb_mmt.specs.declared.decoder.refusal.Refusal.{Refusal}
+use Rattle.isdb_mmt.specs.declared.part.Part.{Part}
 use Rattle.isdb_tlv.specs.Guards.{◌=?◌}
 use Rattle.std.specs.Prelude.{if◌then◌else◌}
 use Rattle.isdb_mmt.specs.Formats.Part.{part_of}
 use Rattle.isdb_mmt.specs.Answers.Readings.{table_id_of_key}
-use Rattle.isdb_mmt.specs.declared.decoder.readings.TableReading.{TableReading}
-use Rattle.isdb_mmt.specs.declared.decoder.readings.TableReading.TheVariants.{Refused as table_refused, Nothing as no_table_of, Bytes as the_bytes}
 use Rattle.isdb_text.specs.declared.kept_tables.Table.{Table}
 use Rattle.isdb_text.specs.declared.kept_tables.Table.TheVariants.{Mpt, Plt, Section, Tot}
 use Rattle.isdb_text.specs.DumpTables.{mpt_text, plt_text, bit_text, sdt_text, nit_text, amt_text, eit_text, tot_text}
@@ -31,7 +32,7 @@ table_text (Section key) s = section_text key s
 table_text Tot s = tot_text s
 
 -- by what is read of it, a part of `s`; none where it is not kept or cannot be read
-abbrev pub reading_text : Table → TableReading → List ℕ → List ℕ
-reading_text t (the_bytes p) s = table_text t (part_of s p)
-reading_text t no_table_of s = []
-reading_text t (table_refused n) s = []
+abbrev pub reading_text : Table → Result (Option Part) Refusal → List ℕ → List ℕ
+reading_text t (Ok (Some p)) s = table_text t (part_of s p)
+reading_text t (Ok None) s = []
+reading_text t (Err e) s = []

@@ -1,8 +1,12 @@
 -- The lines of `feeddump` but for the kept tables: what each packet gave, and what a session holds.
-use Rattle.std.specs.Prelude.{ℕ, zero, suc, ◌+◌, ◌-◌, ◌*◌, ◌%◌, List, [], ◌∷◌, ◌++◌, length, take, drop, to_bits}
+use Rattle.std.specs.Prelude.{ℕ, zero, suc, ◌+◌, ◌-◌, ◌*◌, ◌%◌, List, [], ◌∷◌, ◌++◌, length, take, drop, to_bits, Option, Some, None, Result, Ok, Err, if◌then◌else◌, unwrap_or}
+use Rattle.isdb_mmt.specs.declared.decoder.refusal.Refusal.{Refusal}
+use Rattle.isdb_mmt.specs.declared.decoder.readings.Held.{Held}
+use Rattle.isdb_mmt.specs.declared.decoder.readings.Held.TheVariants.{NoId, NoObject, Object}
+use Rattle.isdb_mmt.specs.declared.decoder.readings.MpuRange.{MpuRange}
+use Rattle.isdb_mmt.specs.declared.decoder.readings.ControlState.{ControlState}
 use Rattle.std.specs.Float.{binary64}
 use Rattle.isdb_tlv.specs.Guards.{◌<?◌, ◌≤?◌, ◌=?◌}
-use Rattle.std.specs.Prelude.{if◌then◌else◌}
 use Rattle.isdb_tlv.specs.Bytes.{be}
 use Rattle.isdb_tlv.specs.Crc.{crc_of}
 use Rattle.isdb_tlv.specs.Fields.{written}
@@ -11,40 +15,17 @@ use Rattle.isdb_mmt.specs.Formats.Part.{part_of}
 use Rattle.isdb_mmt.specs.Memory.Lent.{part, flag_byte, names_from}
 use Rattle.isdb_mmt.specs.Memory.Layout.{most_media_ids, most_control_ids, most_message_area, table_ids, control_places, control_size}
 use Rattle.isdb_mmt.specs.Memory.Session.{Session, limits_of, used_of, control_place_of}
-use Rattle.isdb_mmt.specs.Formats.Maybe.{given_u16, number_u16, given_u32, number_u32}
 use Rattle.isdb_mmt.specs.Pushes.Records.{held_fields}
-use Rattle.isdb_mmt.specs.Answers.Readings.{counters_read, time_read, count_read, next_media_read, media_read, held_read, asset_read, next_control_read}
-use Rattle.isdb_mmt.specs.Answers.Readings.{control_read}
+use Rattle.isdb_mmt.specs.Answers.Readings.{counters_read, time_read, count_read, next_media_read, media_read, held_read, asset_read, next_control_read, control_read}
 use Rattle.isdb_mmt.specs.declared.decoder.records.Answer.{Answer}
 use Rattle.isdb_mmt.specs.declared.decoder.counts.AssetStats.{AssetStats}
 use Rattle.isdb_mmt.specs.declared.decoder.counts.Counters.{Counters}
-use Rattle.isdb_mmt.specs.declared.decoder.readings.CountersReading.{CountersReading}
-use Rattle.isdb_mmt.specs.declared.decoder.readings.CountersReading.TheVariants.{Refused as counters_refused, Counters as the_counters}
-use Rattle.isdb_mmt.specs.declared.decoder.readings.TimeReading.{TimeReading}
-use Rattle.isdb_mmt.specs.declared.decoder.readings.TimeReading.TheVariants.{Refused as time_refused, Nothing as no_time, Timestamp}
-use Rattle.isdb_mmt.specs.declared.decoder.readings.CountReading.{CountReading}
-use Rattle.isdb_mmt.specs.declared.decoder.readings.CountReading.TheVariants.{Refused as count_refused, Count}
-use Rattle.isdb_mmt.specs.declared.decoder.readings.NameReading.{NameReading}
-use Rattle.isdb_mmt.specs.declared.decoder.readings.NameReading.TheVariants.{Refused as name_refused, Nothing as no_name_of, Name}
-use Rattle.isdb_mmt.specs.declared.decoder.readings.MaybeRange.{MaybeRange}
-use Rattle.isdb_mmt.specs.declared.decoder.readings.MaybeRange.TheVariants.{None as no_range, Some as some_range}
 use Rattle.isdb_mmt.specs.declared.decoder.readings.MediaState.{MediaState}
-use Rattle.isdb_mmt.specs.declared.decoder.readings.MediaReading.{MediaReading}
-use Rattle.isdb_mmt.specs.declared.decoder.readings.MediaReading.TheVariants.{Refused as media_refused, Nothing as no_media}
-use Rattle.isdb_mmt.specs.declared.decoder.readings.MediaReading.TheVariants.{Media as the_media}
 use Rattle.isdb_mmt.specs.declared.decoder.readings.HeldObject.{HeldObject}
-use Rattle.isdb_mmt.specs.declared.decoder.readings.HeldReading.{HeldReading}
-use Rattle.isdb_mmt.specs.declared.decoder.readings.HeldReading.TheVariants.{Refused as held_refused, NoId, Nothing as no_object}
-use Rattle.isdb_mmt.specs.declared.decoder.readings.HeldReading.TheVariants.{Object as the_object}
 use Rattle.isdb_mmt.specs.declared.decoder.readings.CarriedAsset.{CarriedAsset}
-use Rattle.isdb_mmt.specs.declared.decoder.readings.AssetReading.{AssetReading}
-use Rattle.isdb_mmt.specs.declared.decoder.readings.AssetReading.TheVariants.{Refused as asset_refused, Nothing as no_asset}
-use Rattle.isdb_mmt.specs.declared.decoder.readings.AssetReading.TheVariants.{Asset as the_asset}
-use Rattle.isdb_mmt.specs.declared.decoder.readings.ControlReading.{ControlReading}
-use Rattle.isdb_mmt.specs.declared.decoder.readings.ControlReading.TheVariants.{Refused as control_refused, Nothing as no_control}
-use Rattle.isdb_mmt.specs.declared.decoder.readings.ControlReading.TheVariants.{Control as the_control}
 use Rattle.isdb_text.specs.Text.{ascii, bytes_as_hex}
 use Rattle.isdb_text.specs.Fill.{filled}
+use Rattle.isdb_mmt.specs.Formats.Maybe.{given}
 
 -- ---- a packet
 
@@ -86,17 +67,17 @@ message_counters c =
     ++ filled (ascii "counter split_errors #\n") (c.split_errors ∷ [])
 
 -- a reading that is refused has no line, here and below
-abbrev pub counter_lines : CountersReading → List ℕ
-counter_lines (the_counters c) = feed_counters c ++ (table_counters c ++ message_counters c)
-counter_lines (counters_refused n) = []
+abbrev pub counter_lines : Result Counters Refusal → List ℕ
+counter_lines (Ok c) = feed_counters c ++ (table_counters c ++ message_counters c)
+counter_lines (Err e) = []
 
 unfoldable pub unix_bits : ℕ → ℕ
 unix_bits t = to_bits binary64 (ntp_to_unix_of t)
 
-abbrev pub ntp_line : TimeReading → List ℕ
-ntp_line (Timestamp t) = filled (ascii "ntp %%%%%%%%%%%%%%%% unix_bits %%%%%%%%%%%%%%%%\n") (t ∷ unix_bits t ∷ [])
-ntp_line no_time = ascii "ntp none\n"
-ntp_line (time_refused n) = []
+abbrev pub ntp_line : Result (Option ℕ) Refusal → List ℕ
+ntp_line (Ok (Some t)) = filled (ascii "ntp %%%%%%%%%%%%%%%% unix_bits %%%%%%%%%%%%%%%%\n") (t ∷ unix_bits t ∷ [])
+ntp_line (Ok None) = ascii "ntp none\n"
+ntp_line (Err e) = []
 
 -- ---- a media id
 
@@ -107,42 +88,42 @@ stats_line id s =
     ++ filled (ascii "scrambled_mfus # mfus_dropped # mpus # mpu_sequence_jumps # malformed #\n")
     (s.scrambled_mfus ∷ s.mfus_dropped ∷ s.mpus ∷ s.mpu_sequence_jumps ∷ s.malformed ∷ [])
 
-abbrev pub range_line : ℕ → MaybeRange → List ℕ
-range_line id no_range = filled (ascii "media # mpu_range none\n") (id ∷ [])
-range_line id (some_range x) = filled (ascii "media # mpu_range # #\n") (id ∷ x.first ∷ x.last ∷ [])
+abbrev pub range_line : ℕ → Option MpuRange → List ℕ
+range_line id None = filled (ascii "media # mpu_range none\n") (id ∷ [])
+range_line id (Some x) = filled (ascii "media # mpu_range # #\n") (id ∷ x.first ∷ x.last ∷ [])
 
 unfoldable pub state_lines : ℕ → MediaState → List ℕ
 state_lines id m =
     stats_line id m.stats
     ++ (range_line id m.mpu_range
-    ++ filled (ascii "media # last_sequence ?\n") (id ∷ given_u32 m.sequence ∷ number_u32 m.sequence ∷ []))
+    ++ filled (ascii "media # last_sequence ?\n") (id ∷ given m.sequence ∷ unwrap_or m.sequence 0 ∷ []))
 
-abbrev pub media_lines : ℕ → MediaReading → List ℕ
-media_lines id (the_media m) = state_lines id m
-media_lines id no_media = []
-media_lines id (media_refused n) = []
+abbrev pub media_lines : ℕ → Result (Option MediaState) Refusal → List ℕ
+media_lines id (Ok (Some m)) = state_lines id m
+media_lines id (Ok None) = []
+media_lines id (Err e) = []
 
 unfoldable pub object_line : ℕ → HeldObject → List ℕ → List ℕ
 object_line id o objects =
     filled (ascii "media # held ") (id ∷ []) ++ record_text (written (held_fields id o)) (part_of objects o.bytes)
 
-abbrev pub held_line : ℕ → HeldReading → List ℕ → List ℕ
-held_line id (the_object o) objects = object_line id o objects
-held_line id no_object objects = filled (ascii "media # held none\n") (id ∷ [])
-held_line id NoId objects = []
-held_line id (held_refused n) objects = []
+abbrev pub held_line : ℕ → Result Held Refusal → List ℕ → List ℕ
+held_line id (Ok (Object o)) objects = object_line id o objects
+held_line id (Ok NoObject) objects = filled (ascii "media # held none\n") (id ∷ [])
+held_line id (Ok NoId) objects = []
+held_line id (Err e) objects = []
 
 -- the asset's id lies in the bytes of its MPT
 unfoldable pub carried_line : ℕ → CarriedAsset → List ℕ → List ℕ
 carried_line id a tables =
     filled (ascii "media # asset_of service ? type %%%%%%%% id ")
-    (id ∷ given_u16 a.service_id ∷ number_u16 a.service_id ∷ a.asset.asset_type ∷ [])
+    (id ∷ given a.service_id ∷ unwrap_or a.service_id 0 ∷ a.asset.asset_type ∷ [])
     ++ (bytes_as_hex (part_of (part_of tables a.mpt) a.asset.asset_id) ++ ascii "\n")
 
-abbrev pub asset_line : ℕ → AssetReading → List ℕ → List ℕ
-asset_line id (the_asset a) tables = carried_line id a tables
-asset_line id no_asset tables = filled (ascii "media # asset_of none\n") (id ∷ [])
-asset_line id (asset_refused n) tables = []
+abbrev pub asset_line : ℕ → Result (Option CarriedAsset) Refusal → List ℕ → List ℕ
+asset_line id (Ok (Some a)) tables = carried_line id a tables
+asset_line id (Ok None) tables = filled (ascii "media # asset_of none\n") (id ∷ [])
+asset_line id (Err e) tables = []
 
 -- the five lines of a media id; packet ids have 16 bits
 unfoldable pub media_text : Session → ℕ → List ℕ
@@ -151,13 +132,13 @@ media_text s id =
 
 -- ---- ids in ascending order
 
-abbrev pub text_and_above : (ℕ → List ℕ) → (ℕ → List ℕ) → NameReading → List ℕ
-text_and_above text above (Name id) = text id ++ above (id + 1)
-text_and_above text above no_name_of = []
-text_and_above text above (name_refused n) = []
+abbrev pub text_and_above : (ℕ → List ℕ) → (ℕ → List ℕ) → Result (Option ℕ) Refusal → List ℕ
+text_and_above text above (Ok (Some id)) = text id ++ above (id + 1)
+text_and_above text above (Ok None) = []
+text_and_above text above (Err e) = []
 
 -- the texts of the ids from `a` on: the next one's, then those above it, `k` at most
-unfoldable pub ascending_text : ℕ → (ℕ → NameReading) → (ℕ → List ℕ) → ℕ → List ℕ
+unfoldable pub ascending_text : ℕ → (ℕ → Result (Option ℕ) Refusal) → (ℕ → List ℕ) → ℕ → List ℕ
 ascending_text zero next text a = []
 ascending_text (suc k) next text a = text_and_above text (λ x. ascending_text k next text x) (next a)
 
@@ -166,11 +147,11 @@ all_media s = ascending_text most_media_ids (next_media_read s) (media_text s) 0
 
 -- ---- a control id
 
-abbrev pub control_line : ℕ → ControlReading → List ℕ
-control_line id (the_control c) =
-    filled (ascii "control # last_sequence ?\n") (id ∷ given_u32 c.sequence ∷ number_u32 c.sequence ∷ [])
-control_line id no_control = []
-control_line id (control_refused n) = []
+abbrev pub control_line : ℕ → Result (Option ControlState) Refusal → List ℕ
+control_line id (Ok (Some c)) =
+    filled (ascii "control # last_sequence ?\n") (id ∷ given c.sequence ∷ unwrap_or c.sequence 0 ∷ [])
+control_line id (Ok None) = []
+control_line id (Err e) = []
 
 -- the index of the first `x` among some names, where the first name has the index `i`; behind the last where there is none
 unfoldable pub index_from : ℕ → List ℕ → ℕ → ℕ
@@ -205,9 +186,9 @@ all_controls s = ascending_text most_control_ids (next_control_read s) (control_
 
 -- ---- tables that are not decoded
 
-abbrev pub other_line : ℕ → CountReading → List ℕ
-other_line id (Count n) = if n =? 0 then [] else filled (ascii "other 0x%% #\n") (id ∷ n ∷ [])
-other_line id (count_refused n) = []
+abbrev pub other_line : ℕ → Result ℕ Refusal → List ℕ
+other_line id (Ok n) = if n =? 0 then [] else filled (ascii "other 0x%% #\n") (id ∷ n ∷ [])
+other_line id (Err e) = []
 
 unfoldable pub other_text : Session → ℕ → List ℕ
 other_text s id = other_line id (count_read s id)

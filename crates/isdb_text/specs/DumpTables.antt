@@ -1,5 +1,6 @@
 -- The kept tables as `feeddump` writes them. A table that does not parse has no text; none such is kept.
-use Rattle.std.specs.Prelude.{ℕ, ◌+◌, ◌/◌, ◌%◌, List, [], ◌∷◌, ◌++◌, drop}
+use Rattle.isdb_mmt.specs.declared.table.section.SectionError.{SectionError}
+use Rattle.std.specs.Prelude.{ℕ, ◌+◌, ◌/◌, ◌%◌, List, [], ◌∷◌, ◌++◌, drop, Err, None, Ok, Option, Result, Some}
 use Rattle.isdb_mmt.specs.Formats.Part.{part_of}
 use Rattle.isdb_mmt.specs.Formats.Location.{location_of}
 use Rattle.isdb_mmt.specs.Formats.Section.{length12}
@@ -12,57 +13,31 @@ use Rattle.isdb_mmt.specs.Formats.Nit.{stream_step, nit_of}
 use Rattle.isdb_mmt.specs.Formats.Plt.{package_at_of, delivery_at_of, plt_of}
 use Rattle.isdb_mmt.specs.Formats.Mpt.{asset_at_of, mpt_of, service_id_of, first_packet_id, locations_of, component_tag_of}
 use Rattle.isdb_mmt.specs.declared.location.Location.{Location}
-use Rattle.isdb_mmt.specs.declared.location.Located.{Located}
-use Rattle.isdb_mmt.specs.declared.location.Located.TheVariants.{None as not_located, Some as located}
 use Rattle.isdb_mmt.specs.declared.table.section.SectionHeader.{SectionHeader}
 use Rattle.isdb_mmt.specs.declared.table.amt.Amt.{Amt}
 use Rattle.isdb_mmt.specs.declared.table.amt.AmtService.{AmtService}
-use Rattle.isdb_mmt.specs.declared.table.amt.AmtStep.{AmtStep}
-use Rattle.isdb_mmt.specs.declared.table.amt.AmtStep.TheVariants.{Malformed as no_flow_of, Service as flow}
-use Rattle.isdb_mmt.specs.declared.table.amt.AmtResult.{AmtResult}
-use Rattle.isdb_mmt.specs.declared.table.amt.AmtResult.TheVariants.{Ok as amt_ok, Err as amt_err}
-use Rattle.isdb_mmt.specs.declared.table.tot.TotResult.{TotResult}
-use Rattle.isdb_mmt.specs.declared.table.tot.TotResult.TheVariants.{Ok as tot_ok, Err as tot_err}
 use Rattle.isdb_mmt.specs.declared.table.tot.Tot.{Tot}
 use Rattle.isdb_mmt.specs.declared.table.sdt.Sdt.{Sdt}
 use Rattle.isdb_mmt.specs.declared.table.sdt.SdtService.{SdtService}
 use Rattle.isdb_mmt.specs.declared.table.sdt.SdtStep.{SdtStep}
 use Rattle.isdb_mmt.specs.declared.table.sdt.SdtStep.TheVariants.{End as no_service, Malformed as broken_service, Service as service}
-use Rattle.isdb_mmt.specs.declared.table.sdt.SdtResult.{SdtResult}
-use Rattle.isdb_mmt.specs.declared.table.sdt.SdtResult.TheVariants.{Ok as sdt_ok, Err as sdt_err}
 use Rattle.isdb_mmt.specs.declared.table.eit.Eit.{Eit}
 use Rattle.isdb_mmt.specs.declared.table.eit.Event.{Event}
 use Rattle.isdb_mmt.specs.declared.table.eit.EventStep.{EventStep}
 use Rattle.isdb_mmt.specs.declared.table.eit.EventStep.TheVariants.{End as no_event, Malformed as broken_event, Event as event}
-use Rattle.isdb_mmt.specs.declared.table.eit.EitResult.{EitResult}
-use Rattle.isdb_mmt.specs.declared.table.eit.EitResult.TheVariants.{Ok as eit_ok, Err as eit_err}
 use Rattle.isdb_mmt.specs.declared.table.bit.Bit.{Bit}
 use Rattle.isdb_mmt.specs.declared.table.bit.Broadcaster.{Broadcaster}
 use Rattle.isdb_mmt.specs.declared.table.bit.BroadcasterStep.{BroadcasterStep}
 use Rattle.isdb_mmt.specs.declared.table.bit.BroadcasterStep.TheVariants.{End as no_broadcaster, Malformed as broken_broadcaster, Broadcaster as broadcaster}
-use Rattle.isdb_mmt.specs.declared.table.bit.BitResult.{BitResult}
-use Rattle.isdb_mmt.specs.declared.table.bit.BitResult.TheVariants.{Ok as bit_ok, Err as bit_err}
 use Rattle.isdb_mmt.specs.declared.table.nit.Nit.{Nit}
 use Rattle.isdb_mmt.specs.declared.table.nit.NitStream.{NitStream}
 use Rattle.isdb_mmt.specs.declared.table.nit.StreamStep.{StreamStep}
 use Rattle.isdb_mmt.specs.declared.table.nit.StreamStep.TheVariants.{End as no_stream, Malformed as broken_stream, Stream as stream}
-use Rattle.isdb_mmt.specs.declared.table.nit.NitResult.{NitResult}
-use Rattle.isdb_mmt.specs.declared.table.nit.NitResult.TheVariants.{Ok as nit_ok, Err as nit_err}
 use Rattle.isdb_mmt.specs.declared.table.plt.Plt.{Plt}
 use Rattle.isdb_mmt.specs.declared.table.plt.Package.{Package}
-use Rattle.isdb_mmt.specs.declared.table.plt.PackageStep.{PackageStep}
-use Rattle.isdb_mmt.specs.declared.table.plt.PackageStep.TheVariants.{Malformed as no_package, Package as one_package}
 use Rattle.isdb_mmt.specs.declared.table.plt.IpDelivery.{IpDelivery}
-use Rattle.isdb_mmt.specs.declared.table.plt.DeliveryStep.{DeliveryStep}
-use Rattle.isdb_mmt.specs.declared.table.plt.DeliveryStep.TheVariants.{Malformed as no_delivery, Delivery as delivery}
-use Rattle.isdb_mmt.specs.declared.table.plt.MaybePlt.{MaybePlt}
-use Rattle.isdb_mmt.specs.declared.table.plt.MaybePlt.TheVariants.{None as no_plt, Some as some_plt}
 use Rattle.isdb_mmt.specs.declared.table.mpt.Mpt.{Mpt}
 use Rattle.isdb_mmt.specs.declared.table.mpt.Asset.{Asset}
-use Rattle.isdb_mmt.specs.declared.table.mpt.AssetStep.{AssetStep}
-use Rattle.isdb_mmt.specs.declared.table.mpt.AssetStep.TheVariants.{Malformed as no_asset, Asset as asset}
-use Rattle.isdb_mmt.specs.declared.table.mpt.MaybeMpt.{MaybeMpt}
-use Rattle.isdb_mmt.specs.declared.table.mpt.MaybeMpt.TheVariants.{None as no_mpt, Some as some_mpt}
 use Rattle.isdb_text.specs.Text.{ascii, bytes_as_hex}
 use Rattle.isdb_text.specs.Fill.{filled}
 use Rattle.isdb_text.specs.Elements.{Element, ended, element, texts}
@@ -83,9 +58,9 @@ flow_text f =
     filled (ascii "  service # src ") (f.service_id ∷ []) ++ (address_text f.src
     ++ (filled (ascii " mask # dst ") (f.src_mask ∷ []) ++ (address_text f.dst ++ filled (ascii " mask #\n") (f.dst_mask ∷ []))))
 
-abbrev pub flow_element : AmtStep → Element
-flow_element no_flow_of = ended
-flow_element (flow f next) = element (flow_text f) next
+abbrev pub flow_element : Option (AmtService × ℕ) → Element
+flow_element None = ended
+flow_element (Some (f, next)) = element (flow_text f) next
 
 -- `n` services at most of a section's body, from a place on
 abbrev pub flows_text : List ℕ → ℕ → ℕ → List ℕ
@@ -94,9 +69,9 @@ flows_text s n from = texts (λ at. flow_element (service_at s at)) n from
 unfoldable pub amt_table : ℕ → SectionHeader → Amt → List ℕ → List ℕ
 amt_table key h t s = ascii "amt " ++ (key_text key h ++ (ascii "\n" ++ flows_text s t.services 2))
 
-abbrev pub amt_given : ℕ → List ℕ → AmtResult → List ℕ
-amt_given key s (amt_err e) = []
-amt_given key s (amt_ok h t) = amt_table key h t (part_of s h.body)
+abbrev pub amt_given : ℕ → List ℕ → Result (SectionHeader × Amt) SectionError → List ℕ
+amt_given key s (Err e) = []
+amt_given key s (Ok (h, t)) = amt_table key h t (part_of s h.body)
 
 unfoldable pub amt_text : ℕ → List ℕ → List ℕ
 amt_text key s = amt_given key s (amt_of s)
@@ -106,9 +81,9 @@ amt_text key s = amt_given key s (amt_of s)
 unfoldable pub tot_table : List ℕ → Tot → List ℕ
 tot_table s t = filled (ascii "tot jst %%%%%%%%%%\n") (t.jst ∷ []) ++ descriptors_text (ascii "  ") (part_of s t.descriptors)
 
-abbrev pub tot_given : List ℕ → TotResult → List ℕ
-tot_given s (tot_err e) = []
-tot_given s (tot_ok t) = tot_table s t
+abbrev pub tot_given : List ℕ → Result Tot SectionError → List ℕ
+tot_given s (Err e) = []
+tot_given s (Ok t) = tot_table s t
 
 unfoldable pub tot_text : List ℕ → List ℕ
 tot_text s = tot_given s (tot_of s).result
@@ -135,9 +110,9 @@ sdt_table key h t s =
     ascii "sdt " ++ (key_text key h
     ++ (filled (ascii " original_network_id #\n") (t.original_network_id ∷ []) ++ services_text s t.services 3))
 
-abbrev pub sdt_given : ℕ → List ℕ → SdtResult → List ℕ
-sdt_given key s (sdt_err e) = []
-sdt_given key s (sdt_ok h t) = sdt_table key h t (part_of s h.body)
+abbrev pub sdt_given : ℕ → List ℕ → Result (SectionHeader × Sdt) SectionError → List ℕ
+sdt_given key s (Err e) = []
+sdt_given key s (Ok (h, t)) = sdt_table key h t (part_of s h.body)
 
 unfoldable pub sdt_text : ℕ → List ℕ → List ℕ
 sdt_text key s = sdt_given key s (sdt_of s).result
@@ -166,9 +141,9 @@ eit_fields t =
 unfoldable pub eit_table : ℕ → SectionHeader → Eit → List ℕ → List ℕ
 eit_table key h t s = ascii "eit " ++ (key_text key h ++ (eit_fields t ++ events_text s t.events 6))
 
-abbrev pub eit_given : ℕ → List ℕ → EitResult → List ℕ
-eit_given key s (eit_err e) = []
-eit_given key s (eit_ok h t) = eit_table key h t (part_of s h.body)
+abbrev pub eit_given : ℕ → List ℕ → Result (SectionHeader × Eit) SectionError → List ℕ
+eit_given key s (Err e) = []
+eit_given key s (Ok (h, t)) = eit_table key h t (part_of s h.body)
 
 unfoldable pub eit_text : ℕ → List ℕ → List ℕ
 eit_text key s = eit_given key s (eit_of s).result
@@ -193,9 +168,9 @@ bit_table key h t s =
     ++ (filled (ascii " broadcast_view_propriety #\n") (flag_of t.broadcast_view_propriety ∷ [])
     ++ (descriptors_text (ascii "  ") (part_of s t.descriptors) ++ broadcasters_text s t.broadcasters (length12 s 0 + 2))))
 
-abbrev pub bit_given : ℕ → List ℕ → BitResult → List ℕ
-bit_given key s (bit_err e) = []
-bit_given key s (bit_ok h t) = bit_table key h t (part_of s h.body)
+abbrev pub bit_given : ℕ → List ℕ → Result (SectionHeader × Bit) SectionError → List ℕ
+bit_given key s (Err e) = []
+bit_given key s (Ok (h, t)) = bit_table key h t (part_of s h.body)
 
 unfoldable pub bit_text : ℕ → List ℕ → List ℕ
 bit_text key s = bit_given key s (bit_of s).result
@@ -220,9 +195,9 @@ nit_table key h t s =
     ascii "nit " ++ (key_text key h ++ (ascii "\n"
     ++ (tlvs_text (ascii "  ") (part_of s t.descriptors) ++ streams_text (part_of s t.loop_part) t.streams 0)))
 
-abbrev pub nit_given : ℕ → List ℕ → NitResult → List ℕ
-nit_given key s (nit_err e) = []
-nit_given key s (nit_ok h t) = nit_table key h t (part_of s h.body)
+abbrev pub nit_given : ℕ → List ℕ → Result (SectionHeader × Nit) SectionError → List ℕ
+nit_given key s (Err e) = []
+nit_given key s (Ok (h, t)) = nit_table key h t (part_of s h.body)
 
 unfoldable pub nit_text : ℕ → List ℕ → List ℕ
 nit_text key s = nit_given key s (nit_of s)
@@ -234,9 +209,9 @@ package_text s p =
     ascii "  package " ++ (bytes_as_hex (part_of s p.package_id)
     ++ (ascii " location " ++ (location_text (drop p.location_start s) p.location ++ ascii "\n")))
 
-abbrev pub package_element : List ℕ → PackageStep → Element
-package_element s no_package = ended
-package_element s (one_package p next) = element (package_text s p) next
+abbrev pub package_element : List ℕ → Option (Package × ℕ) → Element
+package_element s None = ended
+package_element s (Some (p, next)) = element (package_text s p) next
 
 abbrev pub packages_text : List ℕ → ℕ → ℕ → List ℕ
 packages_text s n from = texts (λ at. package_element s (package_at_of s at)) n from
@@ -244,9 +219,9 @@ packages_text s n from = texts (λ at. package_element s (package_at_of s at)) n
 abbrev pub delivery_text : IpDelivery → List ℕ
 delivery_text d = filled (ascii "  ip_delivery # location_type #\n") (d.transport_file_id ∷ d.location_type ∷ [])
 
-abbrev pub delivery_element : DeliveryStep → Element
-delivery_element no_delivery = ended
-delivery_element (delivery d next) = element (delivery_text d) next
+abbrev pub delivery_element : Option (IpDelivery × ℕ) → Element
+delivery_element None = ended
+delivery_element (Some (d, next)) = element (delivery_text d) next
 
 abbrev pub deliveries_text : List ℕ → ℕ → ℕ → List ℕ
 deliveries_text s n from = texts (λ at. delivery_element (delivery_at_of s at)) n from
@@ -256,9 +231,9 @@ plt_table s t =
     filled (ascii "plt version #\n") (t.version ∷ [])
     ++ (packages_text s t.packages 5 ++ deliveries_text s t.ip_deliveries t.deliveries_start)
 
-abbrev pub plt_given : List ℕ → MaybePlt → List ℕ
-plt_given s no_plt = []
-plt_given s (some_plt t) = plt_table s t
+abbrev pub plt_given : List ℕ → Option Plt → List ℕ
+plt_given s None = []
+plt_given s (Some t) = plt_table s t
 
 unfoldable pub plt_text : List ℕ → List ℕ
 plt_text s = plt_given s (plt_of s)
@@ -268,9 +243,9 @@ plt_text s = plt_given s (plt_of s)
 unfoldable pub location_line : List ℕ → Location → List ℕ
 location_line s l = ascii "    location " ++ (location_text s l ++ ascii "\n")
 
-abbrev pub location_element : List ℕ → ℕ → Located → Element
-location_element s at not_located = ended
-location_element s at (located l taken) = element (location_line (drop at s) l) (at + taken)
+abbrev pub location_element : List ℕ → ℕ → Option (Location × ℕ) → Element
+location_element s at None = ended
+location_element s at (Some (l, taken)) = element (location_line (drop at s) l) (at + taken)
 
 abbrev pub locations_text : List ℕ → ℕ → ℕ → List ℕ
 locations_text s n from = texts (λ at. location_element s at (location_of (drop at s))) n from
@@ -291,9 +266,9 @@ unfoldable pub asset_text : List ℕ → Asset → List ℕ
 asset_text s a =
     asset_line s a ++ (locations_text s a.locations a.locations_start ++ descriptors_text (ascii "    ") (part_of s a.descriptors))
 
-abbrev pub asset_element : List ℕ → AssetStep → Element
-asset_element s no_asset = ended
-asset_element s (asset a next) = element (asset_text s a) next
+abbrev pub asset_element : List ℕ → Option (Asset × ℕ) → Element
+asset_element s None = ended
+asset_element s (Some (a, next)) = element (asset_text s a) next
 
 abbrev pub assets_text : List ℕ → ℕ → ℕ → List ℕ
 assets_text s n from = texts (λ at. asset_element s (asset_at_of s at)) n from
@@ -307,9 +282,9 @@ unfoldable pub mpt_table : ℕ → List ℕ → Mpt → List ℕ
 mpt_table control s t =
     mpt_line control s t ++ (descriptors_text (ascii "  ") (part_of s t.descriptors) ++ assets_text s t.assets t.start)
 
-abbrev pub mpt_given : ℕ → List ℕ → MaybeMpt → List ℕ
-mpt_given control s no_mpt = []
-mpt_given control s (some_mpt t) = mpt_table control s t
+abbrev pub mpt_given : ℕ → List ℕ → Option Mpt → List ℕ
+mpt_given control s None = []
+mpt_given control s (Some t) = mpt_table control s t
 
 unfoldable pub mpt_text : ℕ → List ℕ → List ℕ
 mpt_text control s = mpt_given control s (mpt_of s).mpt

@@ -1,5 +1,5 @@
 -- Templates: a line of text with marks for the values in it.
-use Rattle.std.specs.Prelude.{ℕ, suc, List, [], ◌∷◌, ◌++◌, drop, slice_index}
+use Rattle.std.specs.Prelude.{ℕ, List, [], ◌∷◌, ◌++◌, length, drop, take_while, slice_index}
 use Rattle.isdb_tlv.specs.Guards.{◌=?◌}
 use Rattle.std.specs.Prelude.{if◌then◌else◌}
 use Rattle.isdb_text.specs.Text.{ascii, decimal_of, hex_digit}
@@ -17,8 +17,7 @@ place = 37
 
 -- how many `%` a template begins with
 unfoldable pub places : List ℕ → ℕ
-places [] = 0
-places (c ∷ t) = if c =? place then suc (places t) else 0
+places t = length (take_while (λ c. c =? place) t)
 
 abbrev pub optional_of : ℕ → ℕ → List ℕ
 optional_of given n = if given =? 0 then ascii "none" else decimal_of n

@@ -1,16 +1,14 @@
 -- The kept tables of a session one after the other, and the orders in which the programs write them.
-use Rattle.std.specs.Prelude.{ℕ, ◌+◌}
+use Rattle.std.specs.Prelude.{ℕ, ◌+◌, Option, Some, None, Result, Ok, Err}
+use Rattle.isdb_mmt.specs.declared.decoder.refusal.Refusal.{Refusal}
 use Rattle.isdb_tlv.specs.Guards.{◌<?◌, ◌=?◌}
 use Rattle.std.specs.Prelude.{if◌then◌else◌}
 use Rattle.isdb_mmt.specs.Memory.Session.{Session}
 use Rattle.isdb_mmt.specs.Answers.Readings.{most_name, next_control_read, next_key_read, mpt_read, plt_read, section_read, tot_read}
-use Rattle.isdb_mmt.specs.declared.decoder.readings.NameReading.{NameReading}
-use Rattle.isdb_mmt.specs.declared.decoder.readings.NameReading.TheVariants.{Refused as name_refused, Nothing as no_name_of, Name}
 use Rattle.isdb_text.specs.declared.kept_tables.Table.TheVariants.{Mpt, Plt, Section, Tot}
 use Rattle.isdb_text.specs.declared.kept_tables.Ahead.{Ahead}
 use Rattle.isdb_text.specs.declared.kept_tables.Ahead.TheVariants.{Nothing, Mpts, Plt as the_plt, Sections, Tot as the_tot}
-use Rattle.isdb_text.specs.declared.kept_tables.Step.{Step}
-use Rattle.isdb_text.specs.declared.kept_tables.Step.TheVariants.{End, Kept}
+use Rattle.isdb_text.specs.declared.kept_tables.Kept.{Kept}
 
 -- what is left above a control id, and above a key up to the last
 abbrev pub mpts_above : ℕ → Ahead
@@ -20,23 +18,23 @@ abbrev pub sections_above : ℕ → ℕ → Ahead
 sections_above key last = if key <? last then Sections (key + 1) last else Nothing
 
 -- the table of the least name, and those above it
-abbrev pub mpt_step : Session → NameReading → Step
-mpt_step s (Name id) = Kept (Mpt id) (mpt_read s id) (mpts_above id)
-mpt_step s no_name_of = End
-mpt_step s (name_refused n) = End
+abbrev pub mpt_step : Session → Result (Option ℕ) Refusal → Option Kept
+mpt_step s (Ok (Some id)) = Some (record { table = Mpt id; reading = mpt_read s id; next = mpts_above id })
+mpt_step s (Ok None) = None
+mpt_step s (Err e) = None
 
-abbrev pub section_step : Session → ℕ → NameReading → Step
-section_step s last (Name key) = Kept (Section key) (section_read s key) (sections_above key last)
-section_step s last no_name_of = End
-section_step s last (name_refused n) = End
+abbrev pub section_step : Session → ℕ → Result (Option ℕ) Refusal → Option Kept
+section_step s last (Ok (Some key)) = Some (record { table = Section key; reading = section_read s key; next = sections_above key last })
+section_step s last (Ok None) = None
+section_step s last (Err e) = None
 
 -- the next of the tables that a walk has before it, with what is read of it
-unfoldable pub kept_step : Session → Ahead → Step
-kept_step s Nothing = End
+unfoldable pub kept_step : Session → Ahead → Option Kept
+kept_step s Nothing = None
 kept_step s (Mpts from) = mpt_step s (next_control_read s from)
-kept_step s the_plt = Kept Plt (plt_read s) Nothing
+kept_step s the_plt = Some (record { table = Plt; reading = plt_read s; next = Nothing })
 kept_step s (Sections first last) = section_step s last (next_key_read s first last)
-kept_step s the_tot = Kept Tot (tot_read s) Nothing
+kept_step s the_tot = Some (record { table = Tot; reading = tot_read s; next = Nothing })
 
 -- the walks of `feeddump`, by the table ids of the sections: EIT, SDT, BIT, NIT, AMT
 unfoldable pub dump_order : ℕ → Ahead

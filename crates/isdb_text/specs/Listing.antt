@@ -1,20 +1,16 @@
 -- The list of a session's media ids and counts, as `feedlist` writes it.
-use Rattle.std.specs.Prelude.{ℕ, zero, suc, ◌+◌, List, [], ◌∷◌, ◌++◌}
+use Rattle.std.specs.Prelude.{ℕ, zero, suc, ◌+◌, List, [], ◌∷◌, ◌++◌, Option, Some, None, Result, Ok, Err}
+use Rattle.isdb_mmt.specs.declared.decoder.refusal.Refusal.{Refusal}
+use Rattle.isdb_mmt.specs.declared.decoder.counts.Counters.{Counters}
+use Rattle.isdb_mmt.specs.Memory.Refusals.{number_of}
 use Rattle.isdb_mmt.specs.Memory.Session.{Session}
 use Rattle.isdb_mmt.specs.Answers.Readings.{counters_read, next_media_read, media_read}
-use Rattle.isdb_mmt.specs.Formats.Maybe.{given_u32}
-use Rattle.isdb_mmt.specs.declared.decoder.readings.CountersReading.{CountersReading}
-use Rattle.isdb_mmt.specs.declared.decoder.readings.CountersReading.TheVariants.{Refused as counters_refused, Counters as the_counters}
-use Rattle.isdb_mmt.specs.declared.decoder.readings.NameReading.{NameReading}
-use Rattle.isdb_mmt.specs.declared.decoder.readings.NameReading.TheVariants.{Refused as name_refused, Nothing as no_name_of, Name}
 use Rattle.isdb_mmt.specs.declared.decoder.readings.MediaState.{MediaState}
-use Rattle.isdb_mmt.specs.declared.decoder.readings.MediaReading.{MediaReading}
-use Rattle.isdb_mmt.specs.declared.decoder.readings.MediaReading.TheVariants.{Refused as media_refused}
-use Rattle.isdb_mmt.specs.declared.decoder.readings.MediaReading.TheVariants.{Nothing as no_media, Media as the_media}
 use Rattle.isdb_tlv.specs.declared.cut.Stop.{Stop}
 use Rattle.isdb_tlv.specs.declared.cut.Stop.TheVariants.{Clean, Bad, Refused}
 use Rattle.isdb_text.specs.Text.{ascii}
 use Rattle.isdb_text.specs.Fill.{filled}
+use Rattle.isdb_mmt.specs.Formats.Maybe.{given}
 
 abbrev pub heading : List ℕ
 heading = ascii "id packets lost scrambled mfus dropped held malformed\n"
@@ -23,18 +19,18 @@ unfoldable pub media_line : ℕ → MediaState → List ℕ
 media_line id m =
     filled (ascii "# # # # # # # #\n")
     (id ∷ m.stats.packets ∷ m.stats.packets_lost ∷ m.stats.scrambled_packets ∷ m.stats.mfus ∷ m.stats.mfus_dropped
-    ∷ given_u32 m.held ∷ m.stats.malformed ∷ [])
+    ∷ given m.held ∷ m.stats.malformed ∷ [])
 
 -- the line of a media id, by what is read of it
-abbrev pub media_text : ℕ → MediaReading → List ℕ
-media_text id (the_media m) = media_line id m
-media_text id no_media = []
-media_text id (media_refused n) = []
+abbrev pub media_text : ℕ → Result (Option MediaState) Refusal → List ℕ
+media_text id (Ok (Some m)) = media_line id m
+media_text id (Ok None) = []
+media_text id (Err e) = []
 
-abbrev pub line_and_above : Session → (ℕ → List ℕ) → NameReading → List ℕ
-line_and_above s above (Name id) = media_text id (media_read s id) ++ above (id + 1)
-line_and_above s above no_name_of = []
-line_and_above s above (name_refused n) = []
+abbrev pub line_and_above : Session → (ℕ → List ℕ) → Result (Option ℕ) Refusal → List ℕ
+line_and_above s above (Ok (Some id)) = media_text id (media_read s id) ++ above (id + 1)
+line_and_above s above (Ok None) = []
+line_and_above s above (Err e) = []
 
 -- the lines of the media ids from `a` on, in ascending order: the next one's, then those above it, `k` at most
 unfoldable pub media_lines_from : ℕ → Session → ℕ → List ℕ
@@ -51,10 +47,10 @@ stop_text (Bad offset) = filled (ascii "bad #\n") (offset ∷ [])
 stop_text (Refused number) = filled (ascii "refused #\n") (number ∷ [])
 
 -- the last line: three counts, and where reading stopped; counts that cannot be read are 0, with the number
-abbrev pub last_line : CountersReading → Stop → List ℕ
-last_line (the_counters c) stop =
+abbrev pub last_line : Result Counters Refusal → Stop → List ℕ
+last_line (Ok c) stop =
     filled (ascii "tlv # ip # other # end ") (c.tlv_packets ∷ c.ip_errors ∷ c.non_mmtp ∷ []) ++ stop_text stop
-last_line (counters_refused n) stop = ascii "tlv 0 ip 0 other 0 end " ++ stop_text (Refused n)
+last_line (Err e) stop = ascii "tlv 0 ip 0 other 0 end " ++ stop_text (Refused (number_of e))
 
 unfoldable pub listing_of : Session → Stop → List ℕ
 listing_of s stop = heading ++ (media_lines s ++ last_line (counters_read s) stop)

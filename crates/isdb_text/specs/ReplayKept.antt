@@ -1,8 +1,10 @@
 -- The line of a kept table as `replay` writes it: which it is, and its bytes.
 use Rattle.std.specs.Prelude.{ℕ, List, [], ◌∷◌, ◌++◌}
+use Rattle.std.specs.Prelude.{Option, Some, None, Result, Ok, Err}
+use Rattle.isdb_mmt.specs.declared.decoder.refusal.Refusal.{Refusal}
+use Rattle.isdb_mmt.specs.declared.part.Part.{Part}
+use Rattle.isdb_mmt.specs.Memory.Refusals.{number_of}
 use Rattle.isdb_mmt.specs.Formats.Part.{part_of}
-use Rattle.isdb_mmt.specs.declared.decoder.readings.TableReading.{TableReading}
-use Rattle.isdb_mmt.specs.declared.decoder.readings.TableReading.TheVariants.{Refused as table_refused, Nothing as no_table_of, Bytes as the_bytes}
 use Rattle.isdb_text.specs.declared.kept_tables.Table.{Table}
 use Rattle.isdb_text.specs.declared.kept_tables.Table.TheVariants.{Mpt, Plt, Section, Tot}
 use Rattle.isdb_text.specs.Text.{ascii, bytes_as_hex}
@@ -18,7 +20,7 @@ unfoldable pub bytes_line : Table → List ℕ → List ℕ
 bytes_line t s = name_text t ++ (bytes_as_hex s ++ ascii "\n")
 
 -- by what is read of it, a part of `s`; none where it is not kept
-abbrev pub reading_line : Table → TableReading → List ℕ → List ℕ
-reading_line t (the_bytes p) s = bytes_line t (part_of s p)
-reading_line t no_table_of s = []
-reading_line t (table_refused n) s = filled (ascii "kept refused #\n") (n ∷ [])
+abbrev pub reading_line : Table → Result (Option Part) Refusal → List ℕ → List ℕ
+reading_line t (Ok (Some p)) s = bytes_line t (part_of s p)
+reading_line t (Ok None) s = []
+reading_line t (Err e) s = filled (ascii "kept refused #\n") (number_of e ∷ [])

@@ -14,41 +14,40 @@ ghost use Rattle.isdb_text.specs.DumpDescriptors.{comma as comma_of};
 
 use crate::{fill, text};
 use isdb_mmt::desc::{Descriptor, GenreStep, Language, ServiceStep, Step};
-use isdb_mmt::location::{Location, MaybeLocation};
-use isdb_mmt::maybe::{MaybeU16, MaybeU32, MaybeU64, flag};
+use isdb_mmt::location::Location;
 use isdb_mmt::part::Part;
 use isdb_mmt::table::nit;
 use isdb_mmt::table::nit::TlvStep;
-use isdb_mmt::timestamp::{AccessUnit, AccessUnitStep, Extended, MpuStep, TimestampStep};
+use isdb_mmt::timestamp::{AccessUnit, Extended, MpuStep, TimestampStep};
 use isdb_mmt::{desc, timestamp};
 use isdb_tlv::bytes;
 use isdb_tlv::ip::Address;
 
 // Numbers that may be absent.
-pub fn maybe_u16(out: &mut [u8], at: usize, n: MaybeU16) -> usize
+pub fn maybe_u16(out: &mut [u8], at: usize, n: Option<u16>) -> usize
     ensures { Wrote out.old at (u16_text n) out.new result }
 {
     match n {
-        MaybeU16::None => text::put(out, at, b"none"),
-        MaybeU16::Some(x) => text::decimal(out, at, x as u64),
+        None => text::put(out, at, b"none"),
+        Some(x) => text::decimal(out, at, x as u64),
     }
 }
 
-pub fn maybe_u32(out: &mut [u8], at: usize, n: MaybeU32) -> usize
+pub fn maybe_u32(out: &mut [u8], at: usize, n: Option<u32>) -> usize
     ensures { Wrote out.old at (u32_text n) out.new result }
 {
     match n {
-        MaybeU32::None => text::put(out, at, b"none"),
-        MaybeU32::Some(x) => text::decimal(out, at, x as u64),
+        None => text::put(out, at, b"none"),
+        Some(x) => text::decimal(out, at, x as u64),
     }
 }
 
-pub fn maybe_u64(out: &mut [u8], at: usize, n: MaybeU64) -> usize
+pub fn maybe_u64(out: &mut [u8], at: usize, n: Option<u64>) -> usize
     ensures { Wrote out.old at (u64_text n) out.new result }
 {
     match n {
-        MaybeU64::None => text::put(out, at, b"none"),
-        MaybeU64::Some(x) => text::decimal(out, at, x),
+        None => text::put(out, at, b"none"),
+        Some(x) => text::decimal(out, at, x),
     }
 }
 
@@ -134,9 +133,10 @@ fn comma(out: &mut [u8], at: usize, first: usize, i: usize) -> usize
     ensures { Wrote out.old at (comma_of first i) out.new result }
 {
     if first < i {
-        return text::put_byte(out, at, b',');
+        text::put_byte(out, at, b',')
+    } else {
+        text::place(out, at)
     }
-    text::place(out, at)
 }
 
 // The entries of an MPU timestamp.
@@ -147,22 +147,19 @@ fn timestamps(out: &mut [u8], at: usize, b: &[u8]) -> usize
         return text::put_byte(out, at, b'-');
     }
     let mut p = text::place(out, at);
-    let mut i: usize = 0;
-    let mut left = b.len();
-    while 0 < left {
-        match timestamp::next_timestamp(b, i) {
-            TimestampStep::End => return p,
-            TimestampStep::Timestamp {
-                mpu_sequence_number: mpu,
-                presentation_time: time,
-                next,
-            } => {
-                p = comma(out, p, 0, i);
-                p = fill::fill(out, p, b"#:%%%%%%%%%%%%%%%%", &[mpu as u64, time]);
-                i = next;
-            }
-        }
-        left -= 1;
+    let mut i = 0;
+    for _ in 0..b.len() {
+        let TimestampStep::Timestamp {
+            mpu_sequence_number: mpu,
+            presentation_time: time,
+            next,
+        } = timestamp::next_timestamp(b, i)
+        else {
+            break;
+        };
+        p = comma(out, p, 0, i);
+        p = fill::fill(out, p, b"#:%%%%%%%%%%%%%%%%", &[mpu as u64, time]);
+        i = next;
     }
     p
 }
@@ -175,22 +172,19 @@ pub fn services(out: &mut [u8], at: usize, b: &[u8]) -> usize
         return text::put_byte(out, at, b'-');
     }
     let mut p = text::place(out, at);
-    let mut i: usize = 0;
-    let mut left = b.len();
-    while 0 < left {
-        match desc::next_service(b, i) {
-            ServiceStep::End => return p,
-            ServiceStep::Service {
-                service_id: id,
-                service_type: kind,
-                next,
-            } => {
-                p = comma(out, p, 0, i);
-                p = fill::fill(out, p, b"#:#", &[id as u64, kind as u64]);
-                i = next;
-            }
-        }
-        left -= 1;
+    let mut i = 0;
+    for _ in 0..b.len() {
+        let ServiceStep::Service {
+            service_id: id,
+            service_type: kind,
+            next,
+        } = desc::next_service(b, i)
+        else {
+            break;
+        };
+        p = comma(out, p, 0, i);
+        p = fill::fill(out, p, b"#:#", &[id as u64, kind as u64]);
+        i = next;
     }
     p
 }
@@ -203,23 +197,20 @@ fn genres(out: &mut [u8], at: usize, b: &[u8]) -> usize
         return text::put_byte(out, at, b'-');
     }
     let mut p = text::place(out, at);
-    let mut i: usize = 0;
-    let mut left = b.len();
-    while 0 < left {
-        match desc::next_genre(b, i) {
-            GenreStep::End => return p,
-            GenreStep::Genre {
-                level_1: x,
-                level_2: y,
-                user,
-                next,
-            } => {
-                p = comma(out, p, 0, i);
-                p = fill::fill(out, p, b"#:#:#", &[x as u64, y as u64, user as u64]);
-                i = next;
-            }
-        }
-        left -= 1;
+    let mut i = 0;
+    for _ in 0..b.len() {
+        let GenreStep::Genre {
+            level_1: x,
+            level_2: y,
+            user,
+            next,
+        } = desc::next_genre(b, i)
+        else {
+            break;
+        };
+        p = comma(out, p, 0, i);
+        p = fill::fill(out, p, b"#:#:#", &[x as u64, y as u64, user as u64]);
+        i = next;
     }
     p
 }
@@ -240,18 +231,14 @@ fn access_units(out: &mut [u8], at: usize, units: &[u8], e: Extended) -> usize
         return text::put_byte(out, at, b'-');
     }
     let mut p = text::place(out, at);
-    let mut i: usize = 0;
-    let mut left = units.len();
-    while 0 < left {
-        match timestamp::next_access_unit(units, e, i) {
-            AccessUnitStep::End => return p,
-            AccessUnitStep::Unit(u, next) => {
-                p = comma(out, p, 0, i);
-                p = access_unit(out, p, u);
-                i = next;
-            }
-        }
-        left -= 1;
+    let mut i = 0;
+    for _ in 0..units.len() {
+        let Some((u, next)) = timestamp::next_access_unit(units, e, i) else {
+            break;
+        };
+        p = comma(out, p, 0, i);
+        p = access_unit(out, p, u);
+        i = next;
     }
     p
 }
@@ -283,25 +270,22 @@ fn mpus(out: &mut [u8], at: usize, b: &[u8], e: Extended) -> usize
     }
     let mut p = text::place(out, at);
     let mut i = start;
-    let mut left = b.len();
-    while 0 < left {
+    for _ in 0..b.len() {
         match timestamp::next_mpu(b, e.own_pts_offset, i) {
-            MpuStep::End => return p,
-            MpuStep::Broken => return p,
+            MpuStep::End | MpuStep::Broken => break,
             MpuStep::Mpu {
                 mpu_sequence_number: mpu,
                 leap_indicator: leap,
                 decoding_time_offset: offset,
-                access_units: _,
                 units,
                 next,
+                ..
             } => {
                 p = comma(out, p, start, i);
                 p = mpu_text(out, p, mpu, leap, offset, units.of(b), e);
                 i = next;
             }
         }
-        left -= 1;
     }
     p
 }
@@ -319,16 +303,16 @@ fn extended(out: &mut [u8], at: usize, b: &[u8], e: Extended) -> usize
     mpus(out, p, b, e)
 }
 
-fn ca_location(out: &mut [u8], at: usize, b: &[u8], l: MaybeLocation) -> usize
+fn ca_location(out: &mut [u8], at: usize, b: &[u8], l: Option<Location>) -> usize
     ensures { Wrote out.old at (ca_location_text b.now l) out.new result }
 {
     match l {
-        MaybeLocation::None => text::put(out, at, b"none"),
-        MaybeLocation::Some(l) => location(out, at, b, l),
+        None => text::put(out, at, b"none"),
+        Some(l) => location(out, at, b, l),
     }
 }
 
-fn access_control(out: &mut [u8], at: usize, b: &[u8], ca: u16, l: MaybeLocation) -> usize
+fn access_control(out: &mut [u8], at: usize, b: &[u8], ca: u16, l: Option<Location>) -> usize
     ensures { Wrote out.old at (access_control_text b.now ca l) out.new result }
 {
     let p = fill::fill(out, at, b"access_control # location ", &[ca as u64]);
@@ -390,10 +374,11 @@ fn content(out: &mut [u8], at: usize, b: &[u8]) -> usize
     genres(out, p, b)
 }
 
+#[tactic(auto, unfolding(crate::specs::DumpDescriptors::hevc_text))]
 fn hevc(out: &mut [u8], at: usize, profile: u8, tier: bool, level: u8) -> usize
     ensures { Wrote out.old at (hevc_text profile tier level) out.new result }
 {
-    let values = [profile as u64, flag(tier), level as u64];
+    let values = [profile as u64, u64::from(tier), level as u64];
     fill::fill(out, at, b"hevc # # #", &values)
 }
 
@@ -458,39 +443,39 @@ pub fn descriptors(out: &mut [u8], at: usize, pad: &[u8], b: &[u8]) -> usize
     ensures { Wrote out.old at (descriptors_text pad.now b.now) out.new result }
 {
     let mut p = text::place(out, at);
-    let mut i: usize = 0;
-    let mut left = b.len();
-    while 0 < left {
+    let mut i = 0;
+    for _ in 0..b.len() {
         match desc::next(b, i) {
-            Step::End => return p,
-            Step::Broken(_) => return p,
+            Step::End | Step::Broken(_) => break,
             Step::Raw { tag, body, next } => {
                 p = descriptor_line(out, p, pad, tag, body.of(b));
                 i = next;
             }
         }
-        left -= 1;
     }
     p
 }
 
 // What the body of a TLV-SI descriptor says, by its tag.
+#[tactic(auto, unfolding(crate::specs::DumpDescriptors::tlv_text))]
 fn tlv_text(out: &mut [u8], at: usize, tag: u8, b: &[u8]) -> usize
     ensures { Wrote out.old at (tlv_text tag b.now) out.new result }
 {
-    if tag == 0x41 {
-        let p = text::put(out, at, b" service_list ");
-        return services(out, p, b);
+    match tag {
+        0x41 => {
+            let p = text::put(out, at, b" service_list ");
+            services(out, p, b)
+        }
+        0x40 => {
+            let p = text::put(out, at, b" network_name ");
+            text::hex(out, p, b)
+        }
+        0x43 => {
+            let p = text::put(out, at, b" frequency_khz ");
+            maybe_u64(out, p, nit::satellite_frequency_khz(tag, b))
+        }
+        _ => text::place(out, at),
     }
-    if tag == 0x40 {
-        let p = text::put(out, at, b" network_name ");
-        return text::hex(out, p, b);
-    }
-    if tag == 0x43 {
-        let p = text::put(out, at, b" frequency_khz ");
-        return maybe_u64(out, p, nit::satellite_frequency_khz(tag, b));
-    }
-    text::place(out, at)
 }
 
 fn tlv_line(out: &mut [u8], at: usize, pad: &[u8], tag: u8, b: &[u8]) -> usize
@@ -508,17 +493,13 @@ pub fn tlv_descriptors(out: &mut [u8], at: usize, pad: &[u8], b: &[u8]) -> usize
     ensures { Wrote out.old at (tlvs_text pad.now b.now) out.new result }
 {
     let mut p = text::place(out, at);
-    let mut i: usize = 0;
-    let mut left = b.len();
-    while 0 < left {
-        match nit::next_tlv(b, i) {
-            TlvStep::End => return p,
-            TlvStep::Descriptor { tag, body, next } => {
-                p = tlv_line(out, p, pad, tag, body.of(b));
-                i = next;
-            }
-        }
-        left -= 1;
+    let mut i = 0;
+    for _ in 0..b.len() {
+        let TlvStep::Descriptor { tag, body, next } = nit::next_tlv(b, i) else {
+            break;
+        };
+        p = tlv_line(out, p, pad, tag, body.of(b));
+        i = next;
     }
     p
 }

@@ -4,18 +4,18 @@ ghost use Rattle.isdb_text.specs.DumpKept.{section_text, table_text, reading_tex
 
 use crate::kept_tables::Table;
 use crate::{dump_tables, text};
-use isdb_mmt::decoder::readings::TableReading;
+use isdb_mmt::decoder::refusal::Refusal;
+use isdb_mmt::part::Part;
 
 // By the table id of the key; every other than these is one of an EIT.
+#[tactic(auto, unfolding(crate::specs::DumpKept::section_text))]
 fn section_lines(out: &mut [u8], at: usize, key: u32, b: &[u8]) -> usize
     ensures { Wrote out.old at (section_text key b.now) out.new result }
 {
     match key / 16777216 {
         0x9D => dump_tables::bit_lines(out, at, key, b),
-        0x9F => dump_tables::sdt_lines(out, at, key, b),
-        0xA0 => dump_tables::sdt_lines(out, at, key, b),
-        0x40 => dump_tables::nit_lines(out, at, key, b),
-        0x41 => dump_tables::nit_lines(out, at, key, b),
+        0x9F | 0xA0 => dump_tables::sdt_lines(out, at, key, b),
+        0x40 | 0x41 => dump_tables::nit_lines(out, at, key, b),
         0xFE => dump_tables::amt_lines(out, at, key, b),
         _ => dump_tables::eit_lines(out, at, key, b),
     }
@@ -37,14 +37,13 @@ pub fn reading_lines(
     out: &mut [u8],
     at: usize,
     table: Table,
-    r: TableReading,
+    r: Result<Option<Part>, Refusal>,
     tables: &[u8],
 ) -> usize
     ensures { Wrote out.old at (reading_text table r tables.now) out.new result }
 {
     match r {
-        TableReading::Bytes(p) => table_lines(out, at, table, p.of(tables)),
-        TableReading::Nothing => text::place(out, at),
-        TableReading::Refused(_) => text::place(out, at),
+        Ok(Some(p)) => table_lines(out, at, table, p.of(tables)),
+        Ok(None) | Err(_) => text::place(out, at),
     }
 }

@@ -30,9 +30,7 @@ fn halt_number(h: Halt) -> u8
     ensures { result ≡ halt_number h }
 {
     match h {
-        Halt::End => 0,
-        Halt::Short => 0,
-        Halt::Bad => 0,
+        Halt::End | Halt::Short | Halt::Bad => 0,
         Halt::Full => 10,
         Halt::Refused(n) => n,
     }
@@ -42,11 +40,8 @@ fn first_told(h: Halt) -> usize
     ensures { result ≡ first_told h }
 {
     match h {
-        Halt::End => 0,
-        Halt::Short => 0,
-        Halt::Bad => 0,
-        Halt::Full => 1,
-        Halt::Refused(_) => 1,
+        Halt::End | Halt::Short | Halt::Bad => 0,
+        Halt::Full | Halt::Refused(_) => 1,
     }
 }
 
@@ -63,18 +58,21 @@ pub fn start() -> Progress
 }
 
 // How many packets of a call are to be written.
+#[tactic(auto, unfolding(crate::specs::DumpPackets::told_of))]
 pub fn told(a: Pushes) -> usize
     ensures { result ≡ told_of a }
 {
     let x = a.progress;
     let h = a.halt;
     if x.packets == 0 {
-        return first_told(h);
+        first_told(h)
+    } else {
+        x.packets
     }
-    x.packets
 }
 
 // The answer to a packet of a call.
+#[tactic(auto, unfolding(crate::specs::DumpPackets::answer_of))]
 pub fn answer(lines: &[u8], a: Pushes, k: usize) -> Answer
     ensures { result ≡ answer_of a lines.now k }
 {
@@ -105,13 +103,12 @@ fn next_place(c: Cut, at: usize) -> usize
             length,
             next,
         } => next,
-        Cut::End => at,
-        Cut::Short => at,
-        Cut::Bad => at,
+        Cut::End | Cut::Short | Cut::Bad => at,
     }
 }
 
 // Where the packet behind this one stands.
+#[tactic(auto, unfolding(crate::specs::DumpPackets::behind_of))]
 pub fn behind(input: &[u8], most: usize, lines: &[u8], a: Pushes, x: Progress) -> Progress
     ensures { result ≡ behind_of input.now most lines.now a x }
 {
@@ -125,6 +122,7 @@ pub fn behind(input: &[u8], most: usize, lines: &[u8], a: Pushes, x: Progress) -
 }
 
 // A packet's own line. The first of the call has the number first.
+#[tactic(auto, unfolding(crate::specs::DumpPackets::packet_of))]
 pub fn packet_line(
     out: &mut [u8],
     at: usize,
@@ -146,13 +144,12 @@ pub fn packet_line(
             length,
             next,
         } => dump_session::packet_line(out, at, number, kind, length as u64, y),
-        Cut::End => text::place(out, at),
-        Cut::Short => text::place(out, at),
-        Cut::Bad => text::place(out, at),
+        Cut::End | Cut::Short | Cut::Bad => text::place(out, at),
     }
 }
 
 // The line of a record of the call, one of those that the packet at x handed out.
+#[tactic(auto, unfolding(crate::specs::DumpPackets::record_of))]
 pub fn record_line(
     out: &mut [u8],
     at: usize,

@@ -1,7 +1,7 @@
 // What a packet gave, and what a session holds beside its tables, as `feeddump` writes them.
 ghost use Rattle.std.specs.Prelude.{◌≡◌, ◌*◌, ◌<◌, ◌≤◌, [], ◌∷◌, length};
 ghost use Rattle.isdb_mmt.specs.Memory.Layout.{most_control_ids, most_message_area};
-ghost use Rattle.isdb_mmt.specs.Memory.Opening.{lent};
+ghost use Rattle.isdb_mmt.specs.Memory.Lending.{lent_by};
 ghost use Rattle.isdb_mmt.specs.Memory.Lent.{flag as flag_at};
 ghost use Rattle.isdb_text.specs.Text.{Wrote, ascii};
 ghost use Rattle.isdb_text.specs.Fill.{filled};
@@ -17,15 +17,17 @@ ghost use Rattle.isdb_text.specs.DumpSession.{feed_lines, session_lines};
 use crate::{fill, text};
 use isdb_mmt::decoder::counts::{AssetStats, Counters};
 use isdb_mmt::decoder::readings::{
-    AssetReading, CarriedAsset, ControlReading, CountReading, CountersReading, HeldObject,
-    HeldReading, MaybeRange, MediaReading, MediaState, NameReading, TimeReading,
+    CarriedAsset, ControlState, Held, HeldObject, MediaState, MpuRange,
 };
+use isdb_mmt::decoder::records;
 use isdb_mmt::decoder::records::Answer;
-use isdb_mmt::decoder::{ids, kept, readings, records};
+use isdb_mmt::decoder::refusal::Refusal;
+use isdb_mmt::decoder::session::Session;
 use isdb_mmt::{maybe, ntp};
 use isdb_tlv::{bytes, crc};
 
 // What a push answered to the packet with this number.
+#[tactic(auto, unfolding(crate::specs::DumpSession::packet_line))]
 pub fn packet_line(out: &mut [u8], at: usize, number: u64, kind: u8, n: u64, a: Answer) -> usize
     ensures { Wrote out.old at (packet_line number kind n a) out.new result }
 {
@@ -43,6 +45,7 @@ pub fn packet_line(out: &mut [u8], at: usize, number: u64, kind: u8, n: u64, a: 
 }
 
 // The number and the CRC of some bytes, at a line's end.
+#[tactic(auto, unfolding(crate::specs::DumpSession::data_text))]
 pub fn data_text(out: &mut [u8], at: usize, mfu: &[u8]) -> usize
     ensures { Wrote out.old at (data_text mfu.now) out.new result }
 {
@@ -119,16 +122,16 @@ fn message_counters(out: &mut [u8], at: usize, c: Counters) -> usize
     fill::fill(out, p, b"counter split_errors #\n", &[c.split_errors])
 }
 
-fn counter_lines(out: &mut [u8], at: usize, r: CountersReading) -> usize
+fn counter_lines(out: &mut [u8], at: usize, r: Result<Counters, Refusal>) -> usize
     ensures { Wrote out.old at (counter_lines r) out.new result }
 {
     match r {
-        CountersReading::Counters(c) => {
+        Ok(c) => {
             let p = feed_counters(out, at, c);
             let q = table_counters(out, p, c);
             message_counters(out, q, c)
         }
-        CountersReading::Refused(_) => text::place(out, at),
+        Err(_) => text::place(out, at),
     }
 }
 
@@ -137,17 +140,18 @@ fn unix_bits(t: u64) -> u64
     ensures { result ≡ unix_bits t }
 {
     let x = ntp::ntp_to_unix(t);
-    if x == x {
-        return f64::to_bits(x);
+    if x.is_nan() {
+        0x7FF8_0000_0000_0000
+    } else {
+        x.to_bits()
     }
-    0x7FF8_0000_0000_0000
 }
 
-fn ntp_line(out: &mut [u8], at: usize, r: TimeReading) -> usize
+fn ntp_line(out: &mut [u8], at: usize, r: Result<Option<u64>, Refusal>) -> usize
     ensures { Wrote out.old at (ntp_line r) out.new result }
 {
     match r {
-        TimeReading::Timestamp(t) => {
+        Ok(Some(t)) => {
             let values = [t, unix_bits(t)];
             fill::fill(
                 out,
@@ -156,8 +160,8 @@ fn ntp_line(out: &mut [u8], at: usize, r: TimeReading) -> usize
                 &values,
             )
         }
-        TimeReading::Nothing => text::put(out, at, b"ntp none\n"),
-        TimeReading::Refused(_) => text::place(out, at),
+        Ok(None) => text::put(out, at, b"ntp none\n"),
+        Err(_) => text::place(out, at),
     }
 }
 
@@ -192,12 +196,12 @@ fn stats_line(out: &mut [u8], at: usize, id: u32, s: AssetStats) -> usize
     )
 }
 
-fn range_line(out: &mut [u8], at: usize, id: u32, r: MaybeRange) -> usize
+fn range_line(out: &mut [u8], at: usize, id: u32, r: Option<MpuRange>) -> usize
     ensures { Wrote out.old at (range_line id r) out.new result }
 {
     match r {
-        MaybeRange::None => fill::fill(out, at, b"media # mpu_range none\n", &[id as u64]),
-        MaybeRange::Some(x) => {
+        None => fill::fill(out, at, b"media # mpu_range none\n", &[id as u64]),
+        Some(x) => {
             let values = [id as u64, x.first as u64, x.last as u64];
             fill::fill(out, at, b"media # mpu_range # #\n", &values)
         }
@@ -212,17 +216,20 @@ fn state_lines(out: &mut [u8], at: usize, id: u32, m: MediaState) -> usize
     let sequence = m.sequence;
     let p = stats_line(out, at, id, stats);
     let q = range_line(out, p, id, range);
-    let values = [id as u64, sequence.given(), sequence.or_zero() as u64];
+    let values = [
+        id as u64,
+        maybe::given(sequence),
+        sequence.unwrap_or(0) as u64,
+    ];
     fill::fill(out, q, b"media # last_sequence ?\n", &values)
 }
 
-fn media_lines(out: &mut [u8], at: usize, id: u32, r: MediaReading) -> usize
+fn media_lines(out: &mut [u8], at: usize, id: u32, r: Result<Option<MediaState>, Refusal>) -> usize
     ensures { Wrote out.old at (media_lines id r) out.new result }
 {
     match r {
-        MediaReading::Media(m) => state_lines(out, at, id, m),
-        MediaReading::Nothing => text::place(out, at),
-        MediaReading::Refused(_) => text::place(out, at),
+        Ok(Some(m)) => state_lines(out, at, id, m),
+        Ok(None) | Err(_) => text::place(out, at),
     }
 }
 
@@ -236,14 +243,13 @@ fn object_line(out: &mut [u8], at: usize, id: u32, o: HeldObject, objects: &[u8]
     record_text(out, p, &row, b.of(objects))
 }
 
-fn held_line(out: &mut [u8], at: usize, id: u32, r: HeldReading, objects: &[u8]) -> usize
+fn held_line(out: &mut [u8], at: usize, id: u32, r: Result<Held, Refusal>, objects: &[u8]) -> usize
     ensures { Wrote out.old at (held_line id r objects.now) out.new result }
 {
     match r {
-        HeldReading::Object(o) => object_line(out, at, id, o, objects),
-        HeldReading::Nothing => fill::fill(out, at, b"media # held none\n", &[id as u64]),
-        HeldReading::NoId => text::place(out, at),
-        HeldReading::Refused(_) => text::place(out, at),
+        Ok(Held::Object(o)) => object_line(out, at, id, o, objects),
+        Ok(Held::NoObject) => fill::fill(out, at, b"media # held none\n", &[id as u64]),
+        Ok(Held::NoId) | Err(_) => text::place(out, at),
     }
 }
 
@@ -256,8 +262,8 @@ fn carried_line(out: &mut [u8], at: usize, id: u32, a: CarriedAsset, tables: &[u
     let i = x.asset_id;
     let values = [
         id as u64,
-        service.given(),
-        service.or_zero() as u64,
+        maybe::given(service),
+        service.unwrap_or(0) as u64,
         x.asset_type as u64,
     ];
     let p = fill::fill(
@@ -270,65 +276,54 @@ fn carried_line(out: &mut [u8], at: usize, id: u32, a: CarriedAsset, tables: &[u
     text::put_byte(out, q, b'\n')
 }
 
-fn asset_line(out: &mut [u8], at: usize, id: u32, r: AssetReading, tables: &[u8]) -> usize
+fn asset_line(
+    out: &mut [u8],
+    at: usize,
+    id: u32,
+    r: Result<Option<CarriedAsset>, Refusal>,
+    tables: &[u8],
+) -> usize
     ensures { Wrote out.old at (asset_line id r tables.now) out.new result }
 {
     match r {
-        AssetReading::Asset(a) => carried_line(out, at, id, a, tables),
-        AssetReading::Nothing => fill::fill(out, at, b"media # asset_of none\n", &[id as u64]),
-        AssetReading::Refused(_) => text::place(out, at),
+        Ok(Some(a)) => carried_line(out, at, id, a, tables),
+        Ok(None) => fill::fill(out, at, b"media # asset_of none\n", &[id as u64]),
+        Err(_) => text::place(out, at),
     }
 }
 
 // The five lines of a media id. Packet ids have 16 bits.
-fn media_text(
-    state: &[u8],
-    others: &[u64; 256],
-    objects: &[u8],
-    messages: &[u8],
-    tables: &[u8],
-    id: u32,
-    out: &mut [u8],
-    at: usize,
-) -> usize
-    ensures { Wrote out.old at (media_text (lent state.now others.now objects.now messages.now tables.now) id) out.new result }
+fn media_text(session: Session<'_>, id: u32, out: &mut [u8], at: usize) -> usize
+    ensures { Wrote out.old at (media_text (lent_by session.entry) id) out.new result }
 {
-    let m = ids::media(state, others, objects, messages, tables, id);
-    let h = ids::held(state, others, objects, messages, tables, id);
+    let m = session.media(id);
+    let h = session.held(id);
     let packet_id = (id % 65536) as u16;
-    let a = kept::asset_of(state, others, objects, messages, tables, packet_id);
+    let a = session.asset_of(packet_id);
     let p = media_lines(out, at, id, m);
-    let q = held_line(out, p, id, h, objects);
-    asset_line(out, q, id, a, tables)
+    let q = held_line(out, p, id, h, session.objects);
+    asset_line(out, q, id, a, session.tables)
 }
 
 // The lines of all media ids, in ascending order.
-fn all_media(
-    state: &[u8],
-    others: &[u64; 256],
-    objects: &[u8],
-    messages: &[u8],
-    tables: &[u8],
-    out: &mut [u8],
-    at: usize,
-) -> usize
-    ensures { Wrote out.old at (all_media (lent state.now others.now objects.now messages.now tables.now)) out.new result }
+fn all_media(session: Session<'_>, out: &mut [u8], at: usize) -> usize
+    ensures { Wrote out.old at (all_media (lent_by session.entry)) out.new result }
 {
     let mut p = text::place(out, at);
     let mut from: u32 = 0;
     let mut left: u8 = 64;
     while 0 < left {
-        match ids::next_media(state, others, objects, messages, tables, from) {
-            NameReading::Name(id) => {
-                p = media_text(state, others, objects, messages, tables, id, out, p);
+        match session.next_media(from) {
+            Ok(Some(id)) => {
+                p = media_text(session, id, out, p);
                 if id == 4294967295 {
                     return p;
                 }
                 from = id + 1;
                 left -= 1;
             }
-            NameReading::Nothing => return p,
-            NameReading::Refused(_) => return p,
+            Ok(None) => return p,
+            Err(_) => return p,
         }
     }
     p
@@ -339,16 +334,12 @@ fn control_index(state: &[u8], id: u32) -> usize
     ensures { result ≡ control_index state.now id }
 {
     let n = bytes::get_u32(state, 61) as usize;
-    let mut i: usize = 0;
-    let mut p: usize = 7864;
-    while i < n {
-        if bytes::get_u32(state, p) == id {
+    for i in 0..n {
+        if bytes::get_u32(state, 7864 + 21 * i) == id {
             return i;
         }
-        p += 21;
-        i += 1;
     }
-    i
+    n
 }
 
 fn flag(p: &[u8], at: usize) -> bool
@@ -362,8 +353,8 @@ fn joined_line(out: &mut [u8], at: usize, id: u32, place: &[u8], area: &[u8]) ->
     ensures { Wrote out.old at (joined_line id place.now area.now) out.new result }
 {
     if flag(place, 9) {
-        let long = maybe::flag(flag(place, 10));
-        let aggregated = maybe::flag(flag(place, 11));
+        let long = u64::from(flag(place, 10));
+        let aggregated = u64::from(flag(place, 11));
         let length = bytes::get_u32(place, 12) as usize;
         let values = [id as u64, long, aggregated];
         let p = fill::fill(
@@ -408,155 +399,114 @@ fn message_line(
     joined_line(out, at, id, place, area)
 }
 
-fn control_line(out: &mut [u8], at: usize, id: u32, r: ControlReading) -> usize
+fn control_line(
+    out: &mut [u8],
+    at: usize,
+    id: u32,
+    r: Result<Option<ControlState>, Refusal>,
+) -> usize
     ensures { Wrote out.old at (control_line id r) out.new result }
 {
     match r {
-        ControlReading::Control(c) => {
+        Ok(Some(c)) => {
             let sequence = c.sequence;
-            let values = [id as u64, sequence.given(), sequence.or_zero() as u64];
+            let values = [
+                id as u64,
+                maybe::given(sequence),
+                sequence.unwrap_or(0) as u64,
+            ];
             fill::fill(out, at, b"control # last_sequence ?\n", &values)
         }
-        ControlReading::Nothing => text::place(out, at),
-        ControlReading::Refused(_) => text::place(out, at),
+        Ok(None) | Err(_) => text::place(out, at),
     }
 }
 
 // The two lines of a control id.
-fn control_text(
-    state: &[u8],
-    others: &[u64; 256],
-    objects: &[u8],
-    messages: &[u8],
-    tables: &[u8],
-    id: u32,
-    out: &mut [u8],
-    at: usize,
-) -> usize
-    ensures { Wrote out.old at (control_text (lent state.now others.now objects.now messages.now tables.now) id) out.new result }
+fn control_text(session: Session<'_>, id: u32, out: &mut [u8], at: usize) -> usize
+    ensures { Wrote out.old at (control_text (lent_by session.entry) id) out.new result }
 {
-    let c = ids::control(state, others, objects, messages, tables, id);
-    let i = control_index(state, id);
+    let c = session.control(id);
+    let i = control_index(session.state, id);
     let p = control_line(out, at, id, c);
-    message_line(out, p, id, i, state, messages)
+    message_line(out, p, id, i, session.state, session.messages)
 }
 
 // The lines of all control ids, in ascending order.
-fn all_controls(
-    state: &[u8],
-    others: &[u64; 256],
-    objects: &[u8],
-    messages: &[u8],
-    tables: &[u8],
-    out: &mut [u8],
-    at: usize,
-) -> usize
-    ensures { Wrote out.old at (all_controls (lent state.now others.now objects.now messages.now tables.now)) out.new result }
+fn all_controls(session: Session<'_>, out: &mut [u8], at: usize) -> usize
+    ensures { Wrote out.old at (all_controls (lent_by session.entry)) out.new result }
 {
     let mut p = text::place(out, at);
     let mut from: u32 = 0;
     let mut left: u8 = 32;
     while 0 < left {
-        match ids::next_control(state, others, objects, messages, tables, from) {
-            NameReading::Name(id) => {
-                p = control_text(state, others, objects, messages, tables, id, out, p);
+        match session.next_control(from) {
+            Ok(Some(id)) => {
+                p = control_text(session, id, out, p);
                 if id == 4294967295 {
                     return p;
                 }
                 from = id + 1;
                 left -= 1;
             }
-            NameReading::Nothing => return p,
-            NameReading::Refused(_) => return p,
+            Ok(None) => return p,
+            Err(_) => return p,
         }
     }
     p
 }
 
-fn other_line(out: &mut [u8], at: usize, id: u8, r: CountReading) -> usize
+fn other_line(out: &mut [u8], at: usize, id: u8, r: Result<u64, Refusal>) -> usize
     ensures { Wrote out.old at (other_line id r) out.new result }
 {
     match r {
-        CountReading::Count(n) => {
+        Ok(n) => {
             if n == 0 {
-                return text::place(out, at);
+                text::place(out, at)
+            } else {
+                fill::fill(out, at, b"other 0x%% #\n", &[id as u64, n])
             }
-            let values = [id as u64, n];
-            fill::fill(out, at, b"other 0x%% #\n", &values)
         }
-        CountReading::Refused(_) => text::place(out, at),
+        Err(_) => text::place(out, at),
     }
 }
 
-fn other_text(
-    state: &[u8],
-    others: &[u64; 256],
-    objects: &[u8],
-    messages: &[u8],
-    tables: &[u8],
-    id: u8,
-    out: &mut [u8],
-    at: usize,
-) -> usize
-    ensures { Wrote out.old at (other_text (lent state.now others.now objects.now messages.now tables.now) id) out.new result }
+#[tactic(auto, unfolding(crate::specs::DumpSession::other_text))]
+fn other_text(session: Session<'_>, id: u8, out: &mut [u8], at: usize) -> usize
+    ensures { Wrote out.old at (other_text (lent_by session.entry) id) out.new result }
 {
-    let n = readings::table_count(state, others, objects, messages, tables, id);
+    let n = session.table_count(id);
     other_line(out, at, id, n)
 }
 
 // The counts of the tables that are not decoded, in ascending order of their ids.
-fn other_lines(
-    state: &[u8],
-    others: &[u64; 256],
-    objects: &[u8],
-    messages: &[u8],
-    tables: &[u8],
-    out: &mut [u8],
-    at: usize,
-) -> usize
-    ensures { Wrote out.old at (other_lines (lent state.now others.now objects.now messages.now tables.now)) out.new result }
+fn other_lines(session: Session<'_>, out: &mut [u8], at: usize) -> usize
+    ensures { Wrote out.old at (other_lines (lent_by session.entry)) out.new result }
 {
     let mut p = text::place(out, at);
     let mut id: u16 = 0;
     while id < 256 {
-        p = other_text(state, others, objects, messages, tables, id as u8, out, p);
+        p = other_text(session, id as u8, out, p);
         id += 1;
     }
     p
 }
 
 // The counts of the feed and its time.
-fn feed_lines(
-    state: &[u8],
-    others: &[u64; 256],
-    objects: &[u8],
-    messages: &[u8],
-    tables: &[u8],
-    out: &mut [u8],
-    at: usize,
-) -> usize
-    ensures { Wrote out.old at (feed_lines (lent state.now others.now objects.now messages.now tables.now)) out.new result }
+fn feed_lines(session: Session<'_>, out: &mut [u8], at: usize) -> usize
+    ensures { Wrote out.old at (feed_lines (lent_by session.entry)) out.new result }
 {
-    let c = readings::counters(state, others, objects, messages, tables);
-    let t = readings::time(state, others, objects, messages, tables);
+    let c = session.counters();
+    let t = session.time();
     let p = counter_lines(out, at, c);
     ntp_line(out, p, t)
 }
 
 // Everything that a session holds beside its tables.
-pub fn session_lines(
-    state: &[u8],
-    others: &[u64; 256],
-    objects: &[u8],
-    messages: &[u8],
-    tables: &[u8],
-    out: &mut [u8],
-    at: usize,
-) -> usize
-    ensures { Wrote out.old at (session_lines (lent state.now others.now objects.now messages.now tables.now)) out.new result }
+pub fn session_lines(session: Session<'_>, out: &mut [u8], at: usize) -> usize
+    ensures { Wrote out.old at (session_lines (lent_by session.entry)) out.new result }
 {
-    let p = feed_lines(state, others, objects, messages, tables, out, at);
-    let q = all_media(state, others, objects, messages, tables, out, p);
-    let x = all_controls(state, others, objects, messages, tables, out, q);
-    other_lines(state, others, objects, messages, tables, out, x)
+    let p = feed_lines(session, out, at);
+    let q = all_media(session, out, p);
+    let x = all_controls(session, out, q);
+    other_lines(session, out, x)
 }

@@ -15,21 +15,21 @@ use crate::dump_descriptors::{
     address, descriptors, location, maybe_u16, part_hex, tlv_descriptors,
 };
 use crate::{fill, text};
-use isdb_mmt::location::{Located, Location};
-use isdb_mmt::maybe::flag;
-use isdb_mmt::table::amt::{Amt, AmtResult, AmtService, AmtStep};
-use isdb_mmt::table::bit::{Bit, BitResult, Broadcaster, BroadcasterStep};
-use isdb_mmt::table::eit::{Eit, EitResult, Event, EventStep};
-use isdb_mmt::table::mpt::{Asset, AssetStep, MaybeMpt, Mpt};
-use isdb_mmt::table::nit::{Nit, NitResult, NitStream, StreamStep};
-use isdb_mmt::table::plt::{DeliveryStep, MaybePlt, Package, PackageStep, Plt};
-use isdb_mmt::table::sdt::{Sdt, SdtResult, SdtService, SdtStep};
+use isdb_mmt::location::Location;
+use isdb_mmt::table::amt::{Amt, AmtService};
+use isdb_mmt::table::bit::{Bit, Broadcaster, BroadcasterStep};
+use isdb_mmt::table::eit::{Eit, Event, EventStep};
+use isdb_mmt::table::mpt::{Asset, Mpt};
+use isdb_mmt::table::nit::{Nit, NitStream, StreamStep};
+use isdb_mmt::table::plt::{Package, Plt};
+use isdb_mmt::table::sdt::{Sdt, SdtService, SdtStep};
 use isdb_mmt::table::section::SectionHeader;
-use isdb_mmt::table::tot::{Tot, TotResult};
+use isdb_mmt::table::tot::Tot;
 use isdb_mmt::table::{amt, bit, eit, mpt, nit, plt, sdt, tot};
 use isdb_tlv::bytes;
 
 // The key of a section's place, and the section's own header.
+#[tactic(auto, unfolding(crate::specs::DumpTables::key_text))]
 fn key_text(out: &mut [u8], at: usize, key: u32, h: SectionHeader) -> usize
     ensures { Wrote out.old at (key_text key h) out.new result }
 {
@@ -42,7 +42,7 @@ fn key_text(out: &mut [u8], at: usize, key: u32, h: SectionHeader) -> usize
         h.section_number as u64,
         h.last_section_number as u64,
         h.version as u64,
-        flag(h.current),
+        u64::from(h.current),
     ];
     fill::fill(
         out,
@@ -69,17 +69,13 @@ fn flows(out: &mut [u8], at: usize, s: &[u8], n: u16) -> usize
     ensures { Wrote out.old at (flows_text s.now n 2) out.new result }
 {
     let mut p = text::place(out, at);
-    let mut i: usize = 2;
-    let mut left = n;
-    while 0 < left {
-        match amt::service_at(s, i) {
-            AmtStep::Malformed => return p,
-            AmtStep::Service(f, next) => {
-                p = flow(out, p, f);
-                i = next;
-            }
-        }
-        left -= 1;
+    let mut i = 2;
+    for _ in 0..n {
+        let Some((f, next)) = amt::service_at(s, i) else {
+            break;
+        };
+        p = flow(out, p, f);
+        i = next;
     }
     p
 }
@@ -94,12 +90,13 @@ fn amt_table(out: &mut [u8], at: usize, key: u32, h: SectionHeader, t: Amt, s: &
 }
 
 // A kept AMT, by the key of its place.
+#[tactic(auto, unfolding(crate::specs::DumpTables::amt_text))]
 pub fn amt_lines(out: &mut [u8], at: usize, key: u32, b: &[u8]) -> usize
     ensures { Wrote out.old at (amt_text key b.now) out.new result }
 {
     match amt::parse(b) {
-        AmtResult::Err(_) => text::place(out, at),
-        AmtResult::Ok(h, t) => {
+        Err(_) => text::place(out, at),
+        Ok((h, t)) => {
             let body = h.body;
             amt_table(out, at, key, h, t, body.of(b))
         }
@@ -115,14 +112,15 @@ fn tot_table(out: &mut [u8], at: usize, b: &[u8], t: Tot) -> usize
 }
 
 // The kept TOT.
+#[tactic(auto, unfolding(crate::specs::DumpTables::tot_text))]
 pub fn tot_lines(out: &mut [u8], at: usize, b: &[u8]) -> usize
     ensures { Wrote out.old at (tot_text b.now) out.new result }
 {
     let parsed = tot::parse(b);
     let result = parsed.result;
     match result {
-        TotResult::Err(_) => text::place(out, at),
-        TotResult::Ok(t) => tot_table(out, at, b, t),
+        Err(_) => text::place(out, at),
+        Ok(t) => tot_table(out, at, b, t),
     }
 }
 
@@ -133,10 +131,10 @@ fn sdt_service(out: &mut [u8], at: usize, s: &[u8], e: SdtService) -> usize
     let values = [
         e.service_id as u64,
         e.eit_user_defined_flags as u64,
-        flag(e.eit_schedule),
-        flag(e.eit_present_following),
+        u64::from(e.eit_schedule),
+        u64::from(e.eit_present_following),
         e.running_status as u64,
-        flag(e.free_ca),
+        u64::from(e.free_ca),
     ];
     let p = fill::fill(
         out,
@@ -152,18 +150,15 @@ fn sdt_services(out: &mut [u8], at: usize, s: &[u8], n: usize) -> usize
     ensures { Wrote out.old at (services_text s.now n 3) out.new result }
 {
     let mut p = text::place(out, at);
-    let mut i: usize = 3;
-    let mut left = n;
-    while 0 < left {
+    let mut i = 3;
+    for _ in 0..n {
         match sdt::next_service(s, i) {
-            SdtStep::End => return p,
-            SdtStep::Malformed => return p,
+            SdtStep::End | SdtStep::Malformed => break,
             SdtStep::Service(e, next) => {
                 p = sdt_service(out, p, s, e);
                 i = next;
             }
         }
-        left -= 1;
     }
     p
 }
@@ -183,14 +178,15 @@ fn sdt_table(out: &mut [u8], at: usize, key: u32, h: SectionHeader, t: Sdt, s: &
 }
 
 // A kept SDT, by the key of its place.
+#[tactic(auto, unfolding(crate::specs::DumpTables::sdt_text))]
 pub fn sdt_lines(out: &mut [u8], at: usize, key: u32, b: &[u8]) -> usize
     ensures { Wrote out.old at (sdt_text key b.now) out.new result }
 {
     let parsed = sdt::parse(b);
     let result = parsed.result;
     match result {
-        SdtResult::Err(_) => text::place(out, at),
-        SdtResult::Ok(h, t) => {
+        Err(_) => text::place(out, at),
+        Ok((h, t)) => {
             let body = h.body;
             sdt_table(out, at, key, h, t, body.of(b))
         }
@@ -206,7 +202,7 @@ fn event(out: &mut [u8], at: usize, s: &[u8], e: Event) -> usize
         e.start,
         e.duration as u64,
         e.running_status as u64,
-        flag(e.free_ca),
+        u64::from(e.free_ca),
     ];
     let p = fill::fill(
         out,
@@ -222,22 +218,20 @@ fn events(out: &mut [u8], at: usize, s: &[u8], n: usize) -> usize
     ensures { Wrote out.old at (events_text s.now n 6) out.new result }
 {
     let mut p = text::place(out, at);
-    let mut i: usize = 6;
-    let mut left = n;
-    while 0 < left {
+    let mut i = 6;
+    for _ in 0..n {
         match eit::next_event(s, i) {
-            EventStep::End => return p,
-            EventStep::Malformed => return p,
+            EventStep::End | EventStep::Malformed => break,
             EventStep::Event(e, next) => {
                 p = event(out, p, s, e);
                 i = next;
             }
         }
-        left -= 1;
     }
     p
 }
 
+#[tactic(auto, unfolding(crate::specs::DumpTables::eit_fields))]
 fn eit_fields(out: &mut [u8], at: usize, t: Eit) -> usize
     ensures { Wrote out.old at (eit_fields t) out.new result }
 {
@@ -265,14 +259,15 @@ fn eit_table(out: &mut [u8], at: usize, key: u32, h: SectionHeader, t: Eit, s: &
 }
 
 // A kept EIT, by the key of its place.
+#[tactic(auto, unfolding(crate::specs::DumpTables::eit_text))]
 pub fn eit_lines(out: &mut [u8], at: usize, key: u32, b: &[u8]) -> usize
     ensures { Wrote out.old at (eit_text key b.now) out.new result }
 {
     let parsed = eit::parse(b);
     let result = parsed.result;
     match result {
-        EitResult::Err(_) => text::place(out, at),
-        EitResult::Ok(h, t) => {
+        Err(_) => text::place(out, at),
+        Ok((h, t)) => {
             let body = h.body;
             eit_table(out, at, key, h, t, body.of(b))
         }
@@ -292,18 +287,15 @@ fn broadcasters(out: &mut [u8], at: usize, s: &[u8], n: usize) -> usize
     ensures { Wrote out.old at (broadcasters_text s.now n (length12 s.now 0 + 2)) out.new result }
 {
     let mut p = text::place(out, at);
-    let mut i: usize = bytes::get_u12(s, 0) as usize + 2;
-    let mut left = n;
-    while 0 < left {
+    let mut i = bytes::get_u12(s, 0) as usize + 2;
+    for _ in 0..n {
         match bit::next_broadcaster(s, i) {
-            BroadcasterStep::End => return p,
-            BroadcasterStep::Malformed => return p,
+            BroadcasterStep::End | BroadcasterStep::Malformed => break,
             BroadcasterStep::Broadcaster(e, next) => {
                 p = broadcaster(out, p, s, e);
                 i = next;
             }
         }
-        left -= 1;
     }
     p
 }
@@ -314,21 +306,22 @@ fn bit_table(out: &mut [u8], at: usize, key: u32, h: SectionHeader, t: Bit, s: &
     let d = t.descriptors;
     let mut p = text::put(out, at, b"bit ");
     p = key_text(out, p, key, h);
-    let propriety = flag(t.broadcast_view_propriety);
+    let propriety = u64::from(t.broadcast_view_propriety);
     p = fill::fill(out, p, b" broadcast_view_propriety #\n", &[propriety]);
     p = descriptors(out, p, b"  ", d.of(s));
     broadcasters(out, p, s, t.broadcasters)
 }
 
 // A kept BIT, by the key of its place.
+#[tactic(auto, unfolding(crate::specs::DumpTables::bit_text))]
 pub fn bit_lines(out: &mut [u8], at: usize, key: u32, b: &[u8]) -> usize
     ensures { Wrote out.old at (bit_text key b.now) out.new result }
 {
     let parsed = bit::parse(b);
     let result = parsed.result;
     match result {
-        BitResult::Err(_) => text::place(out, at),
-        BitResult::Ok(h, t) => {
+        Err(_) => text::place(out, at),
+        Ok((h, t)) => {
             let body = h.body;
             bit_table(out, at, key, h, t, body.of(b))
         }
@@ -349,18 +342,15 @@ fn streams(out: &mut [u8], at: usize, s: &[u8], n: usize) -> usize
     ensures { Wrote out.old at (streams_text s.now n 0) out.new result }
 {
     let mut p = text::place(out, at);
-    let mut i: usize = 0;
-    let mut left = n;
-    while 0 < left {
+    let mut i = 0;
+    for _ in 0..n {
         match nit::next_stream(s, i) {
-            StreamStep::End => return p,
-            StreamStep::Malformed => return p,
+            StreamStep::End | StreamStep::Malformed => break,
             StreamStep::Stream(e, next) => {
                 p = stream(out, p, s, e);
                 i = next;
             }
         }
-        left -= 1;
     }
     p
 }
@@ -378,12 +368,13 @@ fn nit_table(out: &mut [u8], at: usize, key: u32, h: SectionHeader, t: Nit, s: &
 }
 
 // A kept NIT, by the key of its place.
+#[tactic(auto, unfolding(crate::specs::DumpTables::nit_text))]
 pub fn nit_lines(out: &mut [u8], at: usize, key: u32, b: &[u8]) -> usize
     ensures { Wrote out.old at (nit_text key b.now) out.new result }
 {
     match nit::parse(b) {
-        NitResult::Err(_) => text::place(out, at),
-        NitResult::Ok(h, t) => {
+        Err(_) => text::place(out, at),
+        Ok((h, t)) => {
             let body = h.body;
             nit_table(out, at, key, h, t, body.of(b))
         }
@@ -408,17 +399,13 @@ fn packages(out: &mut [u8], at: usize, s: &[u8], n: u8) -> usize
     ensures { Wrote out.old at (packages_text s.now n 5) out.new result }
 {
     let mut p = text::place(out, at);
-    let mut i: usize = 5;
-    let mut left = n;
-    while 0 < left {
-        match plt::package_at(s, i) {
-            PackageStep::Malformed => return p,
-            PackageStep::Package(k, next) => {
-                p = package(out, p, s, k);
-                i = next;
-            }
-        }
-        left -= 1;
+    let mut i = 5;
+    for _ in 0..n {
+        let Some((k, next)) = plt::package_at(s, i) else {
+            break;
+        };
+        p = package(out, p, s, k);
+        i = next;
     }
     p
 }
@@ -428,18 +415,14 @@ fn deliveries(out: &mut [u8], at: usize, s: &[u8], n: u8, start: usize) -> usize
     ensures { Wrote out.old at (deliveries_text s.now n start) out.new result }
 {
     let mut p = text::place(out, at);
-    let mut i: usize = start;
-    let mut left = n;
-    while 0 < left {
-        match plt::delivery_at(s, i) {
-            DeliveryStep::Malformed => return p,
-            DeliveryStep::Delivery(d, next) => {
-                let values = [d.transport_file_id as u64, d.location_type as u64];
-                p = fill::fill(out, p, b"  ip_delivery # location_type #\n", &values);
-                i = next;
-            }
-        }
-        left -= 1;
+    let mut i = start;
+    for _ in 0..n {
+        let Some((d, next)) = plt::delivery_at(s, i) else {
+            break;
+        };
+        let values = [d.transport_file_id as u64, d.location_type as u64];
+        p = fill::fill(out, p, b"  ip_delivery # location_type #\n", &values);
+        i = next;
     }
     p
 }
@@ -453,12 +436,13 @@ fn plt_table(out: &mut [u8], at: usize, b: &[u8], t: Plt) -> usize
 }
 
 // The kept PLT.
+#[tactic(auto, unfolding(crate::specs::DumpTables::plt_text))]
 pub fn plt_lines(out: &mut [u8], at: usize, b: &[u8]) -> usize
     ensures { Wrote out.old at (plt_text b.now) out.new result }
 {
     match plt::parse(b) {
-        MaybePlt::None => text::place(out, at),
-        MaybePlt::Some(t) => plt_table(out, at, b, t),
+        None => text::place(out, at),
+        Some(t) => plt_table(out, at, b, t),
     }
 }
 
@@ -475,17 +459,13 @@ fn locations(out: &mut [u8], at: usize, s: &[u8], n: u8, start: usize) -> usize
     ensures { Wrote out.old at (locations_text s.now n start) out.new result }
 {
     let mut p = text::place(out, at);
-    let mut i: usize = start;
-    let mut left = n;
-    while 0 < left {
-        match mpt::location_at(s, i) {
-            Located::None => return p,
-            Located::Some(l, taken) => {
-                p = location_line(out, p, bytes::rest(s, i), l);
-                i += taken;
-            }
-        }
-        left -= 1;
+    let mut i = start;
+    for _ in 0..n {
+        let Some((l, taken)) = mpt::location_at(s, i) else {
+            break;
+        };
+        p = location_line(out, p, bytes::rest(s, i), l);
+        i += taken;
     }
     p
 }
@@ -497,7 +477,7 @@ fn asset_fields(out: &mut [u8], at: usize, b: &[u8], a: Asset) -> usize
     let values = [a.identifier_type as u64, a.asset_id_scheme as u64];
     let mut p = fill::fill(out, at, b"  asset identifier_type # scheme # id ", &values);
     p = part_hex(out, p, b, id);
-    let more = [a.asset_type as u64, flag(a.clock_relation)];
+    let more = [a.asset_type as u64, u64::from(a.clock_relation)];
     fill::fill(out, p, b" type %%%%%%%% clock_relation # packet_id ", &more)
 }
 
@@ -526,17 +506,13 @@ fn assets(out: &mut [u8], at: usize, s: &[u8], n: u8, start: usize) -> usize
     ensures { Wrote out.old at (assets_text s.now n start) out.new result }
 {
     let mut p = text::place(out, at);
-    let mut i: usize = start;
-    let mut left = n;
-    while 0 < left {
-        match mpt::asset_at(s, i) {
-            AssetStep::Malformed => return p,
-            AssetStep::Asset(a, next) => {
-                p = asset(out, p, s, a);
-                i = next;
-            }
-        }
-        left -= 1;
+    let mut i = start;
+    for _ in 0..n {
+        let Some((a, next)) = mpt::asset_at(s, i) else {
+            break;
+        };
+        p = asset(out, p, s, a);
+        i = next;
     }
     p
 }
@@ -573,13 +549,14 @@ fn mpt_table(out: &mut [u8], at: usize, control: u32, b: &[u8], t: Mpt) -> usize
 }
 
 // The kept MPT of a control id.
+#[tactic(auto, unfolding(crate::specs::DumpTables::mpt_text))]
 pub fn mpt_lines(out: &mut [u8], at: usize, control: u32, b: &[u8]) -> usize
     ensures { Wrote out.old at (mpt_text control b.now) out.new result }
 {
     let parsed = mpt::parse(b);
     let m = parsed.mpt;
     match m {
-        MaybeMpt::None => text::place(out, at),
-        MaybeMpt::Some(t) => mpt_table(out, at, control, b, t),
+        None => text::place(out, at),
+        Some(t) => mpt_table(out, at, control, b, t),
     }
 }

@@ -1,11 +1,12 @@
 // The kept tables of a session one after the other, and the orders in which the programs write them.
 ghost use Rattle.std.specs.Prelude.{◌≡◌};
-ghost use Rattle.isdb_mmt.specs.Memory.Opening.{lent};
+ghost use Rattle.isdb_mmt.specs.Memory.Lending.{lent_by};
 ghost use Rattle.isdb_mmt.specs.Answers.Readings.{next_control_read, next_key_read};
 ghost use Rattle.isdb_text.specs.KeptTables.{mpts_above, sections_above, mpt_step, section_step, kept_step, dump_order, replay_order};
 
-use isdb_mmt::decoder::readings::{NameReading, TableReading};
-use isdb_mmt::decoder::{ids, kept};
+use isdb_mmt::decoder::refusal::Refusal;
+use isdb_mmt::decoder::session::Session;
+use isdb_mmt::part::Part;
 
 // Which table: the MPT of a control id, the section of a key, or one that stands by itself.
 #[derive(Clone, Copy)]
@@ -26,114 +27,89 @@ pub enum Ahead {
     Tot,
 }
 
-// A step of a walk: a table with what is read of it, and what lies before it then.
+// A table of a walk with what is read of it, and what lies before the walk then.
 #[derive(Clone, Copy)]
-pub enum Step {
-    End,
-    Kept {
-        table: Table,
-        reading: TableReading,
-        next: Ahead,
-    },
+pub struct Kept {
+    pub table: Table,
+    pub reading: Result<Option<Part>, Refusal>,
+    pub next: Ahead,
 }
 
 fn mpts_above(id: u32) -> Ahead
     ensures { result ≡ mpts_above id }
 {
     if id < 4294967295 {
-        return Ahead::Mpts(id + 1);
+        Ahead::Mpts(id + 1)
+    } else {
+        Ahead::Nothing
     }
-    Ahead::Nothing
 }
 
 fn sections_above(key: u32, last: u32) -> Ahead
     ensures { result ≡ sections_above key last }
 {
     if key < last {
-        return Ahead::Sections {
+        Ahead::Sections {
             first: key + 1,
             last,
-        };
+        }
+    } else {
+        Ahead::Nothing
     }
-    Ahead::Nothing
 }
 
 // Control ids ascend.
-fn next_mpt(
-    state: &[u8],
-    others: &[u64; 256],
-    objects: &[u8],
-    messages: &[u8],
-    tables: &[u8],
-    from: u32,
-) -> Step
-    ensures { result ≡ mpt_step (lent state.now others.now objects.now messages.now tables.now) (next_control_read (lent state.now others.now objects.now messages.now tables.now) from) }
+fn next_mpt(session: Session<'_>, from: u32) -> Option<Kept>
+    ensures { result ≡ mpt_step (lent_by session.entry) (next_control_read (lent_by session.entry) from) }
 {
-    match ids::next_control(state, others, objects, messages, tables, from) {
-        NameReading::Name(id) => Step::Kept {
+    match session.next_control(from) {
+        Ok(Some(id)) => Some(Kept {
             table: Table::Mpt(id),
-            reading: kept::mpt(state, others, objects, messages, tables, id),
+            reading: session.mpt(id),
             next: mpts_above(id),
-        },
-        NameReading::Nothing => Step::End,
-        NameReading::Refused(_) => Step::End,
+        }),
+        Ok(None) | Err(_) => None,
     }
 }
 
 // Keys ascend.
-fn next_section(
-    state: &[u8],
-    others: &[u64; 256],
-    objects: &[u8],
-    messages: &[u8],
-    tables: &[u8],
-    first: u32,
-    last: u32,
-) -> Step
-    ensures { result ≡ section_step (lent state.now others.now objects.now messages.now tables.now) last (next_key_read (lent state.now others.now objects.now messages.now tables.now) first last) }
+fn next_section(session: Session<'_>, first: u32, last: u32) -> Option<Kept>
+    ensures { result ≡ section_step (lent_by session.entry) last (next_key_read (lent_by session.entry) first last) }
 {
-    match ids::next_key(state, others, objects, messages, tables, first, last) {
-        NameReading::Name(key) => Step::Kept {
+    match session.next_key(first, last) {
+        Ok(Some(key)) => Some(Kept {
             table: Table::Section(key),
-            reading: kept::section(state, others, objects, messages, tables, key),
+            reading: session.section(key),
             next: sections_above(key, last),
-        },
-        NameReading::Nothing => Step::End,
-        NameReading::Refused(_) => Step::End,
+        }),
+        Ok(None) | Err(_) => None,
     }
 }
 
 // The next table of those that a walk has before it.
-pub fn next(
-    state: &[u8],
-    others: &[u64; 256],
-    objects: &[u8],
-    messages: &[u8],
-    tables: &[u8],
-    ahead: Ahead,
-) -> Step
-    ensures { result ≡ kept_step (lent state.now others.now objects.now messages.now tables.now) ahead }
+#[tactic(auto, unfolding(crate::specs::KeptTables::kept_step))]
+pub fn next(session: Session<'_>, ahead: Ahead) -> Option<Kept>
+    ensures { result ≡ kept_step (lent_by session.entry) ahead }
 {
     match ahead {
-        Ahead::Nothing => Step::End,
-        Ahead::Mpts(from) => next_mpt(state, others, objects, messages, tables, from),
-        Ahead::Plt => Step::Kept {
+        Ahead::Nothing => None,
+        Ahead::Mpts(from) => next_mpt(session, from),
+        Ahead::Plt => Some(Kept {
             table: Table::Plt,
-            reading: kept::plt(state, others, objects, messages, tables),
+            reading: session.plt(),
             next: Ahead::Nothing,
-        },
-        Ahead::Sections { first, last } => {
-            next_section(state, others, objects, messages, tables, first, last)
-        }
-        Ahead::Tot => Step::Kept {
+        }),
+        Ahead::Sections { first, last } => { next_section(session, first, last) }
+        Ahead::Tot => Some(Kept {
             table: Table::Tot,
-            reading: kept::tot(state, others, objects, messages, tables),
+            reading: session.tot(),
             next: Ahead::Nothing,
-        },
+        }),
     }
 }
 
 // The order in which `feeddump` writes them, walk by walk from 0 on: MPTs, PLT, EITs, SDTs, BITs, NITs, AMTs, TOT.
+#[tactic(auto, unfolding(crate::specs::KeptTables::dump_order))]
 pub fn dump_order(i: u8) -> Ahead
     ensures { result ≡ dump_order i }
 {
@@ -166,6 +142,7 @@ pub fn dump_order(i: u8) -> Ahead
 }
 
 // The order of `replay`: MPTs, PLT, TOT, all sections.
+#[tactic(auto, unfolding(crate::specs::KeptTables::replay_order))]
 pub fn replay_order(i: u8) -> Ahead
     ensures { result ≡ replay_order i }
 {

@@ -1,13 +1,17 @@
 // The list of a session's media ids and counts, as `feedlist` writes it.
-ghost use Rattle.isdb_mmt.specs.Memory.Opening.{lent};
+ghost use Rattle.isdb_mmt.specs.Memory.Lending.{lent_by};
 ghost use Rattle.isdb_text.specs.Text.{Wrote};
 ghost use Rattle.isdb_text.specs.Listing.{media_line, media_text, media_lines, stop_text, last_line, listing_of};
 
 use crate::{fill, text};
-use isdb_mmt::decoder::readings::{CountersReading, MediaReading, MediaState, NameReading};
-use isdb_mmt::decoder::{ids, readings};
+use isdb_mmt::decoder::counts::Counters;
+use isdb_mmt::decoder::readings::MediaState;
+use isdb_mmt::decoder::refusal::Refusal;
+use isdb_mmt::decoder::session::Session;
+use isdb_mmt::maybe;
 use isdb_tlv::cut::Stop;
 
+#[tactic(auto, unfolding(crate::specs::Listing::media_line))]
 fn media_row(out: &mut [u8], at: usize, id: u32, m: MediaState) -> usize
     ensures { Wrote out.old at (media_line id m) out.new result }
 {
@@ -20,54 +24,40 @@ fn media_row(out: &mut [u8], at: usize, id: u32, m: MediaState) -> usize
         s.scrambled_packets,
         s.mfus,
         s.mfus_dropped,
-        h.given(),
+        maybe::given(h),
         s.malformed,
     ];
     fill::fill(out, at, b"# # # # # # # #\n", &values)
 }
 
-fn media_text(out: &mut [u8], at: usize, id: u32, m: MediaReading) -> usize
+fn media_text(out: &mut [u8], at: usize, id: u32, m: Result<Option<MediaState>, Refusal>) -> usize
     ensures { Wrote out.old at (media_text id m) out.new result }
 {
     match m {
-        MediaReading::Media(x) => media_row(out, at, id, x),
-        MediaReading::Nothing => text::place(out, at),
-        MediaReading::Refused(_) => text::place(out, at),
+        Ok(Some(x)) => media_row(out, at, id, x),
+        Ok(None) | Err(_) => text::place(out, at),
     }
 }
 
 // A line for each media id, in ascending order.
-fn media_lines(
-    state: &[u8],
-    others: &[u64; 256],
-    objects: &[u8],
-    messages: &[u8],
-    tables: &[u8],
-    out: &mut [u8],
-    at: usize,
-) -> usize
-    ensures { Wrote out.old at (media_lines (lent state.now others.now objects.now messages.now tables.now)) out.new result }
+fn media_lines(session: Session<'_>, out: &mut [u8], at: usize) -> usize
+    ensures { Wrote out.old at (media_lines (lent_by session.entry)) out.new result }
 {
     let mut p = text::place(out, at);
     let mut from: u32 = 0;
     let mut left: u8 = 64;
     while 0 < left {
-        match ids::next_media(state, others, objects, messages, tables, from) {
-            NameReading::Name(id) => {
-                p = media_text(
-                    out,
-                    p,
-                    id,
-                    ids::media(state, others, objects, messages, tables, id),
-                );
+        match session.next_media(from) {
+            Ok(Some(id)) => {
+                p = media_text(out, p, id, session.media(id));
                 if id == 4294967295 {
                     return p;
                 }
                 from = id + 1;
                 left -= 1;
             }
-            NameReading::Nothing => return p,
-            NameReading::Refused(_) => return p,
+            Ok(None) => return p,
+            Err(_) => return p,
         }
     }
     p
@@ -83,45 +73,31 @@ fn stop_text(out: &mut [u8], at: usize, stop: Stop) -> usize
     }
 }
 
-fn last_line(out: &mut [u8], at: usize, c: CountersReading, stop: Stop) -> usize
+fn last_line(out: &mut [u8], at: usize, c: Result<Counters, Refusal>, stop: Stop) -> usize
     ensures { Wrote out.old at (last_line c stop) out.new result }
 {
     match c {
-        CountersReading::Counters(n) => {
+        Ok(n) => {
             let values = [n.tlv_packets, n.ip_errors, n.non_mmtp];
             let p = fill::fill(out, at, b"tlv # ip # other # end ", &values);
             stop_text(out, p, stop)
         }
-        CountersReading::Refused(n) => {
+        Err(e) => {
             let p = text::put(out, at, b"tlv 0 ip 0 other 0 end ");
-            stop_text(out, p, Stop::Refused(n))
+            stop_text(out, p, Stop::Refused(e.number()))
         }
     }
 }
 
 // The whole list, and where reading the recording stopped.
-pub fn listing(
-    state: &[u8],
-    others: &[u64; 256],
-    objects: &[u8],
-    messages: &[u8],
-    tables: &[u8],
-    stop: Stop,
-    out: &mut [u8],
-    at: usize,
-) -> usize
-    ensures { Wrote out.old at (listing_of (lent state.now others.now objects.now messages.now tables.now) stop) out.new result }
+pub fn listing(session: Session<'_>, stop: Stop, out: &mut [u8], at: usize) -> usize
+    ensures { Wrote out.old at (listing_of (lent_by session.entry) stop) out.new result }
 {
     let p = text::put(
         out,
         at,
         b"id packets lost scrambled mfus dropped held malformed\n",
     );
-    let q = media_lines(state, others, objects, messages, tables, out, p);
-    last_line(
-        out,
-        q,
-        readings::counters(state, others, objects, messages, tables),
-        stop,
-    )
+    let q = media_lines(session, out, p);
+    last_line(out, q, session.counters(), stop)
 }

@@ -4,7 +4,8 @@ ghost use Rattle.isdb_text.specs.ReplayKept.{name_text, bytes_line, reading_line
 
 use crate::kept_tables::Table;
 use crate::{fill, text};
-use isdb_mmt::decoder::readings::TableReading;
+use isdb_mmt::decoder::refusal::Refusal;
+use isdb_mmt::part::Part;
 
 fn name_text(out: &mut [u8], at: usize, table: Table) -> usize
     ensures { Wrote out.old at (name_text table) out.new result }
@@ -30,14 +31,14 @@ pub fn reading_line(
     out: &mut [u8],
     at: usize,
     table: Table,
-    r: TableReading,
+    r: Result<Option<Part>, Refusal>,
     tables: &[u8],
 ) -> usize
     ensures { Wrote out.old at (reading_line table r tables.now) out.new result }
 {
     match r {
-        TableReading::Bytes(p) => bytes_line(out, at, table, p.of(tables)),
-        TableReading::Nothing => text::place(out, at),
-        TableReading::Refused(n) => fill::fill(out, at, b"kept refused #\n", &[n as u64]),
+        Ok(Some(p)) => bytes_line(out, at, table, p.of(tables)),
+        Ok(None) => text::place(out, at),
+        Err(e) => fill::fill(out, at, b"kept refused #\n", &[e.number() as u64]),
     }
 }

@@ -8,10 +8,7 @@ ghost use Rattle.isdb_text.specs.Text.{hex_digit as hex_digit_of};
 pub fn place(out: &[u8], at: usize) -> usize
     ensures { Wrote out.now at [] out.now result }
 {
-    if at <= out.len() {
-        return at;
-    }
-    out.len() + 1
+    at.min(out.len() + 1)
 }
 
 // One byte.
@@ -20,9 +17,10 @@ pub fn put_byte(out: &mut [u8], at: usize, x: u8) -> usize
 {
     if at < out.len() {
         out[at] = x;
-        return at + 1;
+        at + 1
+    } else {
+        out.len() + 1
     }
-    out.len() + 1
 }
 
 // A text as it stands.
@@ -30,10 +28,8 @@ pub fn put(out: &mut [u8], at: usize, text: &[u8]) -> usize
     ensures { Wrote out.old at text.now out.new result }
 {
     let mut p = place(out, at);
-    let mut i: usize = 0;
-    while i < text.len() {
-        p = put_byte(out, p, text[i]);
-        i += 1;
+    for &x in text {
+        p = put_byte(out, p, x);
     }
     p
 }
@@ -43,10 +39,7 @@ fn digit_code(d: u8) -> u8
     requires { d < 16 }
     ensures { result ≡ digit d }
 {
-    if d < 10 {
-        return 48 + d;
-    }
-    87 + d
+    if d < 10 { b'0' + d } else { b'a' - 10 + d }
 }
 
 // A number in decimal.
@@ -54,10 +47,11 @@ pub fn decimal(out: &mut [u8], at: usize, n: u64) -> usize
     ensures { Wrote out.old at (decimal_of n) out.new result }
 {
     if n < 10 {
-        return put_byte(out, at, digit_code(n as u8));
+        put_byte(out, at, digit_code(n as u8))
+    } else {
+        let p = decimal(out, at, n / 10);
+        put_byte(out, p, digit_code((n % 10) as u8))
     }
-    let p = decimal(out, at, n / 10);
-    put_byte(out, p, digit_code((n % 10) as u8))
 }
 
 // The hexadecimal digit of a number with k places behind it.
@@ -65,9 +59,10 @@ pub fn hex_digit(n: u64, k: usize) -> u8
     ensures { result ≡ hex_digit_of n k }
 {
     if k < 16 {
-        return digit_code(((n >> (k * 4)) % 16) as u8);
+        digit_code(((n >> (k * 4)) % 16) as u8)
+    } else {
+        b'0'
     }
-    48
 }
 
 // The last digits of a number in hexadecimal, so many.
@@ -75,38 +70,30 @@ pub fn hex_digits(out: &mut [u8], at: usize, n: u64, digits: usize) -> usize
     ensures { Wrote out.old at (hex_of digits n) out.new result }
 {
     let mut p = place(out, at);
-    let mut k = digits;
-    while 0 < k {
-        k -= 1;
+    for k in (0..digits).rev() {
         p = put_byte(out, p, hex_digit(n, k));
     }
     p
-}
-
-fn wide(x: u8) -> u64
-    ensures { result ≡ x }
-{
-    x as u64
 }
 
 fn pairs(out: &mut [u8], at: usize, bytes: &[u8]) -> usize
     ensures { Wrote out.old at (pairs_of bytes.now) out.new result }
 {
     let mut p = place(out, at);
-    let mut i: usize = 0;
-    while i < bytes.len() {
-        p = hex_digits(out, p, wide(bytes[i]), 2);
-        i += 1;
+    for &x in bytes {
+        p = hex_digits(out, p, u64::from(x), 2);
     }
     p
 }
 
 // Bytes, two digits each; a dash where there are none.
+#[tactic(auto, unfolding(crate::specs::Text::bytes_as_hex))]
 pub fn hex(out: &mut [u8], at: usize, bytes: &[u8]) -> usize
     ensures { Wrote out.old at (bytes_as_hex bytes.now) out.new result }
 {
-    if bytes.len() < 1 {
-        return put_byte(out, at, b'-');
+    if bytes.is_empty() {
+        put_byte(out, at, b'-')
+    } else {
+        pairs(out, at, bytes)
     }
-    pairs(out, at, bytes)
 }

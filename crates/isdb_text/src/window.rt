@@ -6,15 +6,8 @@ ghost use Rattle.isdb_text.specs.Window.{left_of};
 pub fn to_front(window: &mut [u8], at: usize, end: usize) -> usize
     ensures { Wrote window.old 0 (left_of window.old at end) window.new result }
 {
-    let mut i: usize = 0;
-    let mut j = at;
-    while j < end {
-        if window.len() <= j {
-            return i;
-        }
-        window[i] = window[j];
-        i += 1;
-        j += 1;
-    }
-    i
+    let end = end.min(window.len());
+    let at = at.min(end);
+    window.copy_within(at..end, 0);
+    end - at
 }

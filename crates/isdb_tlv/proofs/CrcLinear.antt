@@ -7,48 +7,13 @@ use Prim.Native.Nat.{ℕ, zero, suc, ◌+◌, ◌*◌, ◌/◌, ◌%◌, ◌^◌
 use native.Mathlib.Nat.{add-zero}
 use native.Mathlib.Numerals.{add-one}
 use native.Mathlib.Omega.{arith}
-use lib.Arith.{bin_ind}
 use lib.Dec.{eqb, eqb→eq}
 use lib.ListN.{get_or, length, drop, replicate}
-use lib.Bits.{bit_xor, differ, xor_step, xor_comm, xor_self, xor_zero_r, xor_lt, xor_block, xor_mod, xor_shr, xor_shifted}
+use lib.Bits.{bit_xor, xor_assoc, xor_comm, xor_self, xor_zero_r, xor_lt, xor_block, xor_mod, xor_shr, xor_shifted}
 use Rattle.isdb_tlv.specs.Crc.{gate, feed, feed_bits, feed_byte, crc_from, crc_of}
 use Rattle.isdb_tlv.specs.Fields.{bytes_of}
 use Rattle.isdb_tlv.proofs.Table.{at}
 use lib.Seq.{drop-cons}
-
-differ_lt : (x y : ℕ) → x < 2 → y < 2 → differ x y < 2
-differ_lt zero y hx hy = hy
-differ_lt (suc zero) zero hx hy = hx
-differ_lt (suc zero) (suc y) hx hy = omega arith
-differ_lt (suc (suc x)) y hx hy = absurd (omega arith)
-
-differ_assoc : (x y z : ℕ) → x < 2 → y < 2 → z < 2 → differ (differ x y) z ≡ differ x (differ y z)
-differ_assoc zero y z hx hy hz = refl
-differ_assoc (suc zero) zero z hx hy hz = refl
-differ_assoc (suc zero) (suc zero) zero hx hy hz = refl
-differ_assoc (suc zero) (suc zero) (suc zero) hx hy hz = refl
-differ_assoc (suc zero) (suc zero) (suc (suc z)) hx hy hz = absurd (omega arith)
-differ_assoc (suc zero) (suc (suc y)) z hx hy hz = absurd (omega arith)
-differ_assoc (suc (suc x)) y z hx hy hz = absurd (omega arith)
-
-module _ (a b : ℕ) where
-  half : bit_xor a b / 2 ≡ bit_xor (a / 2) (b / 2)
-  half = xor_shr a b 1
-
-  odd_lt : differ (a % 2) (b % 2) < 2
-  odd_lt = differ_lt (a % 2) (b % 2) (omega arith) (omega arith)
-
-  odd : bit_xor a b % 2 ≡ differ (a % 2) (b % 2)
-  odd = let h = odd_lt in let e = xor_step a b in omega arith
-
-pub xor_assoc : (a b c : ℕ) → bit_xor (bit_xor a b) c ≡ bit_xor a (bit_xor b c)
-xor_assoc a =
-    bin_ind (λ (n : ℕ). (b c : ℕ) → bit_xor (bit_xor n b) c ≡ bit_xor n (bit_xor b c)) (λ b c. refl)
-    (λ n ih b c. xor_step (bit_xor n b) c
-    ∙ ap₂ (λ (x y : ℕ). x * 2 + y)
-    (ap (λ (x : ℕ). bit_xor x (c / 2)) (half n b) ∙ ih (b / 2) (c / 2) ∙ ap (λ (x : ℕ). bit_xor (n / 2) x) (sym (half b c)))
-    (ap (λ (x : ℕ). differ x (c % 2)) (odd n b) ∙ differ_assoc (n % 2) (b % 2) (c % 2) (omega arith) (omega arith) (omega arith) ∙ ap (λ (x : ℕ). differ (n % 2) x) (sym (odd b c)))
-    ∙ sym (xor_step n (bit_xor b c))) a
 
 pub swap : (a b c d : ℕ) → bit_xor (bit_xor a b) (bit_xor c d) ≡ bit_xor (bit_xor a c) (bit_xor b d)
 swap a b c d =
@@ -117,7 +82,7 @@ gone k x = eqb (feed_bits 8 k (k * 2 ^ 24)) 0
 
 pub itself : (k : ℕ) → k < 256 → feed_bits 8 k (k * 2 ^ 24) ≡ 0
 unfolding gone feed
-itself k h = eqb→eq (feed_bits 8 k (k * 2 ^ 24)) 0 (at gone (replicate 256 0) tt k h)
+itself k h = eqb→eq (feed_bits 8 k (k * 2 ^ 24)) 0 (at gone 0 (replicate 256 0) tt k h)
 
 -- a byte meets the register's high byte, and shifts the others
 module _ (h l b : ℕ) (hh : h < 256) (hl : l < 2 ^ 24) where

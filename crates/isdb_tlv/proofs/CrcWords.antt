@@ -1,17 +1,21 @@
 -- Zero bytes go into the register as a linear map, so four bytes go in at once, and eight. Assumes nothing.
 use mathlib.Core.Path.{◌≡◌, refl, sym, ap, ap₂, ◌∙◌}
 use Prim.Native.Nat.{ℕ, zero, suc, ◌+◌, ◌*◌, ◌/◌, ◌%◌, ◌^◌, ◌<◌, ◌≤◌}
-use native.Mathlib.Nat.{add-zero}
+use native.Mathlib.Nat.{add-zero, zero-add, suc-add, zero-mul, suc-mul}
 use native.Mathlib.Omega.{arith}
-use lib.ListN.{get_or, length, drop}
-use mathlib.Core.List.{List}
+use lib.ListN.{get_or, length, take, drop, drop_of_length-le}
+use lib.Seq.{drop-drop}
+use Rattle.std.proofs.lemmas.List.{take-append-drop}
+use Rattle.std.specs.Prelude.{fold}
+use Rattle.std.specs.Simd.{first_chunks}
+use mathlib.Core.List.{List, [], ◌∷◌}
 use mir.Val.{Fits}
 use mir.Syntax.{w8}
-use lib.Bits.{bit_xor, xor_comm, xor_self, xor_zero_r, xor_lt, xor_shifted}
+use lib.Bits.{bit_xor, xor_comm, xor_self, xor_zero_r, xor_lt, xor_assoc, xor_shifted}
 use Rattle.isdb_tlv.specs.Bytes.{be}
 use Rattle.isdb_tlv.specs.Crc.{feed_bits, feed_byte, crc_from, zero_bytes}
 use Rattle.isdb_tlv.proofs.Numbers.{be_lt}
-use Rattle.isdb_tlv.proofs.CrcLinear.{xor_assoc, itself, bits_linear, by_high_byte, byte_lt, zeros, crc_step}
+use Rattle.isdb_tlv.proofs.CrcLinear.{itself, bits_linear, by_high_byte, byte_lt, zeros, crc_step, crc_append}
 
 zero_lt : (m z : ℕ) → z < 2 ^ 32 → zero_bytes m z < 2 ^ 32
 zero_lt zero z h = h
@@ -92,7 +96,12 @@ module _ (z b : ℕ) (hz : z < 2 ^ 32) (hb : b < 256) where
       ap₂ bit_xor shifted (ap (λ (x : ℕ). feed_byte x 0) (up3 n hn) ∙ sym (inside 0 n (omega arith) hn))
       ∙ sym (by_high_byte h l b (omega arith) (omega arith)) ∙ ap (feed_bits 8 b) whole
 
--- a register is made up of its half bytes
+-- zero bytes behind zero bytes
+zero_behind : (j m n : ℕ) → zero_bytes (m + j) n ≡ zero_bytes m (zero_bytes j n)
+zero_behind j zero n = rw (zero-add j)
+zero_behind j (suc m) n = rw (suc-add m j) (ap (λ (x : ℕ). feed_byte x 0) (zero_behind j m n))
+
+-- a register is made up of its bytes
 join : (m h k u v t : ℕ) → u ≡ h * 2 ^ k → v < 2 ^ k → u + v ≡ t → t < 2 ^ 32 → bit_xor (zero_bytes m u) (zero_bytes m v) ≡ zero_bytes m t
 join m h k u v t e hv es ht =
     sym (zero_linear m u v (omega arith) (omega arith)) ∙ ap (zero_bytes m) (rw e (xor_shifted h k v hv) ∙ es)
@@ -100,26 +109,20 @@ join m h k u v t e hv es ht =
 module _ (m x : ℕ) (hx : x < 2 ^ 32) where
   pub spread :
       bit_xor
-      (bit_xor (bit_xor (zero_bytes m (x / 2 ^ 28 * 16 ^ 7)) (zero_bytes m (x / 2 ^ 24 % 16 * 16 ^ 6)))
-      (bit_xor (zero_bytes m (x / 2 ^ 20 % 16 * 16 ^ 5)) (zero_bytes m (x / 2 ^ 16 % 16 * 16 ^ 4))))
-      (bit_xor (bit_xor (zero_bytes m (x / 2 ^ 12 % 16 * 16 ^ 3)) (zero_bytes m (x / 2 ^ 8 % 16 * 16 ^ 2)))
-      (bit_xor (zero_bytes m (x / 2 ^ 4 % 16 * 16 ^ 1)) (zero_bytes m (x % 16 * 16 ^ 0))))
+      (bit_xor (zero_bytes (m + 3) (x / 2 ^ 24)) (zero_bytes (m + 2) (x / 2 ^ 16 % 256)))
+      (bit_xor (zero_bytes (m + 1) (x / 2 ^ 8 % 256)) (zero_bytes m (x % 256)))
       ≡ zero_bytes m x
   spread =
       ap₂ bit_xor
       (ap₂ bit_xor
-      (join m (x / 2 ^ 28) 28 (x / 2 ^ 28 * 16 ^ 7) (x / 2 ^ 24 % 16 * 16 ^ 6) (x / 2 ^ 24 * 2 ^ 24) (omega arith) (omega arith) (omega arith) (omega arith))
-      (join m (x / 2 ^ 20 % 16) 20 (x / 2 ^ 20 % 16 * 16 ^ 5) (x / 2 ^ 16 % 16 * 16 ^ 4) (x / 2 ^ 16 % 256 * 2 ^ 16) (omega arith) (omega arith) (omega arith) (omega arith))
-      ∙ join m (x / 2 ^ 24) 24 (x / 2 ^ 24 * 2 ^ 24) (x / 2 ^ 16 % 256 * 2 ^ 16) (x / 2 ^ 16 * 2 ^ 16) (omega arith) (omega arith) (omega arith) (omega arith))
+      (zero_behind 3 m (x / 2 ^ 24) ∙ ap (zero_bytes m) (up3 (x / 2 ^ 24) (omega arith)))
+      (zero_behind 2 m (x / 2 ^ 16 % 256) ∙ ap (zero_bytes m) (up2 (x / 2 ^ 16 % 256) (omega arith)))
+      ∙ join m (x / 2 ^ 24) 24 (x / 2 ^ 24 * 2 ^ 24) (x / 2 ^ 16 % 256 * 2 ^ 16) (x / 2 ^ 16 * 2 ^ 16) refl (omega arith) (omega arith) (omega arith))
       (ap₂ bit_xor
-      (join m (x / 2 ^ 12 % 16) 12 (x / 2 ^ 12 % 16 * 16 ^ 3) (x / 2 ^ 8 % 16 * 16 ^ 2) (x / 2 ^ 8 % 256 * 2 ^ 8) (omega arith) (omega arith) (omega arith) (omega arith))
-      (join m (x / 2 ^ 4 % 16) 4 (x / 2 ^ 4 % 16 * 16 ^ 1) (x % 16 * 16 ^ 0) (x % 256) (omega arith) (omega arith) (omega arith) (omega arith))
-      ∙ join m (x / 2 ^ 8 % 256) 8 (x / 2 ^ 8 % 256 * 2 ^ 8) (x % 256) (x % 2 ^ 16) (omega arith) (omega arith) (omega arith) (omega arith))
-      ∙ join m (x / 2 ^ 16) 16 (x / 2 ^ 16 * 2 ^ 16) (x % 2 ^ 16) x (omega arith) (omega arith) (omega arith) (omega arith)
-
-module _ (m n : ℕ) (hn : n < 256) where
-  pub spread_byte : bit_xor (zero_bytes m (n / 2 ^ 4 * 16 ^ 1)) (zero_bytes m (n % 16 * 16 ^ 0)) ≡ zero_bytes m n
-  spread_byte = join m (n / 2 ^ 4) 4 (n / 2 ^ 4 * 16 ^ 1) (n % 16 * 16 ^ 0) n (omega arith) (omega arith) (omega arith) (omega arith)
+      (zero_behind 1 m (x / 2 ^ 8 % 256) ∙ ap (zero_bytes m) (lower (x / 2 ^ 8 % 256) (omega arith)))
+      refl
+      ∙ join m (x / 2 ^ 8 % 256) 8 (x / 2 ^ 8 % 256 * 256) (x % 256) (x % 2 ^ 16) refl (omega arith) (omega arith) (omega arith))
+      ∙ join m (x / 2 ^ 16) 16 (x / 2 ^ 16 * 2 ^ 16) (x % 2 ^ 16) x refl (omega arith) (omega arith) (omega arith)
 
 crc_next : (z i j : ℕ) (s : List ℕ) → j ≡ i + 1 → i < length s → crc_from z (drop i s) ≡ crc_from (feed_byte z (get_or s i 0)) (drop j s)
 crc_next z i j s e h = rw e (crc_step z i s h)
@@ -151,5 +154,26 @@ module _ (s : List ℕ) (fit : (i : ℕ) → Fits w8 (get_or s i 0)) where
       ∙ crc_four (zero_bytes 4 x) (i + 4) (zero_lt 4 x hx) (omega arith)
       ∙ ap₂ (λ (y j : ℕ). crc_from y (drop j s)) (zero_linear 4 (zero_bytes 4 x) (be 4 s (i + 4)) (zero_lt 4 x hx) (four_lt (i + 4))) e
 
-  pub eight_lt : (z i : ℕ) → z < 2 ^ 32 → bit_xor (zero_bytes 8 (bit_xor z (be 4 s i))) (zero_bytes 4 (be 4 s (i + 4))) < 2 ^ 32
-  eight_lt z i hz = xor_lt 32 _ _ (zero_lt 8 _ (xor_lt 32 z (be 4 s i) hz (four_lt i))) (zero_lt 4 _ (four_lt (i + 4)))
+  pub all_eight : (z x y : ℕ) → z < 2 ^ 32 → length s ≡ 8
+      → x ≡ get_or s 0 0 * 16777216 + get_or s 1 0 * 65536 + get_or s 2 0 * 256 + get_or s 3 0
+      → y ≡ get_or s 4 0 * 16777216 + get_or s 5 0 * 65536 + get_or s 6 0 * 256 + get_or s 7 0
+      → bit_xor (zero_bytes 8 (bit_xor z x)) (zero_bytes 4 y) ≡ crc_from z s
+  all_eight z x y hz n ex ey =
+      let a : x ≡ be 4 s 0 = let e = be_four 0 in omega arith in
+      let b : y ≡ be 4 s 4 = let e = be_four 4 in omega arith in
+      rw (a, b) (sym (crc_eight z 0 hz (omega arith) ∙ ap (crc_from _) (drop_of_length-le s {i = 8} (omega arith))))
+
+-- bytes go in one by one, or many at a time
+fold_bytes : (s : List ℕ) (z : ℕ) → fold feed_byte z s ≡ crc_from z s
+fold_bytes [] z = refl
+fold_bytes (b ∷ s) z = fold_bytes s (feed_byte z b)
+
+fold_chunks : (n k : ℕ) (s : List ℕ) (z : ℕ) → crc_from (fold crc_from z (first_chunks n k s)) (drop (k * n) s) ≡ crc_from z s
+fold_chunks n zero s z = rw (zero-mul n)
+fold_chunks n (suc k) s z =
+    let e : suc k * n ≡ n + k * n = rw suc-mul (omega arith) in
+    rw (e, ← drop-drop (k * n) n s) (fold_chunks n k (drop n s) (crc_from z (take n s)))
+    ∙ sym (crc_append z (take n s) (drop n s)) ∙ ap (crc_from z) (take-append-drop n s)
+
+pub chunked : (n k : ℕ) (s : List ℕ) (z : ℕ) → fold feed_byte (fold crc_from z (first_chunks n k s)) (drop (k * n) s) ≡ crc_from z s
+chunked n k s z = fold_bytes (drop (k * n) s) _ ∙ fold_chunks n k s z

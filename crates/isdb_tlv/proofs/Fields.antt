@@ -7,7 +7,7 @@ use native.Mathlib.Omega.{arith}
 use lib.ListN.{length, get_or, length-append, get_or-append}
 use lib.Seq.{get_or-append-add, get_or_at, append_snoc, set_out}
 use Rattle.isdb_tlv.specs.Bytes.{be, put_be}
-use Rattle.isdb_tlv.specs.Fields.{bytes_of, Field, field, written, Fit, puts}
+use Rattle.isdb_tlv.specs.Fields.{bytes_of, Field, field, written, Fit}
 use Rattle.isdb_tlv.proofs.Numbers.{be_ext, put_be_mod}
 
 -- a byte is a number of one byte
@@ -88,24 +88,8 @@ pub put_cut : (k w at v : ℕ) (l m : List ℕ) → w ≡ k → m ≡ put_be k a
 put_cut k w at v l m e d =
     d ∙ sym (rw e (put_be_mod k at v (v % 256 ^ k) l (v / 256 ^ k) (sym (div-add-mod' v (256 ^ k)))))
 
-pub put_whole : (k w at v : ℕ) (l m : List ℕ) → w ≡ k → m ≡ put_be k at v l → m ≡ put_be w at v l
-put_whole k w at v l m e d = rw e d
-
 -- beyond the end nothing is stored
 pub put_beyond : (w at v : ℕ) (l : List ℕ) → length l ≤ at → l ≡ put_be w at v l
 unfolding put_be
 put_beyond zero at v l h = refl
 put_beyond (suc w) at v l h = rw (← put_beyond w at (v / 256) l h) (sym (set_out l (at + w) (v % 256) (omega arith)))
-
--- four, each so many bytes behind the first
-pub put_four :
-    (at w0 v0 w1 v1 w2 v2 w3 v3 : ℕ) (l a b c d : List ℕ)
-    → a ≡ put_be w0 (at + 0) v0 l
-    → b ≡ put_be w1 (at + w0) v1 a
-    → c ≡ put_be w2 (at + (w0 + w1)) v2 b
-    → d ≡ put_be w3 (at + (w0 + w1 + w2)) v3 c
-    → d ≡ puts at (field w0 v0 ∷ field w1 v1 ∷ field w2 v2 ∷ field w3 v3 ∷ []) l
-put_four at w0 v0 w1 v1 w2 v2 w3 v3 l a b c d ea eb ec ed =
-    let e2 : at + (w0 + w1) ≡ at + w0 + w1 = omega arith in
-    let e3 : at + (w0 + w1 + w2) ≡ at + w0 + w1 + w2 = omega arith in
-    ed ∙ rw (e3, ec, e2, eb, ea, add-zero at)

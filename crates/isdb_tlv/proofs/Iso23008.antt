@@ -1,9 +1,9 @@
 -- What a sender that conforms to ISO/IEC 23008-1 and ARIB STD-B60 writes is read right. Assumes nothing.
+use Rattle.std.specs.Prelude.{Some, Option, None}
 use Prim.Native.Nat.{ℕ, ◌+◌, ◌-◌, ◌*◌, ◌/◌, ◌%◌, ◌^◌, ◌≤◌, ◌<◌}
 use mathlib.Core.Path.{◌≡◌, refl, sym, ap, ◌∙◌}
 use mathlib.Core.List.{List, [], ◌∷◌, ◌++◌, append_assoc, append-nil}
 use mathlib.Core.Bool.{cond}
-use mathlib.Core.Option.{Option, none, some}
 use native.Mathlib.Nat.{add-zero}
 use native.Mathlib.Omega.{arith}
 use lib.Dec.{leb, eqb}
@@ -24,8 +24,6 @@ use Rattle.isdb_tlv.specs.Iso23008.{EntryConforming, EntriesConforming, Extensio
 use Rattle.isdb_tlv.specs.Iso23008.{scrambling_or, scrambling_in, scrambling_of, info_seen, control_seen, header_of, Theorem}
 use Rattle.isdb_tlv.specs.declared.mmtp.Scramble.{Scramble}
 use Rattle.isdb_tlv.specs.declared.mmtp.Scramble.TheVariants.{Absent, Bits}
-use Rattle.isdb_tlv.specs.declared.mmtp.Extension.TheVariants.{Good}
-use Rattle.isdb_tlv.specs.declared.mmtp.Parsed.TheVariants.{Some as some_packet}
 use Rattle.isdb_tlv.proofs.Guards.{either}
 use Rattle.isdb_tlv.proofs.Extension.{entry_at}
 use Rattle.isdb_tlv.proofs.Fields.{be_one, be_high, be_behind, field_at, offset_of, length_written, read}
@@ -56,7 +54,7 @@ module _ (a : List ℕ) (word : ℕ) (b r : List ℕ) (fits : word < 2 ^ 16) (sh
   whole = rw (length-append, end_is)
 
   one_extension : extension_at (a ++ extension_bytes word b ++ r) (length a)
-      ≡ cond (eqb word 0) (Good (entries b 0) (length (a ++ extension_bytes word b))) (Good Absent (length (a ++ extension_bytes word b)))
+      ≡ cond (eqb word 0) (Some (entries b 0, length (a ++ extension_bytes word b))) (Some (Absent, length (a ++ extension_bytes word b)))
   unfolding extension_at
   one_extension =
       let s = a ++ extension_bytes word b ++ r in
@@ -92,18 +90,18 @@ entry_fits (other_entry type b) c = (c.0, c.2)
 
 -- what an entry says of scrambling is read as such
 abbrev told : Option Scrambling → Scramble
-told none = Absent
-told (some x) = Bits (scrambling_code x)
+told None = Absent
+told (Some x) = Bits (scrambling_code x)
 
 info_told : (o : Option Scrambling) → scramble_info_of (told o) ≡ info_seen o
-info_told none = refl
-info_told (some not_scrambled) = refl
-info_told (some even_key) = refl
-info_told (some odd_key) = refl
+info_told None = refl
+info_told (Some not_scrambled) = refl
+info_told (Some even_key) = refl
+info_told (Some odd_key) = refl
 
 control_told_lem : (o : Option Scrambling) → scramble_control_of (told o) ≡ control_seen o
-control_told_lem none = refl
-control_told_lem (some x) = refl
+control_told_lem None = refl
+control_told_lem (Some x) = refl
 
 -- an entry with other bytes before and behind it
 module _ (a : List ℕ) (end : ℕ) (flag : end < 2) (e : Entry) (c : EntryConforming e) (r : List ℕ) where
@@ -178,7 +176,7 @@ entry_told a end flag (other_entry type b) c r o h =
 all_entries : (a : List ℕ) (es : List Entry) (final : Entry) → EntriesConforming es → EntryConforming final
     → entries (a ++ entries_sent es final) (length a) ≡ told (scrambling_in es final)
 all_entries a [] final h c =
-    rw (append-nil (a ++ entry_sent 1 final)) at (entry_told a 1 (omega arith) final c [] none refl)
+    rw (append-nil (a ++ entry_sent 1 final)) at (entry_told a 1 (omega arith) final c [] None refl)
 all_entries a (e ∷ es) final h c =
     rw (← append_assoc a)
     (entry_told a 0 (omega arith) e h.0 (entries_sent es final) (scrambling_in es final)
@@ -187,7 +185,7 @@ all_entries a (e ∷ es) final h c =
 -- what follows the fixed part `a`
 after : (x : Extension) → ExtensionConforming x → (a r : List ℕ) (flags : ℕ)
     → flags / 2 % 2 ≡ extension_flag x → fixed_size flags ≡ length a
-    → after_fixed (a ++ extension_sent x ++ r) flags ≡ Good (told (scrambling_of x)) (length (a ++ extension_sent x))
+    → after_fixed (a ++ extension_sent x ++ r) flags ≡ Some (told (scrambling_of x), length (a ++ extension_sent x))
 unfolding after_fixed
 after no_extension h a r flags e n =
     rw (e, n) (rw append-nil (rw (le-ltb (length (a ++ r)) (length a) (omega (arith, length-append a r)))))
@@ -198,8 +196,8 @@ after (other_type type b) h a r flags e n =
 
 -- the two flags are bits, and the first tells where the fixed part ends
 counter_told : (o : Option ℕ) → (counter_flag o < 2) × (cond (eqb (counter_flag o) 0) 12 16 ≡ 12 + length (counter_sent o))
-counter_told none = (omega arith, refl)
-counter_told (some c) = (omega arith, rw (length_written (field 4 c ∷ [])))
+counter_told None = (omega arith, refl)
+counter_told (Some c) = (omega arith, rw (length_written (field 4 c ∷ [])))
 
 extension_told : (x : Extension) → extension_flag x < 2
 extension_told no_extension = omega arith
@@ -286,13 +284,13 @@ module _ (p : Mmtp) (c : Conforming p) where
       let e : get_or (sent p) 0 0 / 32 % 2 ≡ counter_flag p.packet_counter = omega (arith, first, counted, extended, fec) in
       rw (e, (counter_told p.packet_counter).1, length-append, length_written (header p))
 
-  behind_fixed : after_fixed (sent p) (get_or (sent p) 0 0) ≡ Good (told (scrambling_of p.extension)) (length (front p))
+  behind_fixed : after_fixed (sent p) (get_or (sent p) 0 0) ≡ Some (told (scrambling_of p.extension), length (front p))
   unfolding sent
   behind_fixed =
       let e : get_or (sent p) 0 0 / 2 % 2 ≡ extension_flag p.extension = omega (arith, first, extended, fec) in
       after p.extension c.extension (fixed p) p.payload (get_or (sent p) 0 0) e fixed_size_lem
 
-  fields : mmtp_of (sent p) ≡ some_packet (record { header = header_of p; start = length (front p) })
+  fields : mmtp_of (sent p) ≡ Some (record { header = header_of p; start = length (front p) })
   unfolding mmtp_of
   fields =
       let s = sent p in

@@ -1,6 +1,5 @@
 -- Laws that belong to no one function, a file a subject.
 pub mod Numbers
-pub mod Parts
 pub mod Table
 pub mod CrcLinear
 pub mod CrcWords

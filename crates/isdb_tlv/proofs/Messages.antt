@@ -1,28 +1,25 @@
 -- The control messages: the four words of a set hold the ids that were put in and no others, and each message leads on to a
 -- place ahead, so that steps from one to the next go over all of them. Assumes nothing.
+use Rattle.std.specs.Prelude.{None, Some, Option}
 use Prim.Native.Nat.{ℕ, zero, suc, ◌+◌, ◌-◌, ◌/◌, ◌%◌, ◌^◌, ◌≤◌, ◌<◌, min}
 use mathlib.Core.Path.{◌≡◌, refl, ap, ◌∙◌}
 use mathlib.Core.Bool.{Bool, true, false, cond, not}
 use mathlib.Core.List.{List, [], ◌∷◌, ◌++◌}
-use mathlib.Core.Option.{Option}
 use native.Mathlib.Nat.{pow-suc, one-le-pow, div-eq_of_lt, mul-div-mul_right, zero-div}
 use native.Mathlib.Omega.{arith}
-use lib.ListN.{length, take, drop, get_or, length-take, length-drop}
+use lib.ListN.{length, take, drop, get_or, length-take, length-drop, length-set}
+use lib.Seq.{get_or-set_same, get_or-set_other}
 use lib.Dec.{ltb, leb, eqb, eqb-zero-suc, eqb-suc-zero, eqb-suc-suc}
 use lib.Bits.{bit_or, or_shr, or_mod, or_zero_r}
 use borrow.Author.Tests.{ltb-false, leb-true, eqb-true, eqb-false, eq-eqb, ne_eqb, le-leb, lt-leb, le-ltb, lt-ltb}
 use Rattle.isdb_tlv.specs.Bytes.{be, with_bit_of}
 use Rattle.isdb_tlv.specs.Walk.{more, turn}
 use Rattle.isdb_tlv.proofs.Walk.{Ahead, walk_at, run_more, plus, one_more as one_more_item}
-use Rattle.isdb_tlv.specs.Messages.{no_table_ids, word_of, has, with_word, insert, insert_all, set_of, listed_at, listed_from, table_id_at, walked_from, message_of, behind, message_in, prefixed_at, message_at, message_step, item, messages_from}
+use Rattle.isdb_tlv.specs.Messages.{no_table_ids, has, insert, insert_all, set_of, listed_at, listed_from, table_id_at, walked_from, message_of, behind, message_in, prefixed_at, message_at, message_step, item, messages_from}
 use Rattle.isdb_tlv.specs.Facts.{member, SetIsList}
 use Rattle.isdb_tlv.specs.declared.mmtp.TableIds.{TableIds}
 use Rattle.isdb_tlv.specs.declared.mmtp.Message.{Message}
-use Rattle.isdb_tlv.specs.declared.mmtp.MaybeMessage.{MaybeMessage}
-use Rattle.isdb_tlv.specs.declared.mmtp.MaybeMessage.TheVariants.{None as no_message, Some as some_message}
 use Rattle.isdb_tlv.specs.declared.mmtp.MessageStep.TheVariants.{Found}
-use Rattle.isdb_tlv.specs.declared.mmtp.MessageCount.{MessageCount}
-use Rattle.isdb_tlv.specs.declared.mmtp.MessageCount.TheVariants.{Refused as refused_all, Count}
 use Rattle.isdb_tlv.proofs.Guards.{either, cond_elim, cond_same}
 
 -- bit j of a power of 2
@@ -48,56 +45,46 @@ bit_set w i j =
     rw (or_shr w (2 ^ i) j, or_mod (w / 2 ^ j) (2 ^ i / 2 ^ j) 1, bit_power i j)
     (either (eqb j i) (λ e. rw (e, one_more_bit (w / 2 ^ j % 2) (omega arith))) (λ e. rw (e, or_zero_r (w / 2 ^ j % 2))))
 
-word_same : (t : TableIds) (k w : ℕ) → k < 4 → word_of (with_word t k w) k ≡ w
-unfolding word_of
-word_same t zero w h = refl
-word_same t (suc zero) w h = refl
-word_same t (suc (suc zero)) w h = refl
-word_same t (suc (suc (suc zero))) w h = refl
-word_same t (suc (suc (suc (suc k)))) w h = absurd (omega arith)
+zero_word : (k : ℕ) → ◌≡◌ {A = ℕ} (get_or no_table_ids.words k 0) 0
+zero_word zero = refl
+zero_word (suc zero) = refl
+zero_word (suc (suc zero)) = refl
+zero_word (suc (suc (suc zero))) = refl
+zero_word (suc (suc (suc (suc k)))) = refl
 
-word_other : (t : TableIds) (k w j : ℕ) → k < 4 → j < 4 → (j ≡ k → ⊥) → word_of (with_word t k w) j ≡ word_of t j
-unfolding word_of
-word_other t zero w j hk hj h = rw (ne_eqb j 0 h)
-word_other t (suc zero) w j hk hj h = rw (ne_eqb j 1 h)
-word_other t (suc (suc zero)) w j hk hj h = rw (ne_eqb j 2 h)
-word_other t (suc (suc (suc zero))) w zero hk hj h = refl
-word_other t (suc (suc (suc zero))) w (suc zero) hk hj h = refl
-word_other t (suc (suc (suc zero))) w (suc (suc zero)) hk hj h = refl
-word_other t (suc (suc (suc zero))) w (suc (suc (suc j))) hk hj h = absurd (h (omega arith))
-word_other t (suc (suc (suc (suc k)))) w j hk hj h = absurd (omega arith)
-
-word_none : (k : ℕ) → word_of no_table_ids k ≡ 0
-unfolding word_of
-word_none k = simp cond_same
+length_insert : (id : ℕ) (t : TableIds) → length (insert id t).words ≡ length t.words
+unfolding insert
+length_insert id t = length-set t.words (id / 64) (with_bit_of (get_or t.words (id / 64) 0) (id % 64))
 
 module _ (x : ℕ) (hx : x < 256) where
   -- putting an id in adds that id and no other
-  has_insert : (id : ℕ) (t : TableIds) → id < 256 → has (insert id t) x ≡ cond (eqb x id) true (has t x)
+  has_insert : (id : ℕ) (t : TableIds) → id < 256 → length t.words ≡ 4 → has (insert id t) x ≡ cond (eqb x id) true (has t x)
   unfolding has insert
-  has_insert id t h =
+  has_insert id t h n =
+      let w = get_or t.words (id / 64) 0 in
       either (eqb (x / 64) (id / 64))
       (λ e. let d = eqb-true (x / 64) (id / 64) e in
-      rw (d, word_same t (id / 64) (with_bit_of (word_of t (id / 64)) (id % 64)) (omega arith), bit_set (word_of t (id / 64)) (id % 64) (x % 64))
+      rw (d, get_or-set_same t.words (id / 64) (with_bit_of w (id % 64)) 0 (omega arith), bit_set w (id % 64) (x % 64))
       (either (eqb x id)
       (λ a. let b = eqb-true x id a in rw (a, eq-eqb (x % 64) (id % 64) (omega arith)))
       (λ a. rw (a, ne_eqb (x % 64) (id % 64) (λ b. eqb-false x id a (omega arith))))))
       (λ e. let d = eqb-false (x / 64) (id / 64) e in
-      rw (word_other t (id / 64) (with_bit_of (word_of t (id / 64)) (id % 64)) (x / 64) (omega arith) (omega arith) d, ne_eqb x id (λ b. d (ap (λ n. n / 64) b))))
+      rw (get_or-set_other t.words (id / 64) (x / 64) (with_bit_of w (id % 64)) 0 d, ne_eqb x id (λ b. d (ap (λ n. n / 64) b))))
 
   has_none : has no_table_ids x ≡ false
   unfolding has
-  has_none = rw (word_none (x / 64), zero-div)
+  has_none = rw (zero_word (x / 64), zero-div)
 
-  has_all : (ids : List ℕ) (t : TableIds) → ((i : ℕ) → get_or ids i 0 < 256) → has (insert_all ids t) x ≡ cond (member x ids) true (has t x)
-  has_all [] t h = refl
-  has_all (id ∷ ids) t h =
-      has_all ids (insert id t) (λ i. h (suc i))
-      ∙ rw (has_insert id t (h 0)) (either (eqb x id) (λ e. rw (e, cond_same (member x ids) true)) (λ e. rw e))
+  has_all : (ids : List ℕ) (t : TableIds) → ((i : ℕ) → get_or ids i 0 < 256) → length t.words ≡ 4
+      → has (insert_all ids t) x ≡ cond (member x ids) true (has t x)
+  has_all [] t h n = refl
+  has_all (id ∷ ids) t h n =
+      has_all ids (insert id t) (λ i. h (suc i)) (length_insert id t ∙ n)
+      ∙ rw (has_insert id t (h 0) n) (either (eqb x id) (λ e. rw (e, cond_same (member x ids) true)) (λ e. rw e))
 
 pub has_set : SetIsList
 unfolding set_of
-has_set x hx ids h = has_all x hx ids no_table_ids h ∙ rw (has_none x hx) (either (member x ids) (λ e. rw e) (λ e. rw e))
+has_set x hx ids h = has_all x hx ids no_table_ids h refl ∙ rw (has_none x hx) (either (member x ids) (λ e. rw e) (λ e. rw e))
 
 pub insert_both : (a b : List ℕ) (t : TableIds) → insert_all (a ++ b) t ≡ insert_all b (insert_all a t)
 insert_both [] b t = refl
@@ -135,11 +122,11 @@ module _ (s : List ℕ) where
 
 module _ (p : List ℕ) where
   -- a message has two bytes at least
-  behind_ahead : (b : Bool) (at end : ℕ) (m : MaybeMessage) → (b ≡ false → (at < length p) × (at < end))
-      → Ahead (length p) at (item (behind end (cond b no_message m)))
+  behind_ahead : (b : Bool) (at end : ℕ) (m : Option Message) → (b ≡ false → (at < length p) × (at < end))
+      → Ahead (length p) at (item (behind end (cond b None m)))
   behind_ahead true at end m h = tt
-  behind_ahead false at end no_message h = tt
-  behind_ahead false at end (some_message m) h = h refl
+  behind_ahead false at end None h = tt
+  behind_ahead false at end (Some m) h = h refl
 
   in_ahead : (at from end : ℕ) → at ≤ from → Ahead (length p) at (item (message_in p from end))
   unfolding message_in message_of
@@ -172,9 +159,9 @@ module _ (p : List ℕ) where
   -- the messages from a place on: what stands there, and the messages from where it leads
   pub messages_at : (at : ℕ) → messages_from p at ≡ turn (messages_from p) (item (message_step p at))
   unfolding messages_from
-  messages_at at = walk_at (λ q. item (message_step p q)) Option.none (length p) step_ahead at
+  messages_at at = walk_at (λ q. item (message_step p q)) None (length p) step_ahead at
 
 -- the turn of the loop that counts them
-pub one_more : (p : List ℕ) (at k : ℕ) {m : Message} {next : ℕ} {r : MessageCount} → message_step p at ≡ Found m next
-    → plus refused_all Count k (messages_from p at) ≡ r → plus refused_all Count (k + 1) (messages_from p next) ≡ r
-one_more p at k {m} {next} d e = one_more_item refused_all Count k m (messages_from p next) (messages_at p at ∙ rw d) e
+pub one_more : (p : List ℕ) (at k : ℕ) {m : Message} {next : ℕ} {r : Option ℕ} → message_step p at ≡ Found m next
+    → plus None Some k (messages_from p at) ≡ r → plus None Some (k + 1) (messages_from p next) ≡ r
+one_more p at k {m} {next} d e = one_more_item None Some k m (messages_from p next) (messages_at p at ∙ rw d) e

@@ -1,11 +1,12 @@
 -- The laws of `be` and `put_be`, each over every width. Assumes nothing.
 use Prim.Native.Nat.{ℕ, zero, suc, ◌+◌, ◌-◌, ◌*◌, ◌/◌, ◌%◌, ◌^◌, ◌≤◌, ◌<◌}
 use mathlib.Core.Path.{◌≡◌, refl, sym, ap, ◌∙◌}
-use mathlib.Core.List.{List}
-use native.Mathlib.Nat.{pow-suc, pow-succ', pow-le-pow_right, div-add-mod', add-suc, add-zero, add_assoc, mul_assoc, div-div-eq-div-mul, mod-eq_of_lt}
+use mathlib.Core.List.{List, [], ◌∷◌, ◌++◌, append_assoc}
+use native.Mathlib.Nat.{zero-add, pow-suc, pow-succ', pow-le-pow_right, add-suc, add-zero, add_assoc, mul_assoc, div-div-eq-div-mul, mod-eq_of_lt}
 use native.Mathlib.Omega.{arith}
-use lib.ListN.{get_or, set, length, length-set, take, drop}
-use lib.Seq.{get_or-drop, get_or-take, set_comm}
+use lib.ListN.{get_or, set, length, length-set, take, drop, replicate}
+use borrow.Rule.Slice.PartMut.{put_mid}
+use lib.Seq.{drop-drop, get_or-drop, get_or-take, set_comm, set_out, paste, paste-zero, paste-suc}
 use mir.Val.{Fits}
 use mir.Syntax.{w8}
 use Rattle.isdb_tlv.specs.Bytes.{be, put_be}
@@ -91,14 +92,65 @@ put_be_mod (suc w) at v r l q e =
     let d1 : v / 256 ≡ q * 256 ^ w + r / 256 = omega arith in
     rw d0 (rw (put_be_mod w at (v / 256) (r / 256) l q d1))
 
--- two halves are stored
-pub put_two : (w at v : ℕ) (l m m' : List ℕ) → m ≡ put_be w at (v / 256 ^ w) l → m' ≡ put_be w (at + w) (v % 256 ^ w) m → m' ≡ put_be (w + w) at v l
-put_two w at v l m m' e e' =
-    e'
-    ∙ sym (put_be_add w w at v l ∙ rw (← e) (put_be_mod w (at + w) v (v % 256 ^ w) m (v / 256 ^ w) (sym (div-add-mod' v (256 ^ w)))))
-
 -- one turn of the loop that stores from the last byte on
 pub put_be_next : (k at u : ℕ) (l m n : List ℕ) → 0 < k → put_be k at u l ≡ n → m ≡ set l (at + (k - 1)) (u % 256) → put_be (k - 1) at (u / 256) m ≡ n
 put_be_next zero at u l m n h e d = absurd (omega arith)
 put_be_next (suc k) at u l m n h e d =
     let i : suc k - 1 ≡ k = omega arith in rw (d, i) (rw (put_be_last k at u l) at e)
+
+-- ---- a number and its bytes as an array
+
+-- what lies from k on, and its first bytes
+pub be_rest : (w k : ℕ) (l m : List ℕ) → m ≡ drop k l → be w m 0 ≡ be w l k
+be_rest w k l m e = let z : k + 0 ≡ k = add-zero k in rw e (be_drop w k l 0 ∙ ap (be w l) z)
+
+pub be_chunk : (w : ℕ) (l m : List ℕ) → m ≡ take w l → be w m 0 ≡ be w l 0
+be_chunk w l m e = rw e (be_take w w l 0 (omega arith))
+
+-- fewer bytes, and zeros behind them
+zeros_at : (n i : ℕ) → ◌≡◌ {A = ℕ} (get_or (replicate n 0) i 0) 0
+zeros_at zero i = refl
+zeros_at (suc n) zero = refl
+zeros_at (suc n) (suc i) = zeros_at n i
+
+padded_at : (m z : List ℕ) → ((i : ℕ) → ◌≡◌ {A = ℕ} (get_or z i 0) 0) → (i : ℕ) → get_or (m ++ z) i 0 ≡ get_or m i 0
+padded_at [] z h i = h i
+padded_at (x ∷ m) z h zero = refl
+padded_at (x ∷ m) z h (suc i) = padded_at m z h i
+
+pub be_padded : (w j n : ℕ) (m : List ℕ) → be w (m ++ drop j (replicate n 0)) 0 ≡ be w m 0
+be_padded w j n m =
+    let tail : List ℕ = drop j (replicate n 0) in
+    let none : (i : ℕ) → ◌≡◌ {A = ℕ} (get_or tail i 0) 0 = λ i. rw get_or-drop (zeros_at n (j + i)) in
+    be_ext w 0 (m ++ tail) m (λ i h. padded_at m tail none (0 + i))
+
+-- a run of bytes is stored
+pub put_paste : (k at : ℕ) (l v : List ℕ) → ((i : ℕ) → Fits w8 (get_or v i 0)) → at + k ≤ length l → k ≤ length v
+    → put_be k at (be k v 0) l ≡ paste l at v k
+unfolding be put_be
+put_paste zero at l v fit h n = paste-zero l at v
+put_paste (suc k) at l v fit h n =
+    let b : get_or v k 0 < 256 = (fit k).fits in
+    let x : ℕ = be k v 0 * 256 + get_or v k 0 in
+    let z : 0 + k ≡ k = zero-add k in
+    let high : x / 256 ≡ be k v 0 = omega arith in
+    let low : x % 256 ≡ get_or v k 0 = omega arith in
+    rw (z, high, low, put_paste k at l v fit (omega arith) (omega arith)) (paste-suc l at v k 0 (omega arith) (omega arith))
+
+pub put_part : (k at : ℕ) (l v m : List ℕ) → ((i : ℕ) → Fits w8 (get_or v i 0)) → at + k ≤ length l → k ≤ length v
+    → m ≡ take k v → put_mid at k l m ≡ put_be k at (be k v 0) l
+put_part k at l v m fit h n e =
+    rw (e, drop-drop k at l) (sym (append_assoc (take at l) (take k v) (drop (at + k) l)) ∙ sym (put_paste k at l v fit h n))
+
+-- beyond the end nothing is
+pub put_cut_off : (j n at : ℕ) (l v : List ℕ) → ((i : ℕ) → Fits w8 (get_or v i 0)) → length l ≤ at + n
+    → put_be (n + j) at (be (n + j) v 0) l ≡ put_be n at (be n v 0) l
+unfolding be put_be
+put_cut_off zero n at l v fit h = rw (add-zero n)
+put_cut_off (suc j) n at l v fit h =
+    let b : get_or v (n + j) 0 < 256 = (fit (n + j)).fits in
+    let x : ℕ = be (n + j) v 0 * 256 + get_or v (n + j) 0 in
+    let z : 0 + (n + j) ≡ n + j = zero-add (n + j) in
+    let high : x / 256 ≡ be (n + j) v 0 = omega arith in
+    rw (add-suc n j, z, high, put_cut_off j n at l v fit h)
+    (set_out (put_be n at (be n v 0) l) (at + (n + j)) (x % 256) (rw length_put_be (omega arith)))

@@ -1,4 +1,5 @@
 -- What a sender that conforms to RFC 791 writes is read right. Assumes nothing.
+use Rattle.std.specs.Prelude.{None, Some}
 use Prim.Native.Nat.{ℕ, ◌+◌, ◌-◌, ◌*◌, ◌≤◌}
 use mathlib.Core.Path.{◌≡◌, ◌∙◌}
 use mathlib.Core.List.{◌++◌, append_assoc}
@@ -13,8 +14,6 @@ use Rattle.isdb_tlv.specs.Bytes.{be}
 use Rattle.isdb_tlv.specs.Fields.{written}
 use Rattle.isdb_tlv.specs.Ip.{version, ihl, protocol, datagram, ipv4_of, wire_of}
 use Rattle.isdb_tlv.specs.Rfc791.{Ipv4, words, udp_length, header, udp_header, sent, Conforming, flow_of, Theorem}
-use Rattle.isdb_tlv.specs.declared.ip.MaybeFlow.TheVariants.{Some as some_flow}
-use Rattle.isdb_tlv.specs.declared.ip.MaybeContext.TheVariants.{None as no_context}
 use Rattle.isdb_tlv.specs.declared.ip.Wire.TheVariants.{Good}
 use Rattle.isdb_tlv.proofs.Fields.{be_one, be_behind, field_at, offset_of, length_written, read}
 
@@ -55,7 +54,7 @@ module _ (d : Ipv4) (c : Conforming d) where
   enough : (n : ℕ) → n ≤ words d * 4 + udp_length d → ltb (length (sent d)) n ≡ false
   enough n h = le-ltb (length (sent d)) n (omega (arith, whole))
 
-  fields : ipv4_of (sent d) ≡ datagram no_context (some_flow (flow_of d)) (words d * 4 + 8)
+  fields : ipv4_of (sent d) ≡ datagram None (Some (flow_of d)) (words d * 4 + 8)
   unfolding ipv4_of
   fields =
       rw (enough 20 (omega arith), four, udp, ihl_words, enough (words d * 4 + 8) (omega arith))

@@ -1,4 +1,5 @@
 -- What a sender that conforms to RFC 8200 writes is read right. Assumes nothing.
+use Rattle.std.specs.Prelude.{None, Some}
 use Prim.Native.Nat.{ℕ, ◌/◌, ◌^◌, ◌≤◌}
 use mathlib.Core.Path.{◌≡◌, ◌∙◌}
 use mathlib.Core.List.{◌++◌, append_assoc}
@@ -12,8 +13,6 @@ use Rattle.isdb_tlv.specs.Bytes.{be}
 use Rattle.isdb_tlv.specs.Fields.{written}
 use Rattle.isdb_tlv.specs.Ip.{version, next_header, datagram, ipv6_of}
 use Rattle.isdb_tlv.specs.Rfc8200.{Ipv6, header, sent, Conforming, flow_of, Theorem}
-use Rattle.isdb_tlv.specs.declared.ip.MaybeFlow.TheVariants.{Some as some_flow}
-use Rattle.isdb_tlv.specs.declared.ip.MaybeContext.TheVariants.{None as no_context}
 use Rattle.isdb_tlv.proofs.Fields.{be_one, be_high, field_at, offset_of, length_written, read}
 
 module _ (d : Ipv6) (c : Conforming d) where
@@ -36,7 +35,7 @@ module _ (d : Ipv6) (c : Conforming d) where
   unfolding sent
   enough n h = le-ltb (length (sent d)) n (rw (length-append, length_written (header d)) (omega arith))
 
-  fields : ipv6_of (sent d) ≡ datagram no_context (some_flow (flow_of d)) 48
+  fields : ipv6_of (sent d) ≡ datagram None (Some (flow_of d)) 48
   unfolding ipv6_of
   fields =
       rw (enough 40 (omega arith), six, udp, enough 48 (omega arith))

@@ -1,4 +1,5 @@
 -- The scan for sections: where it finds one, and that stepping from one to the next goes through all. Assumes nothing.
+use Rattle.std.specs.Prelude.{None, Option, Some}
 use Prim.Native.Nat.{ℕ, zero, suc, ◌+◌, ◌-◌, ◌≤◌, ◌<◌}
 use mathlib.Core.Path.{◌≡◌, refl, sym, ap}
 use mathlib.Core.List.{List, [], ◌∷◌}
@@ -11,8 +12,6 @@ use Rattle.isdb_tlv.specs.Crc.{crc_of}
 use Rattle.isdb_tlv.specs.Walk.{Next, turn}
 use Rattle.isdb_tlv.specs.Si.{is_tlv_si, table_id_of, whole_size, section_at, found, scan_at, sections_from, first, next_section_of, onward}
 use Rattle.isdb_tlv.specs.declared.si.Section.{Section}
-use Rattle.isdb_tlv.specs.declared.si.MaybeSection.{MaybeSection}
-use Rattle.isdb_tlv.specs.declared.si.MaybeSection.TheVariants.{None, Some}
 use Rattle.isdb_tlv.proofs.Guards.{cond_elim}
 use Rattle.isdb_tlv.proofs.Walk.{Ahead, walk_at}
 
@@ -22,11 +21,11 @@ pub record Lies (s : List ℕ) (at : ℕ) (x : Section) : Type 0 where
   pub whole : 12 ≤ x.size
   pub within : x.offset + x.size ≤ length s
 
-abbrev pub Found : List ℕ → ℕ → MaybeSection → Type 0
+abbrev pub Found : List ℕ → ℕ → Option Section → Type 0
 Found s at None = Unit {0}
 Found s at (Some x) = Lies s at x
 
-abbrev Here : List ℕ → ℕ → MaybeSection → Type 0
+abbrev Here : List ℕ → ℕ → Option Section → Type 0
 Here s at None = Unit {0}
 Here s at (Some x) = (x.offset ≡ at) × Lies s at x
 
@@ -49,7 +48,7 @@ module _ (s : List ℕ) where
       let b = ltb-false (length s - at) n e3 in
       (refl, record { behind = omega arith; whole = a; within = omega arith }))))))
 
-  ahead_found : (at : ℕ) → 3 ≤ length s - at → (m : MaybeSection) → Here s at m → Ahead (length s) at (found at m)
+  ahead_found : (at : ℕ) → 3 ≤ length s - at → (m : Option Section) → Here s at m → Ahead (length s) at (found at m)
   ahead_found at h None w = omega arith
   ahead_found at h (Some x) w = let n = w.1.whole in omega arith
 
@@ -63,7 +62,7 @@ module _ (s : List ℕ) where
   unfolding sections_from
   scan at = walk_at (scan_at s) [] (length s) ahead at
 
-  scan_found : (at : ℕ) → 3 ≤ length s - at → (m : MaybeSection) → section_at s at ≡ m → sections_from s at ≡ turn (sections_from s) (found at m)
+  scan_found : (at : ℕ) → 3 ≤ length s - at → (m : Option Section) → section_at s at ≡ m → sections_from s at ≡ turn (sections_from s) (found at m)
   scan_found at h m e = rw (scan at, le-ltb (length s - at) 3 h, e)
 
   -- the three turns of the search
@@ -79,11 +78,11 @@ module _ (s : List ℕ) where
   unfolding next_section_of
   next_on at h e = ap first (scan_found at h None e)
 
-  further : (at : ℕ) (m : MaybeSection) → Found s (at + 1) m → Found s at m
+  further : (at : ℕ) (m : Option Section) → Found s (at + 1) m → Found s at m
   further at None w = tt
   further at (Some x) w = record { behind = omega arith; whole = w.whole; within = w.within }
 
-  steps_found : (at : ℕ) → Steps s (at + 1) (sections_from s (at + 1)) → (m : MaybeSection) → Here s at m
+  steps_found : (at : ℕ) → Steps s (at + 1) (sections_from s (at + 1)) → (m : Option Section) → Here s at m
       → Steps s at (turn (sections_from s) (found at m))
   steps_found at g None w = record { step = g.step; lies = further at (first (sections_from s (at + 1))) g.lies }
   steps_found at g (Some x) w =

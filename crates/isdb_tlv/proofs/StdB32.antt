@@ -1,4 +1,5 @@
 -- What a sender that conforms to ARIB STD-B32 Part 3 writes is read right. Assumes nothing.
+use Rattle.std.specs.Prelude.{Some}
 use Prim.Native.Nat.{ℕ, suc, ◌+◌, ◌≤◌, ◌<◌}
 use mathlib.Core.Path.{◌≡◌, refl, ◌∙◌}
 use mathlib.Core.List.{List}
@@ -16,7 +17,6 @@ use Rattle.isdb_tlv.specs.StdB32.{Kind, ipv4_packet, ipv6_packet, compressed_ip,
 use Rattle.isdb_tlv.specs.StdB32.{Tlv, tlv_header, tlv_sent, TlvConforming, TlvTheorem}
 use Rattle.isdb_tlv.specs.StdB32.{Header, ipv4, ipv4_id, ipv6, ipv6_id, header_type, compressed_fields, Hcfb, hcfb_fields, hcfb_sent}
 use Rattle.isdb_tlv.specs.StdB32.{HeaderConforming, ipv4_fits, ipv4_id_fits, ipv6_fits, ipv6_id_fits, HcfbConforming, flow_in, start_of, HcfbTheorem}
-use Rattle.isdb_tlv.specs.declared.ip.MaybeContext.TheVariants.{Some as some_context}
 use Rattle.isdb_tlv.proofs.Fields.{be_one, size, field_at, offset_of, length_written, read}
 
 -- a kind's number fits its byte, and names it
@@ -68,7 +68,7 @@ start ipv6_id = refl
 -- what stands behind the header type, by index of the field, tells how the packet is read
 parsed : (h : Header) (s : List ℕ) → type_read s ≡ header_type h → ((n : ℕ) → n ≤ start_of h → ltb (length s) n ≡ false)
     → ((k : ℕ) → be (field_at k (compressed_fields h)).width s (2 + (1 + offset_of k (compressed_fields h))) ≡ (field_at k (compressed_fields h)).value)
-    → compressed_of s ≡ datagram (some_context (context_id s)) (flow_in h) (start_of h)
+    → compressed_of s ≡ datagram (Some (context_id s)) (flow_in h) (start_of h)
 unfolding compressed_of partial_ipv4 partial_ipv6 header_id
 parsed (ipv4 l t i f h a b p q) s type enough of =
     rw (enough 3 (omega arith), type, enough 23 (omega arith), be_one s 10, of 5, of 6, of 7, of 8, of 9)
@@ -92,7 +92,7 @@ module _ (p : Hcfb) (c : HcfbConforming p) where
   context : context_id (hcfb_sent p) ≡ p.context
   context = rw (of_hcfb 0) (omega arith)
 
-  fields : compressed_of (hcfb_sent p) ≡ datagram (some_context p.context) (flow_in p.header) (start_of p.header)
+  fields : compressed_of (hcfb_sent p) ≡ datagram (Some p.context) (flow_in p.header) (start_of p.header)
   fields =
       rw context at
       (parsed p.header (hcfb_sent p) (be_one (hcfb_sent p) 2 ∙ of_hcfb 1) enough (λ k. of_hcfb (suc (suc k))))

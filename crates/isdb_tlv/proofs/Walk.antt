@@ -1,8 +1,8 @@
 -- What walks are known by. Assumes nothing.
+use Rattle.std.specs.Prelude.{Option, None, Some}
 use Prim.Native.Nat.{ℕ, zero, suc, ◌+◌, ◌-◌, ◌<◌}
 use mathlib.Core.Path.{◌≡◌, refl, ap, ◌∙◌}
 use mathlib.Core.List.{List}
-use mathlib.Core.Option.{Option, none, some}
 use native.Mathlib.Nat.{zero-add}
 use native.Mathlib.Omega.{arith}
 use lib.ListN.{length}
@@ -49,12 +49,12 @@ module _ {A B : Type 0} (refused : B) (count : ℕ → B) where
   plus k o = count_of refused (λ n. count (k + n)) o
 
   pub plus_zero : (o : Option (List A)) → plus 0 o ≡ count_of refused count o
-  plus_zero none = refl
-  plus_zero (some l) = rw zero-add
+  plus_zero None = refl
+  plus_zero (Some l) = rw zero-add
 
   plus_also : (k : ℕ) (x : A) (o : Option (List A)) → plus (k + 1) o ≡ plus k (also x o)
-  plus_also k x none = refl
-  plus_also k x (some l) = let e : k + 1 + length l ≡ k + suc (length l) = omega arith in rw e
+  plus_also k x None = refl
+  plus_also k x (Some l) = let e : k + 1 + length l ≡ k + suc (length l) = omega arith in rw e
 
   -- its turn: of the items `o`, the first is counted
   pub one_more : (k : ℕ) (x : A) (rest : Option (List A)) {o : Option (List A)} {r : B} → o ≡ also x rest → plus k o ≡ r

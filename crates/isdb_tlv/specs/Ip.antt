@@ -1,18 +1,14 @@
 -- What is read of the IP data of a TLV packet, whatever its bytes, and the wire check of an IPv4 datagram.
 -- Fields by their places in RFC 791 (IPv4), RFC 8200 (IPv6), RFC 768 (UDP) and ARIB STD-B32 Part 3, 3.7 (compressed IP).
-use Rattle.std.specs.Prelude.{ℕ, ◌+◌, ◌-◌, ◌*◌, ◌/◌, ◌%◌, List, length, get_or}
+use Rattle.isdb_tlv.specs.declared.ip.IpError.{IpError}
+use Rattle.isdb_tlv.specs.declared.ip.Datagram.{Datagram}
+use Rattle.std.specs.Prelude.{ℕ, ◌+◌, ◌-◌, ◌*◌, ◌/◌, ◌%◌, List, length, get_or, Err, None, Ok, Option, Result, Some}
 use Rattle.isdb_tlv.specs.Guards.{◌<?◌, ◌=?◌, ◌≠?◌}
 use Rattle.std.specs.Prelude.{if◌then◌else◌}
 use Rattle.isdb_tlv.specs.Bytes.{be}
 use Rattle.isdb_tlv.specs.declared.ip.Address.TheVariants.{V4, V6}
 use Rattle.isdb_tlv.specs.declared.ip.Flow.{Flow}
-use Rattle.isdb_tlv.specs.declared.ip.MaybeFlow.{MaybeFlow}
-use Rattle.isdb_tlv.specs.declared.ip.MaybeFlow.TheVariants.{None as no_flow_of, Some as some_flow}
-use Rattle.isdb_tlv.specs.declared.ip.MaybeContext.{MaybeContext}
-use Rattle.isdb_tlv.specs.declared.ip.MaybeContext.TheVariants.{None as no_context, Some as some_context}
 use Rattle.isdb_tlv.specs.declared.ip.IpError.TheVariants.{Truncated, NotUdp, HeaderType, Version}
-use Rattle.isdb_tlv.specs.declared.ip.IpResult.{IpResult}
-use Rattle.isdb_tlv.specs.declared.ip.IpResult.TheVariants.{Ok, Err}
 use Rattle.isdb_tlv.specs.declared.ip.Wire.{Wire}
 use Rattle.isdb_tlv.specs.declared.ip.Wire.TheVariants.{Good, A, B, C, D, E}
 
@@ -31,7 +27,7 @@ flow6 s src dst ports =
     record { src = V6 (be 8 s src) (be 8 s (src + 8)); dst = V6 (be 8 s dst) (be 8 s (dst + 8)); sport = be 2 s ports; dport = be 2 s (ports + 2) }
 
 -- a datagram whose payload runs from `start` to the end of the data
-abbrev pub datagram : MaybeContext → MaybeFlow → ℕ → IpResult
+abbrev pub datagram : Option ℕ → Option Flow → ℕ → Result Datagram IpError
 datagram context flow start = Ok (record { context = context; flow = flow; start = start })
 
 -- the version, in the first four bits of either header
@@ -58,43 +54,43 @@ udp_length s h = be 2 s (h + 4)
 
 -- an IPv4 packet: source at 12, destination at 16, the UDP header where the IHL says, also below 5; the total length and
 -- the UDP length are not read
-unfoldable pub ipv4_of : List ℕ → IpResult
+unfoldable pub ipv4_of : List ℕ → Result Datagram IpError
 ipv4_of s =
     if length s <? 20 then Err Truncated
     else if version s ≠? 4 then Err (Version (version s))
     else if protocol s ≠? udp then Err (NotUdp (protocol s))
     else if length s <? ihl s * 4 + 8 then Err Truncated
-    else datagram no_context (some_flow (flow4 s 12 16 (ihl s * 4))) (ihl s * 4 + 8)
+    else datagram None (Some (flow4 s 12 16 (ihl s * 4))) (ihl s * 4 + 8)
 
 -- an IPv6 packet: source at 8, destination at 24, the UDP header at 40; the payload length is not read
-unfoldable pub ipv6_of : List ℕ → IpResult
+unfoldable pub ipv6_of : List ℕ → Result Datagram IpError
 ipv6_of s =
     if length s <? 40 then Err Truncated
     else if version s ≠? 6 then Err (Version (version s))
     else if next_header s ≠? udp then Err (NotUdp (next_header s))
     else if length s <? 48 then Err Truncated
-    else datagram no_context (some_flow (flow6 s 8 24 40)) 48
+    else datagram None (Some (flow6 s 8 24 40)) 48
 
 -- header type 20h: behind the three bytes of the compressed header an IPv4 header without total length, checksum and
 -- options, 16 bytes, and the ports
-unfoldable pub partial_ipv4 : List ℕ → ℕ → IpResult
+unfoldable pub partial_ipv4 : List ℕ → ℕ → Result Datagram IpError
 partial_ipv4 s context =
     if length s <? 23 then Err Truncated
     else if get_or s 10 0 ≠? udp then Err (NotUdp (get_or s 10 0))
-    else datagram (some_context context) (some_flow (flow4 s 11 15 19)) 23
+    else datagram (Some context) (Some (flow4 s 11 15 19)) 23
 
 -- header type 60h: an IPv6 header without payload length, 38 bytes, and the ports
-unfoldable pub partial_ipv6 : List ℕ → ℕ → IpResult
+unfoldable pub partial_ipv6 : List ℕ → ℕ → Result Datagram IpError
 partial_ipv6 s context =
     if length s <? 45 then Err Truncated
     else if get_or s 7 0 ≠? udp then Err (NotUdp (get_or s 7 0))
-    else datagram (some_context context) (some_flow (flow6 s 9 25 41)) 45
+    else datagram (Some context) (Some (flow6 s 9 25 41)) 45
 
 -- header type 21h: the identification of the IPv4 header, 2 bytes
-unfoldable pub header_id : List ℕ → ℕ → IpResult
+unfoldable pub header_id : List ℕ → ℕ → Result Datagram IpError
 header_id s context =
     if length s <? 5 then Err Truncated
-    else datagram (some_context context) no_flow_of 5
+    else datagram (Some context) None 5
 
 -- the context id, 12 bits; 4 bits of sequence number follow
 abbrev pub context_id : List ℕ → ℕ
@@ -104,13 +100,13 @@ abbrev pub header_type : List ℕ → ℕ
 header_type s = get_or s 2 0
 
 -- a header-compressed packet; header type 61h has nothing behind the three bytes
-unfoldable pub compressed_of : List ℕ → IpResult
+unfoldable pub compressed_of : List ℕ → Result Datagram IpError
 compressed_of s =
     if length s <? 3 then Err Truncated
     else if header_type s =? 0x20 then partial_ipv4 s (context_id s)
     else if header_type s =? 0x60 then partial_ipv6 s (context_id s)
     else if header_type s =? 0x21 then header_id s (context_id s)
-    else if header_type s =? 0x61 then datagram (some_context (context_id s)) no_flow_of 3
+    else if header_type s =? 0x61 then datagram (Some (context_id s)) None 3
     else Err (HeaderType (header_type s))
 
 -- the wire check: good, or the first failing test

@@ -1,7 +1,6 @@
 -- ISO/IEC 23008-1 with ARIB STD-B60, 6.4.1.1, Tables 6-4 to 6-9: an MMTP packet as a conforming sender writes it, and
 -- what it means to read it right.
-use Rattle.std.specs.Prelude.{ℕ, ◌+◌, ◌^◌, ◌≤◌, ◌<◌, ◌≡◌, Bool, true, false, List, [], ◌∷◌, ◌++◌, length, drop}
-use Rattle.std.proofs.Math.Option.{Option, none, some}
+use Rattle.std.specs.Prelude.{ℕ, ◌+◌, ◌^◌, ◌≤◌, ◌<◌, ◌≡◌, Bool, true, false, List, [], ◌∷◌, ◌++◌, length, drop, None, Some, Option}
 use Rattle.isdb_tlv.specs.Guards.{◌=?◌}
 use Rattle.isdb_tlv.specs.Fields.{Field, field, bits, packed, written}
 use Rattle.isdb_tlv.specs.Mmtp.{mmtp_of}
@@ -9,10 +8,7 @@ use Rattle.isdb_tlv.specs.declared.mmtp.FecType.{FecType}
 use Rattle.isdb_tlv.specs.declared.mmtp.FecType.TheVariants.{NotProtected, Source, Repair, Reserved}
 use Rattle.isdb_tlv.specs.declared.mmtp.PayloadType.{PayloadType}
 use Rattle.isdb_tlv.specs.declared.mmtp.PayloadType.TheVariants.{Mpu, GenericObject, Messages, FecRepair, Reserved as reserved_kind}
-use Rattle.isdb_tlv.specs.declared.mmtp.MaybeControl.{MaybeControl}
-use Rattle.isdb_tlv.specs.declared.mmtp.MaybeControl.TheVariants.{None as no_control, Some as some_control}
 use Rattle.isdb_tlv.specs.declared.mmtp.Header.{Header}
-use Rattle.isdb_tlv.specs.declared.mmtp.Parsed.TheVariants.{Some as some_packet}
 
 -- Table 6-5: the FEC types and their numbers
 pub data Fec : Type 0 where
@@ -126,12 +122,12 @@ extension_flag (multi_type es final) = 1
 extension_flag (other_type type b) = 1
 
 abbrev pub counter_sent : Option ℕ → List ℕ
-counter_sent none = []
-counter_sent (some c) = written (field 4 c ∷ [])
+counter_sent None = []
+counter_sent (Some c) = written (field 4 c ∷ [])
 
 abbrev pub counter_flag : Option ℕ → ℕ
-counter_flag none = 0
-counter_flag (some c) = 1
+counter_flag None = 0
+counter_flag (Some c) = 1
 
 -- Table 6-4: version 0, packet counter flag, FEC type, reserved, extension flag, RAP flag, reserved, payload type, packet
 -- id, delivery timestamp, packet sequence number
@@ -186,28 +182,28 @@ pub record Conforming (p : Mmtp) : Type 0 where
 
 -- what the entries say of scrambling: the first of type 1 decides
 abbrev pub scrambling_or : Entry → Option Scrambling → Option Scrambling
-scrambling_or (scrambling upper x lower more) others = some x
+scrambling_or (scrambling upper x lower more) others = Some x
 scrambling_or (other_entry type b) others = others
 
 abbrev pub scrambling_in : List Entry → Entry → Option Scrambling
-scrambling_in [] final = scrambling_or final none
+scrambling_in [] final = scrambling_or final None
 scrambling_in (e ∷ es) final = scrambling_or e (scrambling_in es final)
 
 abbrev pub scrambling_of : Extension → Option Scrambling
-scrambling_of no_extension = none
+scrambling_of no_extension = None
 scrambling_of (multi_type es final) = scrambling_in es final
-scrambling_of (other_type type b) = none
+scrambling_of (other_type type b) = None
 
 -- whether the payload is scrambled, and the two bits, where there are any
 abbrev pub info_seen : Option Scrambling → Bool
-info_seen none = false
-info_seen (some not_scrambled) = false
-info_seen (some even_key) = true
-info_seen (some odd_key) = true
+info_seen None = false
+info_seen (Some not_scrambled) = false
+info_seen (Some even_key) = true
+info_seen (Some odd_key) = true
 
-abbrev pub control_seen : Option Scrambling → MaybeControl
-control_seen none = no_control
-control_seen (some x) = some_control (scrambling_code x)
+abbrev pub control_seen : Option Scrambling → Option ℕ
+control_seen None = None
+control_seen (Some x) = Some (scrambling_code x)
 
 abbrev pub header_of : Mmtp → Header
 header_of p =
@@ -222,7 +218,7 @@ header_of p =
     }
 
 pub record Read (p : Mmtp) : Type 0 where
-  pub fields : mmtp_of (sent p) ≡ some_packet (record { header = header_of p; start = length (front p) })
+  pub fields : mmtp_of (sent p) ≡ Some (record { header = header_of p; start = length (front p) })
   pub payload : drop (length (front p)) (sent p) ≡ p.payload
 
 -- proved in proofs/Iso23008.antt

@@ -1,43 +1,24 @@
 -- The control messages of an undivided payload: their ids and the ids of the tables that they carry.
 -- ARIB STD-B32 Part 3, Figure 2 (the payload) and STD-B60, 4.2 and 7.2.3, Tables 4-6 and 4-8 (the messages).
-use Rattle.std.specs.Prelude.{ℕ, ◌+◌, ◌-◌, ◌*◌, ◌/◌, ◌%◌, ◌^◌, List, [], ◌∷◌, ◌++◌, Bool, length, take, drop, get_or}
-use Rattle.std.proofs.Math.Option.{Option}
+use Rattle.std.specs.Prelude.{ℕ, ◌+◌, ◌-◌, ◌*◌, ◌/◌, ◌%◌, ◌^◌, List, [], ◌∷◌, ◌++◌, Bool, length, take, drop, get_or, set, None, Some, Option}
 use Rattle.isdb_tlv.specs.Guards.{◌<?◌, ◌≤?◌, ◌=?◌, ◌≠?◌}
 use Rattle.std.specs.Prelude.{if◌then◌else◌}
 use Rattle.isdb_tlv.specs.Bytes.{be, with_bit_of}
 use Rattle.isdb_tlv.specs.Walk.{Next, stop, more, run, walk, also, count_of}
 use Rattle.isdb_tlv.specs.declared.mmtp.TableIds.{TableIds}
 use Rattle.isdb_tlv.specs.declared.mmtp.Message.{Message}
-use Rattle.isdb_tlv.specs.declared.mmtp.MaybeMessage.{MaybeMessage}
-use Rattle.isdb_tlv.specs.declared.mmtp.MaybeMessage.TheVariants.{None as no_message, Some as some_message}
 use Rattle.isdb_tlv.specs.declared.mmtp.MessageStep.{MessageStep}
 use Rattle.isdb_tlv.specs.declared.mmtp.MessageStep.TheVariants.{Refused, End, Found}
-use Rattle.isdb_tlv.specs.declared.mmtp.MessageCount.{MessageCount}
-use Rattle.isdb_tlv.specs.declared.mmtp.MessageCount.TheVariants.{Refused as refused_all, Count}
 
 -- a set of table ids: bit i of word k stands for the id 64 k + i
 abbrev pub no_table_ids : TableIds
-no_table_ids = record { w0 = 0; w1 = 0; w2 = 0; w3 = 0 }
-
-unfoldable pub word_of : TableIds → ℕ → ℕ
-word_of t k =
-    if k =? 0 then t.w0
-    else if k =? 1 then t.w1
-    else if k =? 2 then t.w2
-    else t.w3
+no_table_ids = record { words = 0 ∷ 0 ∷ 0 ∷ 0 ∷ [] }
 
 unfoldable pub has : TableIds → ℕ → Bool
-has t id = word_of t (id / 64) / 2 ^ (id % 64) % 2 =? 1
-
-abbrev pub with_word : TableIds → ℕ → ℕ → TableIds
-with_word t k w =
-    if k =? 0 then record { w0 = w; w1 = t.w1; w2 = t.w2; w3 = t.w3 }
-    else if k =? 1 then record { w0 = t.w0; w1 = w; w2 = t.w2; w3 = t.w3 }
-    else if k =? 2 then record { w0 = t.w0; w1 = t.w1; w2 = w; w3 = t.w3 }
-    else record { w0 = t.w0; w1 = t.w1; w2 = t.w2; w3 = w }
+has t id = get_or t.words (id / 64) 0 / 2 ^ (id % 64) % 2 =? 1
 
 unfoldable pub insert : ℕ → TableIds → TableIds
-insert id t = with_word t (id / 64) (with_bit_of (word_of t (id / 64)) (id % 64))
+insert id t = record { words = set t.words (id / 64) (with_bit_of (get_or t.words (id / 64) 0) (id % 64)) }
 
 abbrev pub insert_all : List ℕ → TableIds → TableIds
 insert_all [] t = t
@@ -82,38 +63,38 @@ walked_from s at = walk (table_id_at s) [] (length s) at
 unfoldable pub pa_tables : List ℕ → List ℕ
 pa_tables body = listed_from (get_or body 0 0) body 1 ++ walked_from body (1 + 4 * get_or body 0 0)
 
-abbrev pub pa_body : List ℕ → MaybeMessage
+abbrev pub pa_body : List ℕ → Option Message
 pa_body body =
-    if length body =? 0 then no_message
-    else some_message (record { id = pa_message_id; tables = set_of (pa_tables body) })
+    if length body =? 0 then None
+    else Some (record { id = pa_message_id; tables = set_of (pa_tables body) })
 
 -- PA message: id 16 bits, version 8, length 32, body, cut at the message's end
-unfoldable pub pa_message : List ℕ → MaybeMessage
+unfoldable pub pa_message : List ℕ → Option Message
 pa_message m =
-    if length m <? 7 then no_message
+    if length m <? 7 then None
     else pa_body (take (be 4 m 3) (drop 7 m))
 
 -- M2 section, CA and M2 short section message: id 16 bits, version 8, length 16, then a table, its id first
-unfoldable pub section_message : List ℕ → ℕ → MaybeMessage
+unfoldable pub section_message : List ℕ → ℕ → Option Message
 section_message m id =
-    if length m <? 6 then no_message
-    else some_message (record { id = id; tables = set_of (get_or m 5 0 ∷ []) })
+    if length m <? 6 then None
+    else Some (record { id = id; tables = set_of (get_or m 5 0 ∷ []) })
 
-abbrev pub other_message : ℕ → MaybeMessage
-other_message id = some_message (record { id = id; tables = no_table_ids })
+abbrev pub other_message : ℕ → Option Message
+other_message id = Some (record { id = id; tables = no_table_ids })
 
 -- a message, by its id; others than these without tables
-unfoldable pub message_of : List ℕ → MaybeMessage
+unfoldable pub message_of : List ℕ → Option Message
 message_of m =
-    if length m <? 2 then no_message
+    if length m <? 2 then None
     else if be 2 m 0 =? pa_message_id then pa_message m
     else if be 2 m 0 <? m2_section_message_id then other_message (be 2 m 0)
     else if be 2 m 0 ≤? m2_short_section_message_id then section_message m (be 2 m 0)
     else other_message (be 2 m 0)
 
-abbrev pub behind : ℕ → MaybeMessage → MessageStep
-behind end no_message = Refused
-behind end (some_message m) = Found m end
+abbrev pub behind : ℕ → Option Message → MessageStep
+behind end None = Refused
+behind end (Some m) = Found m end
 
 -- the message in the bytes from `at` to `end`
 unfoldable pub message_in : List ℕ → ℕ → ℕ → MessageStep
@@ -144,16 +125,16 @@ message_step p at =
     else message_at p at
 
 abbrev pub item : MessageStep → Next (Option (List Message))
-item Refused = stop Option.none
-item End = stop (Option.some [])
+item Refused = stop None
+item End = stop (Some [])
 item (Found m next) = more next (also m)
 
 -- the messages from a place on; one that cannot be identified makes the whole refused
 unfoldable pub messages_from : List ℕ → ℕ → Option (List Message)
-messages_from p at = walk (λ q. item (message_step p q)) Option.none (length p) at
+messages_from p at = walk (λ q. item (message_step p q)) None (length p) at
 
 unfoldable pub messages_of : List ℕ → Option (List Message)
 messages_of p = messages_from p 2
 
-unfoldable pub counted : Option (List Message) → MessageCount
-counted o = count_of refused_all Count o
+unfoldable pub counted : Option (List Message) → Option ℕ
+counted o = count_of None Some o

@@ -1,5 +1,6 @@
 -- What is read of an MMTP packet, whatever its bytes: ISO/IEC 23008-1 and ARIB STD-B60, 6.4.1.1, Tables 6-4 to 6-9.
-use Rattle.std.specs.Prelude.{ℕ, ◌+◌, ◌-◌, ◌/◌, ◌%◌, List, Bool, true, false, length, take, drop, get_or}
+use Rattle.isdb_tlv.specs.declared.mmtp.Packet.{Packet}
+use Rattle.std.specs.Prelude.{ℕ, ◌+◌, ◌-◌, ◌/◌, ◌%◌, List, Bool, true, false, length, take, drop, get_or, None, Option, Some}
 use Rattle.isdb_tlv.specs.Guards.{◌<?◌, ◌≤?◌, ◌=?◌, ◌≠?◌}
 use Rattle.std.specs.Prelude.{if◌then◌else◌}
 use Rattle.isdb_tlv.specs.Bytes.{be}
@@ -10,13 +11,7 @@ use Rattle.isdb_tlv.specs.declared.mmtp.PayloadType.{PayloadType}
 use Rattle.isdb_tlv.specs.declared.mmtp.PayloadType.TheVariants.{Mpu, GenericObject, Messages, FecRepair, Reserved}
 use Rattle.isdb_tlv.specs.declared.mmtp.Scramble.{Scramble}
 use Rattle.isdb_tlv.specs.declared.mmtp.Scramble.TheVariants.{Absent, NoByte, Bits}
-use Rattle.isdb_tlv.specs.declared.mmtp.MaybeControl.{MaybeControl}
-use Rattle.isdb_tlv.specs.declared.mmtp.MaybeControl.TheVariants.{None as no_control, Some as some_control}
 use Rattle.isdb_tlv.specs.declared.mmtp.Header.{Header}
-use Rattle.isdb_tlv.specs.declared.mmtp.Parsed.{Parsed}
-use Rattle.isdb_tlv.specs.declared.mmtp.Parsed.TheVariants.{None as no_packet, Some as some_packet}
-use Rattle.isdb_tlv.specs.declared.mmtp.Extension.{Extension}
-use Rattle.isdb_tlv.specs.declared.mmtp.Extension.TheVariants.{Bad, Good}
 
 -- FEC_type, 2 bits (Table 6-5)
 abbrev pub fec_code_of : FecType → ℕ
@@ -73,27 +68,27 @@ scramble_info_of Absent = false
 scramble_info_of NoByte = true
 scramble_info_of (Bits c) = 2 ≤? c
 
-abbrev pub scramble_control_of : Scramble → MaybeControl
-scramble_control_of Absent = no_control
-scramble_control_of NoByte = no_control
-scramble_control_of (Bits c) = some_control c
+abbrev pub scramble_control_of : Scramble → Option ℕ
+scramble_control_of Absent = None
+scramble_control_of NoByte = None
+scramble_control_of (Bits c) = Some c
 
 -- the header extension at `at`: a type, a length and so many bytes, all present. Type 0 holds entries (Table 6-7).
-unfoldable pub extension_at : List ℕ → ℕ → Extension
+unfoldable pub extension_at : List ℕ → ℕ → Option (Scramble × ℕ)
 extension_at s at =
-    if length s - at <? 4 then Bad
-    else if length s - (at + 4) <? be 2 s (at + 2) then Bad
-    else if be 2 s at =? 0 then Good (entries (take (be 2 s (at + 2)) (drop (at + 4) s)) 0) (at + 4 + be 2 s (at + 2))
-    else Good Absent (at + 4 + be 2 s (at + 2))
+    if length s - at <? 4 then None
+    else if length s - (at + 4) <? be 2 s (at + 2) then None
+    else if be 2 s at =? 0 then Some (entries (take (be 2 s (at + 2)) (drop (at + 4) s)) 0, at + 4 + be 2 s (at + 2))
+    else Some (Absent, at + 4 + be 2 s (at + 2))
 
 -- where the fixed part ends: a packet counter of four bytes follows the twelve where its flag is set
 abbrev pub fixed_size : ℕ → ℕ
 fixed_size flags = if flags / 32 % 2 =? 0 then 12 else 16
 
 -- what follows the fixed part of a packet whose first byte is `flags`
-unfoldable pub after_fixed : List ℕ → ℕ → Extension
+unfoldable pub after_fixed : List ℕ → ℕ → Option (Scramble × ℕ)
 after_fixed s flags =
-    if flags / 2 % 2 =? 0 then (if length s <? fixed_size flags then Bad else Good Absent (fixed_size flags))
+    if flags / 2 % 2 =? 0 then (if length s <? fixed_size flags then None else Some (Absent, fixed_size flags))
     else extension_at s (fixed_size flags)
 
 -- Table 6-4: version 2 bits, packet counter flag 1, FEC type 2, reserved 1, extension flag 1, RAP flag 1, reserved 2,
@@ -110,13 +105,13 @@ header_of s flags scramble =
       scramble_control = scramble_control_of scramble;
     }
 
-abbrev pub packet : List ℕ → ℕ → Extension → Parsed
-packet s flags Bad = no_packet
-packet s flags (Good scramble start) = some_packet (record { header = header_of s flags scramble; start = start })
+abbrev pub packet : List ℕ → ℕ → Option (Scramble × ℕ) → Option Packet
+packet s flags None = None
+packet s flags (Some (scramble, start)) = Some (record { header = header_of s flags scramble; start = start })
 
 -- a packet: twelve bytes at least and version 0, or none
-unfoldable pub mmtp_of : List ℕ → Parsed
+unfoldable pub mmtp_of : List ℕ → Option Packet
 mmtp_of s =
-    if length s <? 12 then no_packet
-    else if get_or s 0 0 / 64 ≠? 0 then no_packet
+    if length s <? 12 then None
+    else if get_or s 0 0 / 64 ≠? 0 then None
     else packet s (get_or s 0 0) (after_fixed s (get_or s 0 0))

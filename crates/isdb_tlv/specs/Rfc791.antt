@@ -1,12 +1,10 @@
 -- RFC 791 (Internet Protocol, version 4) with RFC 768 (User Datagram Protocol): an unfragmented datagram as a conforming
 -- sender writes it, and what it means to read it right.
-use Rattle.std.specs.Prelude.{ℕ, ◌+◌, ◌*◌, ◌/◌, ◌%◌, ◌^◌, ◌<◌, ◌≤◌, ◌≡◌, List, [], ◌∷◌, ◌++◌, length, drop}
+use Rattle.std.specs.Prelude.{ℕ, ◌+◌, ◌*◌, ◌/◌, ◌%◌, ◌^◌, ◌<◌, ◌≤◌, ◌≡◌, List, [], ◌∷◌, ◌++◌, length, drop, None, Some}
 use Rattle.isdb_tlv.specs.Fields.{Field, field, bits, packed, written}
 use Rattle.isdb_tlv.specs.Ip.{datagram, ipv4_of, wire_of}
 use Rattle.isdb_tlv.specs.declared.ip.Address.TheVariants.{V4}
 use Rattle.isdb_tlv.specs.declared.ip.Flow.{Flow}
-use Rattle.isdb_tlv.specs.declared.ip.MaybeFlow.TheVariants.{Some as some_flow}
-use Rattle.isdb_tlv.specs.declared.ip.MaybeContext.TheVariants.{None as no_context}
 use Rattle.isdb_tlv.specs.declared.ip.Wire.TheVariants.{Good}
 
 -- what the sender says; lengths follow from it
@@ -82,7 +80,7 @@ flow_of d = record { src = V4 d.source; dst = V4 d.destination; sport = d.source
 
 -- the reading gives the sender's addresses and ports, its payload is the sender's, and the wire check finds it good
 pub record Read (d : Ipv4) : Type 0 where
-  pub fields : ipv4_of (sent d) ≡ datagram no_context (some_flow (flow_of d)) (words d * 4 + 8)
+  pub fields : ipv4_of (sent d) ≡ datagram None (Some (flow_of d)) (words d * 4 + 8)
   pub payload : drop (words d * 4 + 8) (sent d) ≡ d.payload
   pub wire : wire_of (sent d) ≡ Good
 

@@ -1,12 +1,10 @@
 -- RFC 8200 (Internet Protocol, version 6) with RFC 768: a datagram without extension headers as a conforming sender writes
 -- it, and what it means to read it right.
-use Rattle.std.specs.Prelude.{ℕ, ◌+◌, ◌^◌, ◌<◌, ◌≡◌, List, [], ◌∷◌, ◌++◌, length, drop}
+use Rattle.std.specs.Prelude.{ℕ, ◌+◌, ◌^◌, ◌<◌, ◌≡◌, List, [], ◌∷◌, ◌++◌, length, drop, None, Some}
 use Rattle.isdb_tlv.specs.Fields.{Field, field, bits, packed, written}
 use Rattle.isdb_tlv.specs.Ip.{datagram, ipv6_of}
 use Rattle.isdb_tlv.specs.declared.ip.Address.TheVariants.{V6}
 use Rattle.isdb_tlv.specs.declared.ip.Flow.{Flow}
-use Rattle.isdb_tlv.specs.declared.ip.MaybeFlow.TheVariants.{Some as some_flow}
-use Rattle.isdb_tlv.specs.declared.ip.MaybeContext.TheVariants.{None as no_context}
 
 -- an address of 128 bits in two halves
 pub record Address : Type 0 where
@@ -71,7 +69,7 @@ flow_of d =
     }
 
 pub record Read (d : Ipv6) : Type 0 where
-  pub fields : ipv6_of (sent d) ≡ datagram no_context (some_flow (flow_of d)) 48
+  pub fields : ipv6_of (sent d) ≡ datagram None (Some (flow_of d)) 48
   pub payload : drop 48 (sent d) ≡ d.payload
 
 -- proved in proofs/Rfc8200.antt

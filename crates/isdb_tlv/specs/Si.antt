@@ -1,14 +1,12 @@
 -- The scan of a control packet's data for sections of TLV-SI: ARIB STD-B60, 5 and Table 4-2 (TLV-NIT and AMT), in the
 -- extended section format of ISO/IEC 13818-1, 2.4.4.11.
-use Rattle.std.specs.Prelude.{ℕ, ◌+◌, ◌-◌, ◌/◌, ◌%◌, List, [], ◌∷◌, Bool, true, not, length, take, drop, get_or}
+use Rattle.std.specs.Prelude.{ℕ, ◌+◌, ◌-◌, ◌/◌, ◌%◌, List, [], ◌∷◌, Bool, true, not, length, take, drop, get_or, None, Option, Some}
 use Rattle.isdb_tlv.specs.Guards.{◌<?◌, ◌=?◌, ◌≠?◌}
 use Rattle.std.specs.Prelude.{if◌then◌else◌}
 use Rattle.isdb_tlv.specs.Bytes.{be}
 use Rattle.isdb_tlv.specs.Crc.{crc_of}
 use Rattle.isdb_tlv.specs.Walk.{Next, stop, more, walk}
 use Rattle.isdb_tlv.specs.declared.si.Section.{Section}
-use Rattle.isdb_tlv.specs.declared.si.MaybeSection.{MaybeSection}
-use Rattle.isdb_tlv.specs.declared.si.MaybeSection.TheVariants.{None, Some}
 
 -- the tables' ids (Table 4-2): TLV-NIT of this and of another network, AMT
 abbrev pub nit_actual_id : ℕ
@@ -37,7 +35,7 @@ whole_size s i = be 2 s (i + 1) % 4096 + 3
 
 -- the section at `i`: its id is one of TLV-SI, its syntax indicator is set, it has the five bytes of the extended header
 -- and a CRC, it ends within the data, and its CRC is good
-unfoldable pub section_at : List ℕ → ℕ → MaybeSection
+unfoldable pub section_at : List ℕ → ℕ → Option Section
 section_at s i =
     if not (is_tlv_si (table_id_of s i)) then None
     else if get_or s (i + 1) 0 <? 128 then None
@@ -53,7 +51,7 @@ section_at s i =
     })
 
 -- the scan: a section moves it behind itself, anything else by one byte
-abbrev pub found : ℕ → MaybeSection → Next (List Section)
+abbrev pub found : ℕ → Option Section → Next (List Section)
 found i None = more (i + 1) (λ rest. rest)
 found i (Some x) = more (i + x.size) (λ rest. x ∷ rest)
 
@@ -68,14 +66,14 @@ unfoldable pub sections_of : List ℕ → List Section
 sections_of s = sections_from s 0
 
 -- the first of them
-abbrev pub first : List Section → MaybeSection
+abbrev pub first : List Section → Option Section
 first [] = None
 first (x ∷ l) = Some x
 
-unfoldable pub next_section_of : List ℕ → ℕ → MaybeSection
+unfoldable pub next_section_of : List ℕ → ℕ → Option Section
 next_section_of s at = first (sections_from s at)
 
 -- a step from section to section: the one that was found, and those behind it
-abbrev pub onward : List ℕ → MaybeSection → List Section
+abbrev pub onward : List ℕ → Option Section → List Section
 onward s None = []
 onward s (Some x) = x ∷ sections_from s (x.offset + x.size)

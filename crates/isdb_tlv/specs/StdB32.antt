@@ -1,6 +1,7 @@
 -- ARIB STD-B32 Part 3: TLV packets (3.5) and header-compressed IP (3.7) as a conforming sender writes them, and what it
 -- means to read them right.
-use Rattle.std.specs.Prelude.{ℕ, ◌^◌, ◌<◌, ◌≡◌, List, [], ◌∷◌, ◌++◌, length, drop, get_or}
+use Rattle.isdb_tlv.specs.declared.ip.Flow.{Flow}
+use Rattle.std.specs.Prelude.{ℕ, ◌^◌, ◌<◌, ◌≡◌, List, [], ◌∷◌, ◌++◌, length, drop, get_or, None, Option, Some}
 use Rattle.isdb_tlv.specs.Bytes.{be}
 use Rattle.isdb_tlv.specs.Fields.{Field, field, bits, packed, written}
 use Rattle.isdb_tlv.specs.Tlv.{packet_type}
@@ -8,9 +9,6 @@ use Rattle.isdb_tlv.specs.Ip.{datagram, compressed_of}
 use Rattle.isdb_tlv.specs.declared.tlv.PacketType.{PacketType}
 use Rattle.isdb_tlv.specs.declared.tlv.PacketType.TheVariants.{Ipv4, Ipv6, Compressed, Control, Null}
 use Rattle.isdb_tlv.specs.declared.ip.Address.TheVariants.{V4, V6}
-use Rattle.isdb_tlv.specs.declared.ip.MaybeFlow.{MaybeFlow}
-use Rattle.isdb_tlv.specs.declared.ip.MaybeFlow.TheVariants.{None as no_flow_of, Some as some_flow}
-use Rattle.isdb_tlv.specs.declared.ip.MaybeContext.TheVariants.{Some as some_context}
 
 -- 3.5: the types of packets and their numbers
 pub data Kind : Type 0 where
@@ -137,13 +135,13 @@ pub record HcfbConforming (p : Hcfb) : Type 0 where
   pub header : HeaderConforming p.header
 
 -- the flow, where the header carries one
-abbrev pub flow_in : Header → MaybeFlow
+abbrev pub flow_in : Header → Option Flow
 flow_in (ipv4 l t i f h source destination sport dport) =
-    some_flow (record { src = V4 source; dst = V4 destination; sport = sport; dport = dport })
-flow_in (ipv4_id i) = no_flow_of
+    Some (record { src = V4 source; dst = V4 destination; sport = sport; dport = dport })
+flow_in (ipv4_id i) = None
 flow_in (ipv6 t f h sh sl dh dl sport dport) =
-    some_flow (record { src = V6 sh sl; dst = V6 dh dl; sport = sport; dport = dport })
-flow_in ipv6_id = no_flow_of
+    Some (record { src = V6 sh sl; dst = V6 dh dl; sport = sport; dport = dport })
+flow_in ipv6_id = None
 
 -- where the payload starts
 abbrev pub start_of : Header → ℕ
@@ -153,7 +151,7 @@ start_of (ipv6 t f h sh sl dh dl p q) = 45
 start_of ipv6_id = 3
 
 pub record HcfbRead (p : Hcfb) : Type 0 where
-  pub fields : compressed_of (hcfb_sent p) ≡ datagram (some_context p.context) (flow_in p.header) (start_of p.header)
+  pub fields : compressed_of (hcfb_sent p) ≡ datagram (Some p.context) (flow_in p.header) (start_of p.header)
   pub payload : drop (start_of p.header) (hcfb_sent p) ≡ p.payload
 
 -- proved in proofs/StdB32.antt

@@ -16,59 +16,53 @@ fn byte(b: &[u8], at: usize, i: usize) -> u8
     0
 }
 
-fn wide16(x: u8) -> u16
-    ensures { (result ≡ x) × (result < 256) }
+// Fewer bytes than W, and zeros behind them.
+#[cold]
+#[tactic(auto, using(crate::proofs::Numbers::be_padded))]
+fn padded<const W: usize>(b: &[u8]) -> [u8; W]
+    requires { length b.now ≤ W }
+    ensures { be W result 0 ≡ be W b.now 0 }
 {
-    x as u16
+    let mut a = [0; W];
+    a[..b.len()].copy_from_slice(b);
+    a
 }
 
-fn wide32(x: u16) -> u32
-    ensures { (result ≡ x) × (result < 2 ^ 16) }
+// The W bytes from at; one beyond the end is 0.
+fn bytes_at<const W: usize>(b: &[u8], at: usize) -> [u8; W]
+    ensures { be W result 0 ≡ be W b.now at }
 {
-    x as u32
-}
-
-fn wide64(x: u8) -> u64
-    ensures { (result ≡ x) × (result < 256) }
-{
-    x as u64
+    let r = rest(b, at);
+    match r.first_chunk() {
+        Some(all) => *all,
+        None => padded(r),
+    }
 }
 
 // The number in the w bytes from at; of one above 64 bits, the low 64.
+#[tactic(auto, unfolding(crate::specs::Bytes::be))]
 pub fn number(b: &[u8], at: usize, w: u8) -> u64
     ensures { result ≡ be w b.now at % 2 ^ 64 }
 {
     let mut a: u64 = 0;
-    let mut i: u8 = 0;
-    while i < w {
-        a = (a << 8) + wide64(byte(b, at, i as usize));
-        i += 1;
+    for i in 0..w {
+        a = (a << 8) + u64::from(byte(b, at, usize::from(i)));
     }
     a
 }
 
+#[tactic(auto, unfolding(crate::specs::Bytes::be))]
 pub fn get_u8(b: &[u8], at: usize) -> u8
     ensures { result ≡ be 1 b.now at }
 {
     byte(b, at, 0)
 }
 
-fn u16_at(b: &[u8], at: usize) -> u16
-    requires { at + 2 ≤ length b.now }
-    ensures { result ≡ be 2 b.now at }
-{
-    wide16(b[at]) * 256 + wide16(b[at + 1])
-}
-
+#[tactic(auto, unfolding(crate::specs::Bytes::be))]
 pub fn get_u16(b: &[u8], at: usize) -> u16
     ensures { result ≡ be 2 b.now at }
 {
-    if at < b.len() {
-        if 2 <= b.len() - at {
-            return u16_at(b, at);
-        }
-    }
-    number(b, at, 2) as u16
+    u16::from_be_bytes(bytes_at(b, at))
 }
 
 // The low 12 bits of two bytes, as the lengths of sections have them.
@@ -78,44 +72,18 @@ pub fn get_u12(b: &[u8], at: usize) -> u16
     get_u16(b, at) % 4096
 }
 
-fn u32_at(b: &[u8], at: usize) -> u32
-    requires { at + 4 ≤ length b.now }
-    ensures { result ≡ be 4 b.now at }
-{
-    wide32(u16_at(b, at)) * 65536 + wide32(u16_at(b, at + 2))
-}
-
+#[tactic(auto, unfolding(crate::specs::Bytes::be))]
 pub fn get_u32(b: &[u8], at: usize) -> u32
     ensures { result ≡ be 4 b.now at }
 {
-    if at < b.len() {
-        if 4 <= b.len() - at {
-            return u32_at(b, at);
-        }
-    }
-    number(b, at, 4) as u32
+    u32::from_be_bytes(bytes_at(b, at))
 }
 
-// A balanced sum, which the compiler makes one load and a byte swap of.
-fn u64_at(b: &[u8], at: usize) -> u64
-    requires { at + 8 ≤ length b.now }
-    ensures { result ≡ be 8 b.now at }
-{
-    ((wide64(b[at]) * 72057594037927936 + wide64(b[at + 1]) * 281474976710656)
-        + (wide64(b[at + 2]) * 1099511627776 + wide64(b[at + 3]) * 4294967296))
-        + ((wide64(b[at + 4]) * 16777216 + wide64(b[at + 5]) * 65536)
-            + (wide64(b[at + 6]) * 256 + wide64(b[at + 7])))
-}
-
+#[tactic(auto, unfolding(crate::specs::Bytes::be))]
 pub fn get_u64(b: &[u8], at: usize) -> u64
     ensures { result ≡ be 8 b.now at }
 {
-    if at < b.len() {
-        if 8 <= b.len() - at {
-            return u64_at(b, at);
-        }
-    }
-    number(b, at, 8)
+    u64::from_be_bytes(bytes_at(b, at))
 }
 
 fn put_byte(s: &mut [u8], at: usize, i: usize, x: u8)
@@ -128,86 +96,62 @@ fn put_byte(s: &mut [u8], at: usize, i: usize, x: u8)
     }
 }
 
-// The low w bytes of v from at.
-pub fn put_number(s: &mut [u8], at: usize, w: u8, v: u64)
-    ensures { s.new ≡ put_be w at v s.old }
+// The bytes v from at on; what would lie beyond the end is left out.
+fn put_bytes<const W: usize>(s: &mut [u8], at: usize, v: [u8; W])
+    ensures { s.new ≡ put_be W at (be W v.entry 0) s.old }
 {
-    let mut k = w;
-    let mut u = v;
-    while 0 < k {
-        k -= 1;
-        put_byte(s, at, k as usize, (u % 256) as u8);
-        u = u / 256;
+    if at < s.len() {
+        let n = s.len() - at;
+        if W <= n {
+            s[at..at + W].copy_from_slice(&v);
+        } else {
+            s[at..].copy_from_slice(&v[..n]);
+        }
     }
 }
 
+// The low w bytes of v from at.
+#[tactic(auto, unfolding(crate::specs::Bytes::put_be))]
+pub fn put_number(s: &mut [u8], at: usize, w: u8, v: u64)
+    ensures { s.new ≡ put_be w at v s.old }
+{
+    let mut u = v;
+    for k in (0..w).rev() {
+        put_byte(s, at, usize::from(k), (u % 256) as u8);
+        u /= 256;
+    }
+}
+
+#[tactic(auto, unfolding(crate::specs::Bytes::put_be))]
 pub fn put_u8(s: &mut [u8], at: usize, v: u8)
     ensures { s.new ≡ put_be 1 at v s.old }
 {
     put_byte(s, at, 0, v);
 }
 
-fn store_u16(s: &mut [u8], at: usize, v: u16)
-    requires { at + 2 ≤ length s.old }
-    ensures { s.new ≡ put_be 2 at v s.old }
-{
-    s[at] = (v / 256 % 256) as u8;
-    s[at + 1] = (v % 256) as u8;
-}
-
+#[tactic(auto, unfolding(crate::specs::Bytes::be))]
 pub fn put_u16(s: &mut [u8], at: usize, v: u16)
     ensures { s.new ≡ put_be 2 at v s.old }
 {
-    if at < s.len() {
-        if 2 <= s.len() - at {
-            store_u16(s, at, v);
-            return;
-        }
-    }
-    put_number(s, at, 2, v as u64);
+    put_bytes(s, at, v.to_be_bytes());
 }
 
-fn store_u32(s: &mut [u8], at: usize, v: u32)
-    requires { at + 4 ≤ length s.old }
-    ensures { s.new ≡ put_be 4 at v s.old }
-{
-    store_u16(s, at, (v / 65536) as u16);
-    store_u16(s, at + 2, (v % 65536) as u16);
-}
-
+#[tactic(auto, unfolding(crate::specs::Bytes::be))]
 pub fn put_u32(s: &mut [u8], at: usize, v: u32)
     ensures { s.new ≡ put_be 4 at v s.old }
 {
-    if at < s.len() {
-        if 4 <= s.len() - at {
-            store_u32(s, at, v);
-            return;
-        }
-    }
-    put_number(s, at, 4, v as u64);
+    put_bytes(s, at, v.to_be_bytes());
 }
 
-fn store_u64(s: &mut [u8], at: usize, v: u64)
-    requires { at + 8 ≤ length s.old }
-    ensures { s.new ≡ put_be 8 at v s.old }
-{
-    store_u32(s, at, (v / 4294967296) as u32);
-    store_u32(s, at + 4, (v % 4294967296) as u32);
-}
-
+#[tactic(auto, unfolding(crate::specs::Bytes::be))]
 pub fn put_u64(s: &mut [u8], at: usize, v: u64)
     ensures { s.new ≡ put_be 8 at v s.old }
 {
-    if at < s.len() {
-        if 8 <= s.len() - at {
-            store_u64(s, at, v);
-            return;
-        }
-    }
-    put_number(s, at, 8, v);
+    put_bytes(s, at, v.to_be_bytes());
 }
 
 // A word with bit i set; of i the low 6 bits count.
+#[tactic(auto, unfolding(crate::specs::Bytes::with_bit_of))]
 pub fn with_bit(w: u64, i: u8) -> u64
     ensures { result ≡ with_bit_of w (i % 64) }
 {
@@ -237,6 +181,7 @@ pub fn part(b: &[u8], at: usize, n: usize) -> &[u8]
 }
 
 // The low w bytes of v from at, where the widths that numbers have are one store each.
+#[tactic(auto, using(crate::proofs::Fields::put_cut))]
 fn put_field(s: &mut [u8], at: usize, w: u8, v: u64)
     ensures { s.new ≡ put_be w at v s.old }
 {
@@ -250,6 +195,7 @@ fn put_field(s: &mut [u8], at: usize, w: u8, v: u64)
 }
 
 // So from i places behind at. The sum at + i may be too large for a number.
+#[tactic(auto, using(crate::proofs::Fields::put_beyond))]
 fn put_behind(s: &mut [u8], at: usize, i: usize, w: u8, v: u64)
     ensures { s.new ≡ put_be w (at + i) v s.old }
 {

@@ -6,7 +6,7 @@ use crate::bytes;
 
 // Where reading a recording stops: at its end, at the first byte of what is no packet or not whole, or at a packet that is
 // turned down, with the number.
-#[derive(Clone, Copy)]
+#[derive(Clone, Copy, Debug, PartialEq, Eq)]
 pub enum Stop {
     Clean,
     Bad(u64),
@@ -14,7 +14,7 @@ pub enum Stop {
 }
 
 // What stands at a place.
-#[derive(Clone, Copy)]
+#[derive(Clone, Copy, Debug, PartialEq, Eq)]
 pub enum Cut {
     // A packet: its kind, the place and the number of its data, and the place of what follows.
     Packet {
@@ -31,13 +31,8 @@ pub enum Cut {
     Bad,
 }
 
-fn wide(x: u16) -> usize
-    ensures { result ≡ x }
-{
-    x as usize
-}
-
 // What stands at a place, where a packet has at most so many data.
+#[tactic(auto, unfolding(crate::specs::Cut::cut_at))]
 pub fn cut_at(input: &[u8], most: usize, at: usize) -> Cut
     ensures { result ≡ cut_at input.now most at }
 {
@@ -51,7 +46,7 @@ pub fn cut_at(input: &[u8], most: usize, at: usize) -> Cut
     if n - at < 4 {
         return Cut::Short;
     }
-    let length = wide(bytes::get_u16(input, at + 2));
+    let length = usize::from(bytes::get_u16(input, at + 2));
     if most < length {
         return Cut::Bad;
     }

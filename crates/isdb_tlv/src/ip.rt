@@ -7,14 +7,14 @@ ghost use Rattle.isdb_tlv.specs.Ip.{flow4, flow6, ipv4_of, ipv6_of, partial_ipv4
 use crate::bytes;
 
 // An address as a number; one of 16 bytes as two halves, the high one first.
-#[derive(Clone, Copy)]
+#[derive(Clone, Copy, Debug, PartialEq, Eq, Hash)]
 pub enum Address {
     V4(u32),
     V6(u64, u64),
 }
 
 // A UDP flow: source and destination address and port.
-#[derive(Clone, Copy)]
+#[derive(Clone, Copy, Debug, PartialEq, Eq, Hash)]
 pub struct Flow {
     pub src: Address,
     pub dst: Address,
@@ -22,30 +22,16 @@ pub struct Flow {
     pub dport: u16,
 }
 
-// The flow, where the packet carries its addresses.
-#[derive(Clone, Copy)]
-pub enum MaybeFlow {
-    None,
-    Some(Flow),
-}
-
-// The context id of a compressed packet.
-#[derive(Clone, Copy)]
-pub enum MaybeContext {
-    None,
-    Some(u16),
-}
-
 // A UDP datagram: its payload runs from start to the end of the packet's data.
 #[derive(Clone, Copy)]
 pub struct Datagram {
-    pub context: MaybeContext,
-    pub flow: MaybeFlow,
+    pub context: Option<u16>,
+    pub flow: Option<Flow>,
     pub start: usize,
 }
 
 // Why a packet's IP content could not be read.
-#[derive(Clone, Copy)]
+#[derive(Clone, Copy, Debug, PartialEq, Eq)]
 pub enum IpError {
     // Shorter than its headers.
     Truncated,
@@ -55,12 +41,6 @@ pub enum IpError {
     HeaderType(u8),
     // Another version of IP.
     Version(u8),
-}
-
-#[derive(Clone, Copy)]
-pub enum IpResult {
-    Ok(Datagram),
-    Err(IpError),
 }
 
 impl Datagram {
@@ -102,114 +82,120 @@ fn flow_v6(b: &[u8], src: u8, dst: u8, ports: u8) -> Flow
 }
 
 // An uncompressed IPv4 packet that carries UDP.
-pub fn ipv4(b: &[u8]) -> IpResult
+#[tactic(auto, unfolding(crate::specs::Ip::ipv4_of))]
+pub fn ipv4(b: &[u8]) -> Result<Datagram, IpError>
     ensures { result ≡ ipv4_of b.now }
 {
     if b.len() < 20 {
-        return IpResult::Err(IpError::Truncated);
+        return Err(IpError::Truncated);
     }
     let first = b[0];
     let version = first / 16;
     if version != 4 {
-        return IpResult::Err(IpError::Version(version));
+        return Err(IpError::Version(version));
     }
     let protocol = b[9];
     if protocol != 17 {
-        return IpResult::Err(IpError::NotUdp(protocol));
+        return Err(IpError::NotUdp(protocol));
     }
     let udp = first % 16 * 4;
     let start = udp as usize + 8;
     if b.len() < start {
-        return IpResult::Err(IpError::Truncated);
+        return Err(IpError::Truncated);
     }
-    IpResult::Ok(Datagram {
-        context: MaybeContext::None,
-        flow: MaybeFlow::Some(flow_v4(b, 12, 16, udp)),
+    Ok(Datagram {
+        context: None,
+        flow: Some(flow_v4(b, 12, 16, udp)),
         start,
     })
 }
 
 // An uncompressed IPv6 packet that carries UDP, without extension headers.
-pub fn ipv6(b: &[u8]) -> IpResult
+#[tactic(auto, unfolding(crate::specs::Ip::ipv6_of))]
+pub fn ipv6(b: &[u8]) -> Result<Datagram, IpError>
     ensures { result ≡ ipv6_of b.now }
 {
     if b.len() < 40 {
-        return IpResult::Err(IpError::Truncated);
+        return Err(IpError::Truncated);
     }
     let version = b[0] / 16;
     if version != 6 {
-        return IpResult::Err(IpError::Version(version));
+        return Err(IpError::Version(version));
     }
     let next_header = b[6];
     if next_header != 17 {
-        return IpResult::Err(IpError::NotUdp(next_header));
+        return Err(IpError::NotUdp(next_header));
     }
     if b.len() < 48 {
-        return IpResult::Err(IpError::Truncated);
+        return Err(IpError::Truncated);
     }
-    IpResult::Ok(Datagram {
-        context: MaybeContext::None,
-        flow: MaybeFlow::Some(flow_v6(b, 8, 24, 40)),
+    Ok(Datagram {
+        context: None,
+        flow: Some(flow_v6(b, 8, 24, 40)),
         start: 48,
     })
 }
 
 // Header type 20h: 16 bytes of an IPv4 header and the ports.
-fn partial_ipv4(b: &[u8], context: u16) -> IpResult
+#[tactic(auto, unfolding(crate::specs::Ip::partial_ipv4))]
+fn partial_ipv4(b: &[u8], context: u16) -> Result<Datagram, IpError>
     ensures { result ≡ partial_ipv4 b.now context }
 {
     if b.len() < 23 {
-        return IpResult::Err(IpError::Truncated);
+        return Err(IpError::Truncated);
     }
     let protocol = b[10];
     if protocol != 17 {
-        return IpResult::Err(IpError::NotUdp(protocol));
+        return Err(IpError::NotUdp(protocol));
     }
-    IpResult::Ok(Datagram {
-        context: MaybeContext::Some(context),
-        flow: MaybeFlow::Some(flow_v4(b, 11, 15, 19)),
+    Ok(Datagram {
+        context: Some(context),
+        flow: Some(flow_v4(b, 11, 15, 19)),
         start: 23,
     })
 }
 
 // Header type 60h: 38 bytes of an IPv6 header and the ports.
-fn partial_ipv6(b: &[u8], context: u16) -> IpResult
+#[tactic(auto, unfolding(crate::specs::Ip::partial_ipv6))]
+fn partial_ipv6(b: &[u8], context: u16) -> Result<Datagram, IpError>
     ensures { result ≡ partial_ipv6 b.now context }
 {
     if b.len() < 45 {
-        return IpResult::Err(IpError::Truncated);
+        return Err(IpError::Truncated);
     }
     let next_header = b[7];
     if next_header != 17 {
-        return IpResult::Err(IpError::NotUdp(next_header));
+        return Err(IpError::NotUdp(next_header));
     }
-    IpResult::Ok(Datagram {
-        context: MaybeContext::Some(context),
-        flow: MaybeFlow::Some(flow_v6(b, 9, 25, 41)),
+    Ok(Datagram {
+        context: Some(context),
+        flow: Some(flow_v6(b, 9, 25, 41)),
         start: 45,
     })
 }
 
 // Header type 21h: an identification of 2 bytes.
-fn header_id(b: &[u8], context: u16) -> IpResult
+#[tactic(auto, unfolding(crate::specs::Ip::header_id))]
+fn header_id(b: &[u8], context: u16) -> Result<Datagram, IpError>
     ensures { result ≡ header_id b.now context }
 {
     if b.len() < 5 {
-        return IpResult::Err(IpError::Truncated);
+        return Err(IpError::Truncated);
     }
-    IpResult::Ok(Datagram {
-        context: MaybeContext::Some(context),
-        flow: MaybeFlow::None,
+    Ok(Datagram {
+        context: Some(context),
+        flow: None,
         start: 5,
     })
 }
 
 // A header-compressed IP packet.
-pub fn compressed(b: &[u8]) -> IpResult
+#[tactic(auto, unfolding(crate::specs::Ip::compressed_of))]
+pub fn compressed(b: &[u8]) -> Result<Datagram, IpError>
     ensures { result ≡ compressed_of b.now }
 {
     if b.len() < 3 {
-        return IpResult::Err(IpError::Truncated);
+        return Err(IpError::Truncated);
     }
     let context = bytes::get_u16(b, 0) / 16;
     let header_type = b[2];
@@ -217,17 +203,17 @@ pub fn compressed(b: &[u8]) -> IpResult
         0x20 => partial_ipv4(b, context),
         0x60 => partial_ipv6(b, context),
         0x21 => header_id(b, context),
-        0x61 => IpResult::Ok(Datagram {
-            context: MaybeContext::Some(context),
-            flow: MaybeFlow::None,
+        0x61 => Ok(Datagram {
+            context: Some(context),
+            flow: None,
             start: 3,
         }),
-        _ => IpResult::Err(IpError::HeaderType(header_type)),
+        _ => Err(IpError::HeaderType(header_type)),
     }
 }
 
 // The wire check's answer: good, or the first failing test by its letter.
-#[derive(Clone, Copy)]
+#[derive(Clone, Copy, Debug, PartialEq, Eq)]
 pub enum Wire {
     Good,
     A,
@@ -238,7 +224,7 @@ pub enum Wire {
 }
 
 impl Wire {
-    // The letter of a failing test, 0 for good.
+    // The letter of a failing test, 0 for good. By name: no one would look for a letter under u8::from.
     pub fn letter(self) -> u8
         ensures { result ≡ letter_of self }
     {
@@ -254,6 +240,7 @@ impl Wire {
 }
 
 // An IPv4 datagram as a router and a UDP receiver would judge it, checksums aside.
+#[tactic(auto, unfolding(crate::specs::Ip::wire_of))]
 pub fn wire_check(b: &[u8]) -> Wire
     ensures { result ≡ wire_of b.now }
 {

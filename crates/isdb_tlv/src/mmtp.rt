@@ -3,12 +3,12 @@
 // Translated from mmtp.rs of isdb-rs (Apache-2.0, see NOTICE) and changed.
 ghost use Rattle.std.specs.Prelude.{◌≡◌, ◌+◌, ◌≤◌, ◌<◌, length, drop};
 ghost use Rattle.isdb_tlv.specs.Mmtp.{fec_code_of, fec_type_of, payload_code_of, payload_type_of, entries, scramble_info_of, scramble_control_of, fixed_size, extension_at, after_fixed, header_of, mmtp_of};
-ghost use Rattle.isdb_tlv.specs.Messages.{no_table_ids, word_of, has, insert, insert_all, set_of, listed_from, walked_from, pa_tables, pa_message, section_message, message_of, message_in, prefixed_at, message_at, message_step, counted, messages_of};
+ghost use Rattle.isdb_tlv.specs.Messages.{no_table_ids, has, insert, insert_all, set_of, listed_from, walked_from, pa_tables, pa_message, section_message, message_of, message_in, prefixed_at, message_at, message_step, counted, messages_of};
 
 use crate::bytes;
 
 // FEC_type (Table 6-5).
-#[derive(Clone, Copy)]
+#[derive(Clone, Copy, Debug, PartialEq, Eq)]
 pub enum FecType {
     // 0: not protected by AL-FEC.
     NotProtected,
@@ -20,11 +20,12 @@ pub enum FecType {
     Reserved,
 }
 
-impl FecType {
-    // From the 2-bit field; higher bits of code are not looked at.
-    pub fn from_code(code: u8) -> FecType
-        ensures { result ≡ fec_type_of code }
-    {
+// From the 2-bit field; higher bits of code are not looked at.
+impl From<u8> for FecType {
+    ghost from_gives = { λ code t. t ≡ fec_type_of code };
+
+    #[tactic(auto, unfolding(crate::specs::Mmtp::fec_type_of))]
+    fn from(code: u8) -> FecType {
         match code % 4 {
             0 => FecType::NotProtected,
             1 => FecType::Source,
@@ -32,11 +33,13 @@ impl FecType {
             _ => FecType::Reserved,
         }
     }
+}
 
-    pub fn code(self) -> u8
-        ensures { result ≡ fec_code_of self }
-    {
-        match self {
+impl From<FecType> for u8 {
+    ghost from_gives = { λ t code. code ≡ fec_code_of t };
+
+    fn from(t: FecType) -> u8 {
+        match t {
             FecType::NotProtected => 0,
             FecType::Source => 1,
             FecType::Repair => 2,
@@ -46,7 +49,7 @@ impl FecType {
 }
 
 // payload_type (Table 6-6).
-#[derive(Clone, Copy)]
+#[derive(Clone, Copy, Debug, PartialEq, Eq)]
 pub enum PayloadType {
     // 0x00: a fragment of an MPU.
     Mpu,
@@ -60,11 +63,12 @@ pub enum PayloadType {
     Reserved(u8),
 }
 
-impl PayloadType {
-    // From the 6-bit field; higher bits of code are not looked at.
-    pub fn from_code(code: u8) -> PayloadType
-        ensures { result ≡ payload_type_of code }
-    {
+// From the 6-bit field; higher bits of code are not looked at.
+impl From<u8> for PayloadType {
+    ghost from_gives = { λ code t. t ≡ payload_type_of code };
+
+    #[tactic(auto, unfolding(crate::specs::Mmtp::payload_type_of))]
+    fn from(code: u8) -> PayloadType {
         match code % 64 {
             0 => PayloadType::Mpu,
             1 => PayloadType::GenericObject,
@@ -73,11 +77,13 @@ impl PayloadType {
             c => PayloadType::Reserved(c),
         }
     }
+}
 
-    pub fn code(self) -> u8
-        ensures { result ≡ payload_code_of self }
-    {
-        match self {
+impl From<PayloadType> for u8 {
+    ghost from_gives = { λ t code. code ≡ payload_code_of t };
+
+    fn from(t: PayloadType) -> u8 {
+        match t {
             PayloadType::Mpu => 0,
             PayloadType::GenericObject => 1,
             PayloadType::Messages => 2,
@@ -88,7 +94,7 @@ impl PayloadType {
 }
 
 // What a multi-type header extension says of scrambling.
-#[derive(Clone, Copy)]
+#[derive(Clone, Copy, Debug, PartialEq, Eq)]
 pub enum Scramble {
     // No entry of type 1.
     Absent,
@@ -110,22 +116,15 @@ impl Scramble {
         }
     }
 
-    pub fn control(self) -> MaybeControl
+    pub fn control(self) -> Option<u8>
         ensures { result ≡ scramble_control_of self }
     {
         match self {
-            Scramble::Absent => MaybeControl::None,
-            Scramble::NoByte => MaybeControl::None,
-            Scramble::Bits(c) => MaybeControl::Some(c),
+            Scramble::Absent => None,
+            Scramble::NoByte => None,
+            Scramble::Bits(c) => Some(c),
         }
     }
-}
-
-// The scramble bits, where there are any.
-#[derive(Clone, Copy)]
-pub enum MaybeControl {
-    None,
-    Some(u8),
 }
 
 // The fields of the header that are used here.
@@ -142,7 +141,7 @@ pub struct Header {
     pub scramble_info: bool,
     // Bits 4 and 3 of that information's first byte: 00 in the clear, also where a scrambled stream was descrambled and
     // kept the extension; 10 and 11 scrambled. So they are seen on air; STD-B61 is not public.
-    pub scramble_control: MaybeControl,
+    pub scramble_control: Option<u8>,
 }
 
 // A packet: its payload runs from start to the end of the data.
@@ -150,12 +149,6 @@ pub struct Header {
 pub struct Packet {
     pub header: Header,
     pub start: usize,
-}
-
-#[derive(Clone, Copy)]
-pub enum Parsed {
-    None,
-    Some(Packet),
 }
 
 impl Packet {
@@ -169,10 +162,12 @@ impl Packet {
 }
 
 // The entries of a multi-type header extension: the first of type 1 decides.
+#[tactic(auto, using(crate::proofs::Extension::entries_end, crate::proofs::Extension::entries_found, crate::proofs::Extension::entries_last, crate::proofs::Extension::entries_next), unfolding(crate::specs::Mmtp::bits_of))]
 fn scramble_of(s: &[u8]) -> Scramble
     ensures { result ≡ entries s.now 0 }
 {
     let mut q: usize = 0;
+    // By a cursor: it jumps by what was read, which no iterator of std does.
     while q < s.len() {
         if s.len() - q < 4 {
             return Scramble::Absent;
@@ -194,33 +189,27 @@ fn scramble_of(s: &[u8]) -> Scramble
     Scramble::Absent
 }
 
-// What follows the fixed part of a header.
-#[derive(Clone, Copy)]
-enum Extension {
-    Bad,
-    Good(Scramble, usize),
-}
-
 // The extension at a place: type, length and so many bytes.
-fn extension_at(b: &[u8], at: usize) -> Extension
+#[tactic(auto, unfolding(crate::specs::Mmtp::extension_at))]
+fn extension_at(b: &[u8], at: usize) -> Option<(Scramble, usize)>
     ensures { result ≡ extension_at b.now at }
 {
     if b.len() < at {
-        return Extension::Bad;
+        return None;
     }
     if b.len() - at < 4 {
-        return Extension::Bad;
+        return None;
     }
     let p = at + 4;
     let n = bytes::get_u16(b, at + 2) as usize;
     if b.len() - p < n {
-        return Extension::Bad;
+        return None;
     }
     let e = p + n;
     if bytes::get_u16(b, at) == 0 {
-        return Extension::Good(scramble_of(bytes::part(b, p, n)), e);
+        return Some((scramble_of(bytes::part(b, p, n)), e));
     }
-    Extension::Good(Scramble::Absent, e)
+    Some((Scramble::Absent, e))
 }
 
 // A packet counter of 4 bytes may follow the 12.
@@ -230,15 +219,16 @@ fn fixed_size(flags: u8) -> usize
     if flags / 32 % 2 == 0 { 12 } else { 16 }
 }
 
-fn after_fixed(b: &[u8], flags: u8) -> Extension
+#[tactic(auto, unfolding(crate::specs::Mmtp::after_fixed))]
+fn after_fixed(b: &[u8], flags: u8) -> Option<(Scramble, usize)>
     ensures { result ≡ after_fixed b.now flags }
 {
     let at = fixed_size(flags);
     if flags / 2 % 2 == 0 {
         if b.len() < at {
-            return Extension::Bad;
+            return None;
         }
-        return Extension::Good(Scramble::Absent, at);
+        return Some((Scramble::Absent, at));
     }
     extension_at(b, at)
 }
@@ -249,9 +239,9 @@ fn header_of(b: &[u8], flags: u8, scramble: Scramble) -> Header
     ensures { result ≡ header_of b.now flags scramble }
 {
     Header {
-        fec_type: FecType::from_code(flags / 8),
+        fec_type: FecType::from(flags / 8),
         rap: flags % 2 == 1,
-        payload_type: PayloadType::from_code(b[1]),
+        payload_type: PayloadType::from(b[1]),
         packet_id: bytes::get_u16(b, 2),
         sequence: bytes::get_u32(b, 8),
         scramble_info: scramble.info(),
@@ -260,66 +250,49 @@ fn header_of(b: &[u8], flags: u8, scramble: Scramble) -> Header
 }
 
 // An MMTP packet: its header, and where its payload starts.
-pub fn parse(b: &[u8]) -> Parsed
+#[tactic(auto, unfolding(crate::specs::Mmtp::mmtp_of))]
+pub fn parse(b: &[u8]) -> Option<Packet>
     ensures { result ≡ mmtp_of b.now }
 {
     if b.len() < 12 {
-        return Parsed::None;
+        return None;
     }
     let flags = b[0];
     if flags / 64 != 0 {
-        return Parsed::None;
+        return None;
     }
-    match after_fixed(b, flags) {
-        Extension::Bad => Parsed::None,
-        Extension::Good(scramble, start) => Parsed::Some(Packet {
-            header: header_of(b, flags, scramble),
-            start,
-        }),
-    }
+    let (scramble, start) = after_fixed(b, flags)?;
+    Some(Packet {
+        header: header_of(b, flags, scramble),
+        start,
+    })
 }
 
 // A set of table ids: bit i of word k stands for the id 64 k + i.
-#[derive(Clone, Copy)]
+#[derive(Clone, Copy, Debug, PartialEq, Eq)]
 pub struct TableIds {
-    pub w0: u64,
-    pub w1: u64,
-    pub w2: u64,
-    pub w3: u64,
+    pub words: [u64; 4],
 }
+
+const NO_TABLE_IDS: TableIds = TableIds { words: [0; 4] };
 
 impl TableIds {
     // Whether an id is in the set.
+    #[tactic(auto, unfolding(crate::specs::Messages::has))]
     pub fn contains(self, id: u8) -> bool
         ensures { result ≡ has self id }
     {
-        let w = word(self, id / 64);
-        (w >> (id % 64)) % 2 == 1
+        (self.words[usize::from(id / 64)] >> (id % 64)) % 2 == 1
     }
 }
 
-fn word(t: TableIds, k: u8) -> u64
-    ensures { result ≡ word_of t k }
-{
-    match k {
-        0 => t.w0,
-        1 => t.w1,
-        2 => t.w2,
-        _ => t.w3,
-    }
-}
-
+#[tactic(auto, unfolding(crate::specs::Messages::insert))]
 fn insert_id(t: TableIds, id: u8) -> TableIds
     ensures { result ≡ insert id t }
 {
-    let w = bytes::with_bit(word(t, id / 64), id);
+    let k = usize::from(id / 64);
     let mut s = t;
-    match id / 64 {
-        0 => s.w0 = w,
-        1 => s.w1 = w,
-        2 => s.w2 = w,
-        _ => s.w3 = w,
-    }
+    s.words[k] = bytes::with_bit(s.words[k], id);
     s
 }
 
@@ -331,47 +304,35 @@ pub const M2_SECTION_MESSAGE: u16 = 0x8000;
 pub const M2_SHORT_SECTION_MESSAGE: u16 = 0x8002;
 
 // A control message: its id and the ids of the tables it carries.
-#[derive(Clone, Copy)]
+#[derive(Clone, Copy, Debug, PartialEq, Eq)]
 pub struct Message {
     pub id: u16,
     pub tables: TableIds,
-}
-
-#[derive(Clone, Copy)]
-pub enum MaybeMessage {
-    None,
-    Some(Message),
 }
 
 // The ids in the table list of a PA message's body, n of them or as many as are present.
 fn listed(body: &[u8], n: u8) -> TableIds
     ensures { result ≡ insert_all (listed_from n body.now 1) no_table_ids }
 {
-    let mut t = TableIds {
-        w0: 0,
-        w1: 0,
-        w2: 0,
-        w3: 0,
-    };
-    let mut at: usize = 1;
-    let mut left = n;
-    while 0 < left {
+    let mut t = NO_TABLE_IDS;
+    for k in 0..n {
+        let at = 1 + 4 * usize::from(k);
         if body.len() <= at {
             return t;
         }
         t = insert_id(t, body[at]);
-        at += 4;
-        left -= 1;
     }
     t
 }
 
 // The ids of the tables themselves, which stand one behind the other from a place on.
+#[tactic(auto, using(crate::proofs::Messages::walked_next, crate::proofs::Messages::walked_end))]
 fn walked(body: &[u8], from: usize, known: TableIds) -> TableIds
     ensures { result ≡ insert_all (walked_from body.now from) known }
 {
     let mut t = known;
     let mut at = from;
+    // By a cursor, as above.
     while at < body.len() {
         if body.len() - at < 4 {
             return t;
@@ -383,6 +344,7 @@ fn walked(body: &[u8], from: usize, known: TableIds) -> TableIds
 }
 
 // The table ids of a PA message's body.
+#[tactic(auto, using(crate::proofs::Messages::insert_both), unfolding(crate::specs::Messages::set_of, crate::specs::Messages::pa_tables))]
 fn pa_tables(body: &[u8]) -> TableIds
     requires { 0 < length body.now }
     ensures { result ≡ set_of (pa_tables body.now) }
@@ -391,53 +353,50 @@ fn pa_tables(body: &[u8]) -> TableIds
     walked(body, 1 + 4 * n as usize, listed(body, n))
 }
 
-fn pa_message(m: &[u8]) -> MaybeMessage
+#[tactic(auto, unfolding(crate::specs::Messages::pa_message))]
+fn pa_message(m: &[u8]) -> Option<Message>
     ensures { result ≡ pa_message m.now }
 {
     if m.len() < 7 {
-        return MaybeMessage::None;
+        return None;
     }
     let body = bytes::part(m, 7, bytes::get_u32(m, 3) as usize);
     if body.len() == 0 {
-        return MaybeMessage::None;
+        return None;
     }
-    MaybeMessage::Some(Message {
+    Some(Message {
         id: PA_MESSAGE,
         tables: pa_tables(body),
     })
 }
 
 // An M2 section, CA or M2 short section message: the table id follows id, version and length.
-fn section_message(m: &[u8], id: u16) -> MaybeMessage
+#[tactic(auto, unfolding(crate::specs::Messages::section_message, crate::specs::Messages::set_of))]
+fn section_message(m: &[u8], id: u16) -> Option<Message>
     ensures { result ≡ section_message m.now id }
 {
     if m.len() < 6 {
-        return MaybeMessage::None;
+        return None;
     }
-    let t = TableIds {
-        w0: 0,
-        w1: 0,
-        w2: 0,
-        w3: 0,
-    };
-    MaybeMessage::Some(Message {
+    Some(Message {
         id,
-        tables: insert_id(t, m[5]),
+        tables: insert_id(NO_TABLE_IDS, m[5]),
     })
 }
 
 // One message.
-fn message_of(m: &[u8]) -> MaybeMessage
+#[tactic(auto, unfolding(crate::specs::Messages::message_of))]
+fn message_of(m: &[u8]) -> Option<Message>
     ensures { result ≡ message_of m.now }
 {
     if m.len() < 2 {
-        return MaybeMessage::None;
+        return None;
     }
     let id = bytes::get_u16(m, 0);
     match id {
         PA_MESSAGE => pa_message(m),
         M2_SECTION_MESSAGE..=M2_SHORT_SECTION_MESSAGE => section_message(m, id),
-        _ => MaybeMessage::Some(other(id)),
+        _ => Some(other(id)),
     }
 }
 
@@ -447,18 +406,13 @@ fn other(id: u16) -> Message
 {
     Message {
         id,
-        tables: TableIds {
-            w0: 0,
-            w1: 0,
-            w2: 0,
-            w3: 0,
-        },
+        tables: NO_TABLE_IDS,
     }
 }
 
 // What stands at a place of a payload: a message and the place behind it, or nothing more, or what makes the whole
 // payload refused.
-#[derive(Clone, Copy)]
+#[derive(Clone, Copy, Debug, PartialEq, Eq)]
 pub enum MessageStep {
     Refused,
     End,
@@ -466,17 +420,19 @@ pub enum MessageStep {
 }
 
 // The message in the bytes from at to end.
+#[tactic(auto, unfolding(crate::specs::Messages::message_in))]
 fn message_in(p: &[u8], at: usize, end: usize) -> MessageStep
     requires { (at ≤ end) × (end ≤ length p.now) }
     ensures { result ≡ message_in p.now at end }
 {
     match message_of(&p[at..end]) {
-        MaybeMessage::None => MessageStep::Refused,
-        MaybeMessage::Some(m) => MessageStep::Found(m, end),
+        None => MessageStep::Refused,
+        Some(m) => MessageStep::Found(m, end),
     }
 }
 
 // The message behind a length of w bytes.
+#[tactic(auto, using(crate::proofs::Numbers::be_whole), unfolding(crate::specs::Messages::prefixed_at))]
 fn prefixed(p: &[u8], at: usize, w: usize) -> MessageStep
     requires { (at ≤ length p.now) × (w ≤ 4) }
     ensures { result ≡ prefixed_at p.now at w }
@@ -493,6 +449,7 @@ fn prefixed(p: &[u8], at: usize, w: usize) -> MessageStep
 }
 
 // The message at a place, alone or aggregated.
+#[tactic(auto, unfolding(crate::specs::Messages::message_at))]
 fn message_at(p: &[u8], at: usize) -> MessageStep
     requires { (at ≤ length p.now) × (2 ≤ length p.now) }
     ensures { result ≡ message_at p.now at }
@@ -508,6 +465,7 @@ fn message_at(p: &[u8], at: usize) -> MessageStep
 }
 
 // The messages of an undivided control payload, by a cursor: the first one stands at 2, and a place before it means it too.
+#[tactic(auto, unfolding(crate::specs::Messages::message_step))]
 pub fn next_message(p: &[u8], at: usize) -> MessageStep
     ensures { result ≡ message_step p.now at }
 {
@@ -526,22 +484,18 @@ pub fn next_message(p: &[u8], at: usize) -> MessageStep
     message_at(p, at)
 }
 
-#[derive(Clone, Copy)]
-pub enum MessageCount {
-    Refused,
-    Count(usize),
-}
-
 // Whether a control payload is an undivided one whose messages can all be identified, and how many there are.
-pub fn messages(p: &[u8]) -> MessageCount
+#[tactic(auto, using(crate::proofs::Messages::messages_at, crate::proofs::Messages::step_ahead, crate::proofs::Messages::one_more), unfolding(crate::specs::Messages::messages_of, crate::specs::Messages::counted))]
+pub fn messages(p: &[u8]) -> Option<usize>
     ensures { result ≡ counted (messages_of p.now) }
 {
     let mut at: usize = 2;
     let mut n: usize = 0;
+    // No iterator: a step may refuse the whole payload, and has three answers.
     loop {
         match next_message(p, at) {
-            MessageStep::Refused => return MessageCount::Refused,
-            MessageStep::End => return MessageCount::Count(n),
+            MessageStep::Refused => return None,
+            MessageStep::End => return Some(n),
             MessageStep::Found(_, next) => {
                 n += 1;
                 at = next;

@@ -10,7 +10,7 @@ ghost use Rattle.isdb_tlv.specs.Si.{is_tlv_si, section_at, next_section_of};
 use crate::{bytes, crc};
 
 // A section found in a control packet's data.
-#[derive(Clone, Copy)]
+#[derive(Clone, Copy, Debug, PartialEq, Eq)]
 pub struct Section {
     // Where it starts.
     pub offset: usize,
@@ -33,12 +33,6 @@ impl Section {
     }
 }
 
-#[derive(Clone, Copy)]
-pub enum MaybeSection {
-    None,
-    Some(Section),
-}
-
 // Table ids (STD-B60, Table 4-2).
 pub const NIT_ACTUAL: u8 = 0x40;
 
@@ -46,40 +40,37 @@ pub const NIT_OTHER: u8 = 0x41;
 
 pub const AMT: u8 = 0xFE;
 
+#[tactic(auto, unfolding(crate::specs::Si::is_tlv_si))]
 fn is_tlv_si(id: u8) -> bool
     ensures { result ≡ is_tlv_si id }
 {
-    match id {
-        NIT_ACTUAL => true,
-        NIT_OTHER => true,
-        AMT => true,
-        _ => false,
-    }
+    matches!(id, NIT_ACTUAL | NIT_OTHER | AMT)
 }
 
 // The section that starts at i, if one does.
-fn section_at(data: &[u8], i: usize) -> MaybeSection
+#[tactic(auto, unfolding(crate::specs::Si::section_at))]
+fn section_at(data: &[u8], i: usize) -> Option<Section>
     requires { i + 3 ≤ length «data».now }
     ensures { result ≡ section_at «data».now i }
 {
     let table_id = data[i];
     if !is_tlv_si(table_id) {
-        return MaybeSection::None;
+        return None;
     }
     if data[i + 1] < 128 {
-        return MaybeSection::None;
+        return None;
     }
     let size = bytes::get_u12(data, i + 1) as usize + 3;
     if size < 12 {
-        return MaybeSection::None;
+        return None;
     }
     if data.len() - i < size {
-        return MaybeSection::None;
+        return None;
     }
     if crc::crc32(bytes::part(data, i, size)) != 0 {
-        return MaybeSection::None;
+        return None;
     }
-    MaybeSection::Some(Section {
+    Some(Section {
         offset: i,
         table_id,
         extension: bytes::get_u16(data, i + 3),
@@ -90,18 +81,14 @@ fn section_at(data: &[u8], i: usize) -> MaybeSection
 
 // The first section at or behind a place: every place is tried, since the data around sections says nothing of where they
 // start. To go on from one: the place behind it, offset + size.
-pub fn next_section(data: &[u8], at: usize) -> MaybeSection
+#[tactic(auto, using(crate::proofs::Sections::next_none, crate::proofs::Sections::next_on))]
+pub fn next_section(data: &[u8], at: usize) -> Option<Section>
     ensures { result ≡ next_section_of «data».now at }
 {
-    let mut i = at;
-    while i < data.len() {
-        if data.len() - i < 3 {
-            return MaybeSection::None;
-        }
-        match section_at(data, i) {
-            MaybeSection::Some(s) => return MaybeSection::Some(s),
-            MaybeSection::None => i += 1,
+    for i in at..data.len().saturating_sub(2) {
+        if let Some(s) = section_at(data, i) {
+            return Some(s);
         }
     }
-    MaybeSection::None
+    None
 }

@@ -3,7 +3,7 @@
 ghost use Rattle.std.specs.Prelude.{◌≡◌};
 ghost use Rattle.isdb_tlv.specs.Tlv.{packet_type};
 
-#[derive(Clone, Copy)]
+#[derive(Clone, Copy, Debug, PartialEq, Eq)]
 pub enum PacketType {
     // An IPv4 packet (01h).
     Ipv4,
@@ -19,11 +19,12 @@ pub enum PacketType {
     Other(u8),
 }
 
-impl PacketType {
-    // From the type byte.
-    pub fn from_byte(b: u8) -> PacketType
-        ensures { result ≡ packet_type b }
-    {
+// From the type byte.
+impl From<u8> for PacketType {
+    ghost from_gives = { λ b t. t ≡ packet_type b };
+
+    #[tactic(auto, unfolding(crate::specs::Tlv::packet_type))]
+    fn from(b: u8) -> PacketType {
         match b {
             0x01 => PacketType::Ipv4,
             0x02 => PacketType::Ipv6,

@@ -9,6 +9,7 @@ mod kept;
 use isdb_mmt::decoder;
 use isdb_mmt::decoder::limits::Limits;
 use isdb_mmt::decoder::records::Answer;
+use isdb_mmt::decoder::session::Session;
 use isdb_text::{dump_session, fill};
 use isdb_tlv::cut::Cut;
 use isdb_tlv::{bytes, crc, cut};
@@ -52,7 +53,7 @@ fn say_answer(rt: HostRuntime, a: Answer, rows: &[u8], data: &[u8]) {
         b"push # records # bytes # %%%%%%%% %%%%%%%%\n",
         &values,
     );
-    stdio::write_text(rt, &text, n);
+    stdio::write_text(&mut rt.stdout(), &text, n);
 }
 
 fn open_session(
@@ -68,9 +69,10 @@ fn open_session(
     let number = decoder::open(limits(passing), state, others, objects, messages, tables);
     let values = [passing as u64, number as u64];
     let n = fill::fill(&mut text, 0, b"open # number #\n", &values);
-    stdio::write_text(rt, &text, n);
+    stdio::write_text(&mut rt.stdout(), &text, n);
 }
 
+// By the five buffers: the check does not cover a session that is borrowed in one arm of `run` alone.
 fn list(
     rt: HostRuntime,
     state: &[u8; 13144],
@@ -79,13 +81,21 @@ fn list(
     messages: &[u8; 65536],
     tables: &[u8; 286720],
 ) {
+    let session = Session {
+        state,
+        others,
+        objects,
+        messages,
+        tables,
+    };
     let mut text = [0u8; 65536];
-    let n = dump_session::session_lines(state, others, objects, messages, tables, &mut text, 0);
-    stdio::write_text(rt, &text, n);
-    kept::say_all(rt, state, others, objects, messages, tables);
+    let n = dump_session::session_lines(session, &mut text, 0);
+    stdio::write_text(&mut rt.stdout(), &text, n);
+    kept::say_all(rt, session);
 }
 
 // Pushes the packet that stands at a place, and answers the place behind it; where none stands, the end.
+#[tactic(auto, using(crate::proofs::Ahead::packet_ahead))]
 fn take_packet(
     rt: HostRuntime,
     state: &mut [u8; 13144],
@@ -116,7 +126,7 @@ fn take_packet(
             next
         }
         _ => {
-            stdio::say(rt, b"no item\n");
+            stdio::say(&mut rt.stdout(), b"no item\n");
             input.len()
         }
     }
@@ -135,6 +145,7 @@ fn run(
     input: &[u8],
 ) {
     let mut at: usize = 0;
+    // By place: where the next item stands is known once this one is taken.
     while at < input.len() {
         let item = input[at];
         if item == b'S' {
@@ -175,10 +186,10 @@ fn replay(rt: HostRuntime, input: &[u8]) {
 
 // Replays the list that standard input holds; one that fills the window may go on behind it.
 fn replay_input(rt: HostRuntime, window: &mut [u8; 524288]) {
-    let n = stdio::read_full(rt, window);
+    let n = stdio::read_full(&mut rt.stdin(), window);
     if n == 524288 {
         return stdio::say(
-            rt,
+            &mut rt.stdout(),
             b"the list is too long: it must have fewer than 524288 bytes\n",
         );
     }

@@ -1,33 +1,10 @@
--- Where kept tables lie in the lent tables: a part that may be absent, and what a session's areas are reached by.
-use Rattle.std.specs.Prelude.{◌≡◌, ℕ, ◌+◌, ◌<◌, ◌≤◌, []}
-use Rattle.std.proofs.Math.Option.{Option, none, some}
+-- Where kept tables lie in the lent tables: what a session's areas are reached by.
+use Rattle.std.specs.Prelude.{◌≡◌, ℕ, ◌+◌, ◌<◌, ◌≤◌}
 use Rattle.isdb_mmt.specs.Decoder.Packet.{Bytes}
 use Rattle.isdb_mmt.specs.Memory.Layout.{most_control_ids, most_sections, most_table_area}
-use Rattle.isdb_mmt.specs.Memory.Session.{Session, limits_of, used_of}
+use Rattle.isdb_mmt.specs.Memory.Session.{limits_of, used_of}
 use Rattle.isdb_mmt.specs.Memory.Check.{PlacesThere}
-use Rattle.isdb_mmt.specs.Memory.Opening.{lent}
-use Rattle.isdb_mmt.specs.declared.part.Part.{Part}
 use Rattle.isdb_mmt.specs.declared.decoder.limits.Limits.{Limits}
-use Rattle.isdb_mmt.specs.declared.table.mpt.Asset.{Asset}
-use Rattle.isdb_mmt.specs.declared.decoder.kept.MaybeAsset.{MaybeAsset}
-use Rattle.isdb_mmt.specs.declared.decoder.kept.MaybeAsset.TheVariants.{None as no_asset, Some as some_asset}
-use Rattle.isdb_mmt.specs.declared.decoder.kept.MaybePart.{MaybePart}
-use Rattle.isdb_mmt.specs.declared.decoder.kept.MaybePart.TheVariants.{None as no_part, Some as some_part}
-
-abbrev pub part_given : MaybePart → Option Part
-part_given no_part = none
-part_given (some_part p) = some p
-
-abbrev pub asset_given : MaybeAsset → Option Asset
-asset_given no_asset = none
-asset_given (some_asset a) = some a
-
--- a session of which the state alone, and one of which the state and the tables are looked at
-abbrev pub state_only : Bytes → Session
-state_only l = lent l [] [] [] []
-
-abbrev pub state_and_tables : Bytes → Bytes → Session
-state_and_tables l tables = lent l [] [] [] tables
 
 -- the places in use lie within the state, and the number of every area times its size has 64 bits
 pub record Reachable (l : Bytes) : Type 0 where

@@ -1,8 +1,12 @@
 -- What readings say of a session: each answer is told from the state of the model that the session's bytes hold (View).
-use Rattle.std.specs.Prelude.{◌≡◌, ℕ, ◌+◌, ◌≤◌, Bool, true, false, List, [], ◌∷◌, map, length, ◌≢◌, slice_index}
-use Rattle.std.proofs.Math.Option.{Option, none, some}
+use Rattle.std.specs.Prelude.{◌≡◌, ℕ, ◌+◌, ◌≤◌, Bool, true, false, List, [], ◌∷◌, map, length, ◌≢◌, slice_index, Option as StdOption, Some, None, Result, Ok, Err, if◌then◌else◌, Option}
+use Rattle.isdb_mmt.specs.declared.decoder.refusal.Refusal.{Refusal}
+use Rattle.isdb_mmt.specs.declared.decoder.readings.MpuRange.{MpuRange}
+use Rattle.isdb_mmt.specs.declared.decoder.readings.MediaState.{MediaState}
+use Rattle.isdb_mmt.specs.declared.decoder.readings.Held.{Held}
+use Rattle.isdb_mmt.specs.declared.decoder.readings.Held.TheVariants.{NoId, NoObject, Object}
+use Rattle.isdb_mmt.specs.declared.decoder.readings.ControlState.{ControlState}
 use Rattle.isdb_tlv.specs.Guards.{◌≤?◌}
-use Rattle.std.specs.Prelude.{if◌then◌else◌}
 use Rattle.isdb_mmt.specs.Decoder.Packet.{Bytes}
 use Rattle.isdb_mmt.specs.Formats.Part.{part_of}
 use Rattle.isdb_mmt.specs.Decoder.Maps.{find}
@@ -15,61 +19,45 @@ use Rattle.isdb_mmt.specs.Memory.Session.{Session}
 use Rattle.isdb_mmt.specs.Memory.Check.{sound}
 use Rattle.isdb_mmt.specs.Memory.View.{view}
 use Rattle.isdb_mmt.specs.Answers.Readings.{media_names, control_names, keys_in, counters_read, time_read, count_read, most_name, ascending, next_media_read, next_control_read, next_key_read, media_read, held_read, control_read}
-use Rattle.isdb_mmt.specs.declared.maybe.MaybeU32.{MaybeU32}
-use Rattle.isdb_mmt.specs.declared.maybe.MaybeU32.TheVariants.{None as no_u32, Some as some_u32}
-use Rattle.isdb_mmt.specs.declared.decoder.readings.CountersReading.TheVariants.{Counters as the_counters}
-use Rattle.isdb_mmt.specs.declared.decoder.readings.TimeReading.{TimeReading}
-use Rattle.isdb_mmt.specs.declared.decoder.readings.TimeReading.TheVariants.{Nothing as no_time, Timestamp}
-use Rattle.isdb_mmt.specs.declared.decoder.readings.CountReading.TheVariants.{Count}
-use Rattle.isdb_mmt.specs.declared.decoder.readings.NameReading.{NameReading}
-use Rattle.isdb_mmt.specs.declared.decoder.readings.NameReading.TheVariants.{Refused as name_refused, Nothing as no_name_of, Name}
-use Rattle.isdb_mmt.specs.declared.decoder.readings.MaybeRange.{MaybeRange}
-use Rattle.isdb_mmt.specs.declared.decoder.readings.MaybeRange.TheVariants.{None as no_range, Some as some_range}
-use Rattle.isdb_mmt.specs.declared.decoder.readings.MediaReading.{MediaReading}
-use Rattle.isdb_mmt.specs.declared.decoder.readings.MediaReading.TheVariants.{Nothing as no_media, Media as the_media}
 use Rattle.isdb_mmt.specs.declared.decoder.readings.HeldObject.{HeldObject}
-use Rattle.isdb_mmt.specs.declared.decoder.readings.HeldReading.{HeldReading}
-use Rattle.isdb_mmt.specs.declared.decoder.readings.HeldReading.TheVariants.{NoId, Nothing as no_object, Object as the_object}
-use Rattle.isdb_mmt.specs.declared.decoder.readings.ControlReading.{ControlReading}
-use Rattle.isdb_mmt.specs.declared.decoder.readings.ControlReading.TheVariants.{Nothing as no_control, Control as the_control}
 
 -- ---- counts and the time
 
-abbrev pub time_told : Option ℕ → TimeReading
-time_told none = no_time
-time_told (some t) = Timestamp t
+abbrev pub time_told : Option ℕ → StdOption ℕ
+time_told None = None
+time_told (Some t) = Some t
 
 pub record CountsTold (s : Session) : Type 0 where
-  pub counters : counters_read s ≡ the_counters (view s).counters
-  pub time : time_read s ≡ time_told (view s).time
-  pub tables : (id : ℕ) → count_read s id ≡ Count (slice_index (view s).store.others id)
+  pub counters : counters_read s ≡ Ok (view s).counters
+  pub time : time_read s ≡ Ok (time_told (view s).time)
+  pub tables : (id : ℕ) → count_read s id ≡ Ok (slice_index (view s).store.others id)
 
 abbrev pub CountsAreTold : Type 0
 CountsAreTold = (s : Session) → sound s ≡ true → CountsTold s
 
 -- ---- packet ids
 
-abbrev pub u32_told : Option ℕ → MaybeU32
-u32_told none = no_u32
-u32_told (some n) = some_u32 n
+abbrev pub u32_told : Option ℕ → Option ℕ
+u32_told None = None
+u32_told (Some n) = Some n
 
-abbrev pub range_told : Option (ℕ × ℕ) → MaybeRange
-range_told none = no_range
-range_told (some r) = some_range (record { first = r.0; last = r.1 })
+abbrev pub range_told : Option (ℕ × ℕ) → StdOption MpuRange
+range_told None = None
+range_told (Some r) = Some (record { first = r.0; last = r.1 })
 
 -- of a held object, and of a message being joined, the length
-abbrev pub object_length : Option Mfu → MaybeU32
-object_length none = no_u32
-object_length (some h) = some_u32 (length h.bytes)
+abbrev pub object_length : Option Mfu → Option ℕ
+object_length None = None
+object_length (Some h) = Some (length h.bytes)
 
-abbrev pub joined_length_of : Option PartialMessage → MaybeU32
-joined_length_of none = no_u32
-joined_length_of (some j) = some_u32 (length j.bytes)
+abbrev pub joined_length_of : Option PartialMessage → Option ℕ
+joined_length_of None = None
+joined_length_of (Some j) = Some (length j.bytes)
 
-abbrev pub media_told : Option Asset → MediaReading
-media_told none = no_media
-media_told (some a) =
-    the_media
+abbrev pub media_told : Option Asset → StdOption MediaState
+media_told None = None
+media_told (Some a) =
+    Some
     (record {
       stats = a.stats;
       sequence = u32_told a.number;
@@ -88,27 +76,27 @@ object_of b o =
       bytes = part_of b o.bytes;
     }
 
-pub record Holds (b : Bytes) (r : HeldReading) (h : Mfu) : Type 0 where
+pub record Holds (b : Bytes) (r : Result Held Refusal) (h : Mfu) : Type 0 where
   pub object : HeldObject
-  pub answer : r ≡ the_object object
+  pub answer : r ≡ Ok (Object object)
   pub is : object_of b object ≡ h
 
-abbrev pub HeldIs : Bytes → HeldReading → Option Mfu → Type 0
-HeldIs b r none = r ≡ no_object
-HeldIs b r (some h) = Holds b r h
+abbrev pub HeldIs : Bytes → Result Held Refusal → Option Mfu → Type 0
+HeldIs b r None = r ≡ Ok NoObject
+HeldIs b r (Some h) = Holds b r h
 
-abbrev pub HeldTold : Bytes → HeldReading → Option Asset → Type 0
-HeldTold b r none = r ≡ NoId
-HeldTold b r (some a) = HeldIs b r a.held
+abbrev pub HeldTold : Bytes → Result Held Refusal → Option Asset → Type 0
+HeldTold b r None = r ≡ Ok NoId
+HeldTold b r (Some a) = HeldIs b r a.held
 
-abbrev pub control_told : Option ControlLine → ControlReading
-control_told none = no_control
-control_told (some c) = the_control (record { sequence = u32_told c.reassembly.number; joined = joined_length_of c.reassembly.partial })
+abbrev pub control_told : Option ControlLine → StdOption ControlState
+control_told None = None
+control_told (Some c) = Some (record { sequence = u32_told c.reassembly.number; joined = joined_length_of c.reassembly.partial })
 
 pub record IdsTold (s : Session) : Type 0 where
-  pub media : (id : ℕ) → media_read s id ≡ media_told (find id (view s).assets)
+  pub media : (id : ℕ) → media_read s id ≡ Ok (media_told (find id (view s).assets))
   pub held : (id : ℕ) → HeldTold s.objects (held_read s id) (find id (view s).assets)
-  pub control : (id : ℕ) → control_read s id ≡ control_told (find id (view s).controls)
+  pub control : (id : ℕ) → control_read s id ≡ Ok (control_told (find id (view s).controls))
 
 abbrev pub IdsAreTold : Type 0
 IdsAreTold = (s : Session) → sound s ≡ true → IdsTold s
@@ -137,11 +125,11 @@ pub record Least (names : List ℕ) (a b x : ℕ) : Type 0 where
   pub least : (y : ℕ) → among y names ≡ true → a ≤ y → y ≤ b → x ≤ y
 
 -- the next name from `a` to `b`, or that there is none
-pub record NextTold (names : List ℕ) (a b : ℕ) (r : NameReading) : Type 0 where
-  pub answered : (n : ℕ) → r ≢ name_refused n
-  pub name : (x : ℕ) → r ≡ Name x → Least names a b x
-  pub nothing : r ≡ no_name_of → (y : ℕ) → among y names ≡ true → a ≤ y → y ≤ b → ⊥
-  pub empty : ((y : ℕ) → among y names ≡ true → a ≤ y → y ≤ b → ⊥) → r ≡ no_name_of
+pub record NextTold (names : List ℕ) (a b : ℕ) (r : Result (StdOption ℕ) Refusal) : Type 0 where
+  pub answered : (e : Refusal) → r ≢ Err e
+  pub name : (x : ℕ) → r ≡ Ok (Some x) → Least names a b x
+  pub nothing : r ≡ Ok None → (y : ℕ) → among y names ≡ true → a ≤ y → y ≤ b → ⊥
+  pub empty : ((y : ℕ) → among y names ≡ true → a ≤ y → y ≤ b → ⊥) → r ≡ Ok None
 
 pub record NamesTold (s : Session) : Type 0 where
   pub media : InOrder (names_in (view s).assets) (ascending (media_names s))

@@ -1,8 +1,7 @@
 -- What the session is held against, drawn from the accepted packets alone: nothing here mentions a state. Of a media id: its
 -- reception log, its book (the term of the scope), the objects begun, and the stretches of the log that delivered objects are. Of a key: its
 -- well-formed sections, and the first of the last run of equal version.
-use Rattle.std.specs.Prelude.{◌≡◌, ℕ, ◌+◌, ◌-◌, ◌%◌, min, Bool, true, false, not, ◌&&◌, ◌≢◌, List, [], ◌∷◌, ◌++◌, map, length}
-use Rattle.std.proofs.Math.Option.{Option, none, some}
+use Rattle.std.specs.Prelude.{◌≡◌, ℕ, ◌+◌, ◌-◌, ◌%◌, min, Bool, true, false, not, ◌&&◌, ◌≢◌, List, [], ◌∷◌, ◌++◌, map, length, Option, None, Some}
 use Rattle.isdb_tlv.specs.Guards.{◌≤?◌, ◌=?◌}
 use Rattle.std.specs.Prelude.{if◌then◌else◌}
 use Rattle.isdb_mmt.specs.Decoder.Packet.{Bytes, PayloadUnit, Packet, ip_error, ntp, non_mmtp_of, media, message, control, other, readable}
@@ -53,42 +52,42 @@ pub record Book : Type 0 where
 
 -- nothing held, no number, counts 0
 unfoldable pub nothing : Book
-nothing = record { number = none; held = none; dropped = 0; lost = 0; delivered = [] }
+nothing = record { number = None; held = None; dropped = 0; lost = 0; delivered = [] }
 
 -- the count of drops, where what is held is dropped
 unfoldable pub drop_counted : Option Bytes → ℕ → ℕ
-drop_counted none k = k
-drop_counted (some h) k = k + 1
+drop_counted None k = k
+drop_counted (Some h) k = k + 1
 
 unfoldable pub in_order_of : Option ℕ → ℕ → Bool
-in_order_of none n = true
-in_order_of (some l) n = n =? follower l
+in_order_of None n = true
+in_order_of (Some l) n = n =? follower l
 
 -- the gap rule: (new - old - 1) modulo 2^32, at most 1,048,576; nothing where the number follows or is the first
 unfoldable pub missing : Option ℕ → ℕ → ℕ
-missing none n = 0
-missing (some l) n = if n =? follower l then 0 else min ((n + 8589934592 - l - 1) % 4294967296) 1048576
+missing None n = 0
+missing (Some l) n = if n =? follower l then 0 else min ((n + 8589934592 - l - 1) % 4294967296) 1048576
 
 -- a continuing unit with data `d`; `e` says whether it is a Last
 unfoldable pub continued_by : Book → Bool → Bytes → Option Bytes → Book
-continued_by b e d none = b
-continued_by b e d (some h) =
+continued_by b e d None = b
+continued_by b e d (Some h) =
     if length h + length d ≤? limit
     then (if e
-    then record { number = b.number; held = none; dropped = b.dropped; lost = b.lost; delivered = b.delivered ++ ((h ++ d) ∷ []) }
-    else record { number = b.number; held = some (h ++ d); dropped = b.dropped; lost = b.lost; delivered = b.delivered })
-    else record { number = b.number; held = none; dropped = b.dropped + 1; lost = b.lost; delivered = b.delivered }
+    then record { number = b.number; held = None; dropped = b.dropped; lost = b.lost; delivered = b.delivered ++ ((h ++ d) ∷ []) }
+    else record { number = b.number; held = Some (h ++ d); dropped = b.dropped; lost = b.lost; delivered = b.delivered })
+    else record { number = b.number; held = None; dropped = b.dropped + 1; lost = b.lost; delivered = b.delivered }
 
 unfoldable pub entered : Book → LogEntry → Book
 unfolding drop_counted in_order_of missing continued_by
 entered b (packet_number n) =
     if in_order_of b.number n
-    then record { number = some n; held = b.held; dropped = b.dropped; lost = b.lost + missing b.number n; delivered = b.delivered }
-    else record { number = some n; held = none; dropped = drop_counted b.held b.dropped; lost = b.lost + missing b.number n; delivered = b.delivered }
+    then record { number = Some n; held = b.held; dropped = b.dropped; lost = b.lost + missing b.number n; delivered = b.delivered }
+    else record { number = Some n; held = None; dropped = drop_counted b.held b.dropped; lost = b.lost + missing b.number n; delivered = b.delivered }
 entered b (unit_received n Complete d) =
-    record { number = b.number; held = none; dropped = drop_counted b.held b.dropped; lost = b.lost; delivered = b.delivered ++ (d ∷ []) }
+    record { number = b.number; held = None; dropped = drop_counted b.held b.dropped; lost = b.lost; delivered = b.delivered ++ (d ∷ []) }
 entered b (unit_received n Head d) =
-    record { number = b.number; held = some d; dropped = drop_counted b.held b.dropped; lost = b.lost; delivered = b.delivered }
+    record { number = b.number; held = Some d; dropped = drop_counted b.held b.dropped; lost = b.lost; delivered = b.delivered }
 entered b (unit_received n Middle d) = continued_by b false d b.held
 entered b (unit_received n Last d) = continued_by b true d b.held
 
@@ -102,8 +101,8 @@ unfolding nothing entered_all reception_log
 book i ps = entered_all nothing (reception_log i ps)
 
 unfoldable pub is_held : Option Bytes → ℕ
-is_held none = 0
-is_held (some h) = 1
+is_held None = 0
+is_held (Some h) = 1
 
 -- objects begun, counted off the packets
 unfoldable pub begins : FragmentationIndicator → ℕ

@@ -1,6 +1,5 @@
 -- What holds after every list of accepted packets from an opened state, of every media id and every key, as one claim.
-use Rattle.std.specs.Prelude.{◌≡◌, ℕ, ◌+◌, ◌<◌, ◌≤◌, Bool, List, [], ◌∷◌, ◌++◌, map, length}
-use Rattle.std.proofs.Math.Option.{Option, none, some}
+use Rattle.std.specs.Prelude.{◌≡◌, ℕ, ◌+◌, ◌<◌, ◌≤◌, Bool, List, [], ◌∷◌, ◌++◌, map, length, Option, None, Some}
 use Rattle.isdb_mmt.specs.Decoder.Packet.{Bytes, PayloadUnit, Packet, classify, ip_error, ntp, non_mmtp_of, media, message, control, other, readable}
 use Rattle.isdb_mmt.specs.Decoder.Maps.{find}
 use Rattle.isdb_mmt.specs.Decoder.Objects.{Mfu, Rec}
@@ -18,8 +17,8 @@ give_all s [] = []
 give_all s (p ∷ ps) = gives s p ++ give_all (pushed s p) ps
 
 unfoldable pub held_bytes : Option Mfu → Option Bytes
-held_bytes none = none
-held_bytes (some h) = some h.bytes
+held_bytes None = None
+held_bytes (Some h) = Some h.bytes
 
 abbrev pub held_of : ℕ → State → Option Bytes
 held_of i s = held_bytes (asset_of i s).held
@@ -61,8 +60,8 @@ AllFit (p ∷ f) = (length p.1 < 65536) × AllFit f
 
 -- a held object has at most 16,777,216 bytes
 abbrev pub Bounded : Option Bytes → Type 0
-Bounded none = Unit {0}
-Bounded (some h) = length h ≤ 16777216
+Bounded None = Unit {0}
+Bounded (Some h) = length h ≤ 16777216
 
 -- of a media id, between what a session says of it (drops `k`, losses `w`, the held object `h`), the objects given out and the
 -- packets accepted
@@ -78,8 +77,8 @@ pub record OfId (k w : ℕ) (h : Option Bytes) (os : List Bytes) (ps : List Pack
 -- of a key: what is kept is the first of the last run of equal version among its well-formed sections, and nothing is kept
 -- exactly where there are none
 pub data Keeps : Option Kept → List Section → Type 0 where
-  never : Keeps none []
-  keeps : {xs : List Section} (x : Section) → FirstOfLastRun x xs → Keeps (some (record { version = x.version; bytes = x.bytes })) xs
+  never : Keeps None []
+  keeps : {xs : List Section} (x : Section) → FirstOfLastRun x xs → Keeps (Some (record { version = x.version; bytes = x.bytes })) xs
 
 -- of all ids and keys: what a session says of each, the records given out and the packets accepted
 pub record Holds (k w : ℕ → ℕ) (h : ℕ → Option Bytes) (kept : ℕ → Option Kept) (rs : List Rec) (ps : List Packet) : Type 0 where

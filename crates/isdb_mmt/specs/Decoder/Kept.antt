@@ -1,7 +1,10 @@
 -- What is done with a table: kept, passed over, counted. The Rust's `Decoder::table`, `control` and `keep`, on values.
 -- Translated from decoder.rs of isdb-rs (Apache-2.0, see NOTICE) and changed.
-use Rattle.std.specs.Prelude.{ℕ, ◌+◌, ◌*◌, ◌^◌, Bool, true, false, cond, not, ◌&&◌, List, [], ◌∷◌, length, take, slice_index, slice_index_or, slice_set}
-use Rattle.std.proofs.Math.Option.{Option, none, some}
+use Rattle.isdb_mmt.specs.declared.table.plt.Plt.{Plt}
+use Rattle.isdb_mmt.specs.declared.table.mpt.Mpt.{Mpt}
+use Rattle.isdb_mmt.specs.declared.table.tot.Tot.{Tot}
+use Rattle.isdb_mmt.specs.declared.table.section.SectionHeader.{SectionHeader}
+use Rattle.std.specs.Prelude.{ℕ, ◌+◌, ◌*◌, ◌^◌, Bool, true, false, cond, not, ◌&&◌, List, [], ◌∷◌, length, take, slice_index, slice_index_or, slice_set, Err, None, Ok, Result, Some, Option, is_some, is_ok}
 use Rattle.isdb_tlv.specs.Guards.{◌<?◌, ◌≤?◌, ◌=?◌}
 use Rattle.std.specs.Prelude.{if◌then◌else◌}
 use Rattle.isdb_tlv.specs.Bytes.{be}
@@ -20,25 +23,7 @@ use Rattle.isdb_mmt.specs.Decoder.Packet.{Bytes}
 use Rattle.isdb_mmt.specs.declared.decoder.counts.Counters.{Counters}
 use Rattle.isdb_mmt.specs.declared.table.section.SectionError.{SectionError}
 use Rattle.isdb_mmt.specs.declared.table.section.SectionError.TheVariants.{Truncated, Crc, Malformed}
-use Rattle.isdb_mmt.specs.declared.table.section.LongSection.{LongSection}
-use Rattle.isdb_mmt.specs.declared.table.section.LongSection.TheVariants.{Ok as good_section, Err as bad_section}
-use Rattle.isdb_mmt.specs.declared.table.eit.EitResult.{EitResult}
-use Rattle.isdb_mmt.specs.declared.table.eit.EitResult.TheVariants.{Ok as eit_ok, Err as eit_err}
-use Rattle.isdb_mmt.specs.declared.table.sdt.SdtResult.{SdtResult}
-use Rattle.isdb_mmt.specs.declared.table.sdt.SdtResult.TheVariants.{Ok as sdt_ok, Err as sdt_err}
-use Rattle.isdb_mmt.specs.declared.table.bit.BitResult.{BitResult}
-use Rattle.isdb_mmt.specs.declared.table.bit.BitResult.TheVariants.{Ok as bit_ok, Err as bit_err}
-use Rattle.isdb_mmt.specs.declared.table.nit.NitResult.{NitResult}
-use Rattle.isdb_mmt.specs.declared.table.nit.NitResult.TheVariants.{Ok as nit_ok, Err as nit_err}
-use Rattle.isdb_mmt.specs.declared.table.amt.AmtResult.{AmtResult}
-use Rattle.isdb_mmt.specs.declared.table.amt.AmtResult.TheVariants.{Ok as amt_ok, Err as amt_err}
-use Rattle.isdb_mmt.specs.declared.table.tot.TotResult.{TotResult}
-use Rattle.isdb_mmt.specs.declared.table.tot.TotResult.TheVariants.{Ok as tot_ok, Err as tot_err}
-use Rattle.isdb_mmt.specs.declared.table.mpt.MaybeMpt.{MaybeMpt}
-use Rattle.isdb_mmt.specs.declared.table.mpt.MaybeMpt.TheVariants.{None as no_mpt, Some as some_mpt}
-use Rattle.isdb_mmt.specs.declared.table.plt.MaybePlt.{MaybePlt}
-use Rattle.isdb_mmt.specs.declared.table.plt.MaybePlt.TheVariants.{None as no_plt, Some as some_plt}
-use Rattle.isdb_mmt.specs.Decoder.Maps.{find, put, is_some, one}
+use Rattle.isdb_mmt.specs.Decoder.Maps.{find, put, one}
 
 -- a section that reaches `keep`: its key; whether header and CRC are good, and which of them is not; its version; whether its
 -- body parses, and how many descriptor loops break on the way; its declared bytes
@@ -62,53 +47,33 @@ pub record Body : Type 0 where
 abbrev pub body : Bool → ℕ → Body
 body o n = record { ok = o; breaks = n }
 
-abbrev pub eit_body_ok : EitResult → Bool
-eit_body_ok (eit_ok h t) = true
-eit_body_ok (eit_err e) = false
-
-abbrev pub sdt_body_ok : SdtResult → Bool
-sdt_body_ok (sdt_ok h t) = true
-sdt_body_ok (sdt_err e) = false
-
-abbrev pub bit_body_ok : BitResult → Bool
-bit_body_ok (bit_ok h t) = true
-bit_body_ok (bit_err e) = false
-
-abbrev pub nit_body_ok : NitResult → Bool
-nit_body_ok (nit_ok h t) = true
-nit_body_ok (nit_err e) = false
-
-abbrev pub amt_body_ok : AmtResult → Bool
-amt_body_ok (amt_ok h t) = true
-amt_body_ok (amt_err e) = false
-
 -- the table that a section's id names; the others are EITs
 unfoldable pub body_read : ℕ → Bytes → Body
 body_read id b =
-    if id =? bit_id then body (bit_body_ok (bit_of b).result) (bit_of b).breaks
-    else if id =? sdt_actual_id then body (sdt_body_ok (sdt_of b).result) (sdt_of b).breaks
-    else if id =? sdt_other_id then body (sdt_body_ok (sdt_of b).result) (sdt_of b).breaks
-    else if id =? nit_actual_id then body (nit_body_ok (nit_of b)) 0
-    else if id =? nit_other_id then body (nit_body_ok (nit_of b)) 0
-    else if id =? amt_id then body (amt_body_ok (amt_of b)) 0
-    else body (eit_body_ok (eit_of b).result) (eit_of b).breaks
+    if id =? bit_id then body (is_ok (bit_of b).result) (bit_of b).breaks
+    else if id =? sdt_actual_id then body (is_ok (sdt_of b).result) (sdt_of b).breaks
+    else if id =? sdt_other_id then body (is_ok (sdt_of b).result) (sdt_of b).breaks
+    else if id =? nit_actual_id then body (is_ok (nit_of b)) 0
+    else if id =? nit_other_id then body (is_ok (nit_of b)) 0
+    else if id =? amt_id then body (is_ok (amt_of b)) 0
+    else body (is_ok (eit_of b).result) (eit_of b).breaks
 
-abbrev pub head_is_ok : LongSection → Bool
-head_is_ok (good_section h) = true
-head_is_ok (bad_section e) = false
+abbrev pub head_is_ok : Result SectionHeader SectionError → Bool
+head_is_ok (Ok h) = true
+head_is_ok (Err e) = false
 
 abbrev pub is_crc : SectionError → Bool
 is_crc Truncated = false
 is_crc Crc = true
 is_crc Malformed = false
 
-abbrev pub crc_is_bad : LongSection → Bool
-crc_is_bad (good_section h) = false
-crc_is_bad (bad_section e) = is_crc e
+abbrev pub crc_is_bad : Result SectionHeader SectionError → Bool
+crc_is_bad (Ok h) = false
+crc_is_bad (Err e) = is_crc e
 
-abbrev pub version_in : LongSection → ℕ
-version_in (good_section h) = h.version
-version_in (bad_section e) = 0
+abbrev pub version_in : Result SectionHeader SectionError → ℕ
+version_in (Ok h) = h.version
+version_in (Err e) = 0
 
 -- a section declares 3 bytes and its length
 abbrev pub declared_section : Bytes → Bytes
@@ -136,8 +101,8 @@ pub record Kept : Type 0 where
 
 -- a section of another version than the kept one's, or where none is kept
 unfoldable pub other_version : Option Kept → ℕ → Bool
-other_version none v = true
-other_version (some k) v = not (k.version =? v)
+other_version None v = true
+other_version (Some k) v = not (k.version =? v)
 
 unfoldable pub keep_if : Bool → Bool → Section → List (ℕ × Kept) → List (ℕ × Kept)
 unfolding put
@@ -227,7 +192,7 @@ table_counted c x =
 -- a section: a bad header or CRC is counted; a section of the kept version is passed over; another counts a version change
 -- before its body is read
 unfoldable pub section_increments : Section → Option Kept → Increments
-unfolding other_version is_some
+unfolding other_version
 section_increments x k =
     if not x.header_and_crc_good then increments (one x.crc_bad) (one (not x.crc_bad)) 0 0
     else if not (other_version k x.version) then increments 0 0 0 0
@@ -259,21 +224,18 @@ pub data Table : Type 0 where
   a_section : Section → Table
   other_table : ℕ → Table
 
-abbrev pub mpt_parses : MaybeMpt → Bool
-mpt_parses no_mpt = false
-mpt_parses (some_mpt t) = true
+abbrev pub mpt_parses : Option Mpt → Bool
+mpt_parses o = is_some o
 
-abbrev pub plt_parses : MaybePlt → Bool
-plt_parses no_plt = false
-plt_parses (some_plt t) = true
+abbrev pub plt_parses : Option Plt → Bool
+plt_parses o = is_some o
 
-abbrev pub tot_parses : TotResult → Bool
-tot_parses (tot_ok t) = true
-tot_parses (tot_err e) = false
+abbrev pub tot_parses : Result Tot SectionError → Bool
+tot_parses r = is_ok r
 
-abbrev pub tot_crc_bad : TotResult → Bool
-tot_crc_bad (tot_ok t) = false
-tot_crc_bad (tot_err e) = is_crc e
+abbrev pub tot_crc_bad : Result Tot SectionError → Bool
+tot_crc_bad (Ok t) = false
+tot_crc_bad (Err e) = is_crc e
 
 -- an MPT or a PLT declares 4 bytes and its length; a TOT declares as a section does
 abbrev pub declared_table : Bytes → Bytes
@@ -300,8 +262,8 @@ table_read b = if length b =? 0 then empty_table else table_by_id (slice_index b
 
 -- an MPT or a PLT of another version than the kept one's
 abbrev pub changes : Option Bytes → Bytes → Bool
-changes none b = false
-changes (some old) b = not (slice_index_or old 1 0 =? slice_index_or b 1 0)
+changes None b = false
+changes (Some old) b = not (slice_index_or old 1 0 =? slice_index_or b 1 0)
 
 -- what a table adds to the counts, from the MPT `m` that is kept for its control id and all else that is kept
 unfoldable pub table_increments : Option Bytes → KeptTables → Table → Increments
@@ -315,7 +277,7 @@ table_increments m s (other_table id) = increments 0 0 0 0
 
 -- what is kept after it
 abbrev pub latest : Bool → Option Bytes → Bytes → Option Bytes
-latest true o b = some b
+latest true o b = Some b
 latest false o b = o
 
 -- the MPT of its control id

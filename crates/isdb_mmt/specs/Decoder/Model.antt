@@ -1,7 +1,6 @@
 -- The decoder on values, with unlimited memory: what the Rust's `Decoder::push` does, every counter and kept table included.
 -- Translated from decoder.rs of isdb-rs (Apache-2.0, see NOTICE) and changed.
-use Rattle.std.specs.Prelude.{ℕ, ◌+◌, Bool, List, [], replicate}
-use Rattle.std.proofs.Math.Option.{Option, none, some}
+use Rattle.std.specs.Prelude.{ℕ, ◌+◌, Bool, List, [], replicate, Option, None, Some}
 use Rattle.isdb_mmt.specs.declared.decoder.counts.Counters.{Counters}
 use Rattle.isdb_mmt.specs.Decoder.Packet.{Bytes, MessagePacket, Packet, ip_error, ntp, non_mmtp_of, media, message, control, other}
 use Rattle.isdb_mmt.specs.Decoder.Maps.{find, put, or_else, one}
@@ -17,7 +16,7 @@ pub record Control : Type 0 where
 
 unfoldable pub idle_control : Control
 unfolding idle
-idle_control = record { reassembly = idle; mpt = none }
+idle_control = record { reassembly = idle; mpt = None }
 
 -- ids stand in the order of their first arrival
 pub record State : Type 0 where
@@ -36,8 +35,8 @@ opened pass =
       passing = pass;
       assets = [];
       controls = [];
-      store = record { plt = none; tot = none; kept = []; others = replicate 256 0 };
-      time = none;
+      store = record { plt = None; tot = None; kept = []; others = replicate 256 0 };
+      time = None;
       counters = zeros;
     }
 
@@ -80,8 +79,8 @@ reassembly_counted c l x =
     message_counted c (one (orphan l x)) (one (oversize l x)) (one (short x) + (cut_of_all (message_completed l x)).malformed)
 
 unfoldable pub time_after : Option ℕ → Option ℕ → Option ℕ
-time_after o none = o
-time_after o (some t) = some t
+time_after o None = o
+time_after o (Some t) = Some t
 
 abbrev pub counting : State → Counters → State
 counting s c =
@@ -134,7 +133,7 @@ pushed s (control bs) =
       controls = s.controls;
       store = stored_all s.store (control_tables bs);
       time = s.time;
-      counters = counted_all none s.store (packet_counted s.counters 0 0 0) (control_tables bs);
+      counters = counted_all None s.store (packet_counted s.counters 0 0 0) (control_tables bs);
     }
 
 -- the records given out

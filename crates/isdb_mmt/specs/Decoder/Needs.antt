@@ -1,7 +1,6 @@
 -- What the decoder would need for a packet from a state, with unlimited memory: questions 8, 9 and 10 of a call compare it with
 -- what the session has.
-use Rattle.std.specs.Prelude.{ℕ, ◌+◌, ◌-◌, max, cond, ◌&&◌, List, [], ◌∷◌, length, drop}
-use Rattle.std.proofs.Math.Option.{Option, none, some}
+use Rattle.std.specs.Prelude.{ℕ, ◌+◌, ◌-◌, max, cond, ◌&&◌, List, [], ◌∷◌, length, drop, Option, None, Some}
 use Rattle.isdb_mmt.specs.Decoder.Packet.{Bytes, PayloadUnit, MpuPacket, MessagePacket, Packet, ip_error, ntp, non_mmtp_of, media, message, control, other, readable}
 use Rattle.isdb_mmt.specs.Decoder.Maps.{find}
 use Rattle.isdb_mmt.specs.Decoder.Objects.{Mfu, Asset, UnitEffect, unit_effect, after_unit, after_headers, Rec}
@@ -29,8 +28,8 @@ pub record Needs : Type 0 where
 
 -- an object held after a unit, or delivered by it
 abbrev pub held_length : Option Mfu → ℕ
-held_length none = 0
-held_length (some h) = length h.bytes
+held_length None = 0
+held_length (Some h) = length h.bytes
 
 abbrev pub longest_of : List Mfu → ℕ
 longest_of [] = 0
@@ -49,8 +48,8 @@ units_need m a [] = 0
 units_need m a (u ∷ us) = max (unit_area u.fragment (unit_effect m a u)) (units_need m (after_unit a (unit_effect m a u)) us)
 
 abbrev pub partial_length : Option PartialMessage → ℕ
-partial_length none = 0
-partial_length (some j) = length j.bytes
+partial_length None = 0
+partial_length (Some j) = length j.bytes
 
 -- an undivided message needs no area
 abbrev pub fragment_area : Division → Option PartialMessage → Bytes → ℕ

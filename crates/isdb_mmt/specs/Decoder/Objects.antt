@@ -1,27 +1,23 @@
 -- What a media packet does to the objects and counts of its packet id: the Rust's `Reassembler::push`, on values.
 -- Translated from mpu.rs of isdb-rs (Apache-2.0, see NOTICE) and changed.
-use Rattle.std.specs.Prelude.{ℕ, ◌+◌, Bool, true, false, cond, not, ◌&&◌, List, [], ◌∷◌, ◌++◌, length}
-use Rattle.std.proofs.Math.Option.{Option, none, some}
+use Rattle.isdb_mmt.specs.declared.mpu.MfuHeader.{MfuHeader}
+use Rattle.std.specs.Prelude.{ℕ, ◌+◌, Bool, true, false, cond, not, ◌&&◌, List, [], ◌∷◌, ◌++◌, length, None, Option, Some, is_some}
 use Rattle.isdb_tlv.specs.Guards.{◌≤?◌, ◌=?◌}
 use Rattle.std.specs.Prelude.{if◌then◌else◌}
 use Rattle.isdb_mmt.specs.Formats.Mpu.{follows, lost_from, completes_of}
 use Rattle.isdb_mmt.specs.Decoder.Packet.{Bytes, PayloadUnit, MpuPacket, readable}
 use Rattle.isdb_mmt.specs.declared.decoder.counts.AssetStats.{AssetStats}
-use Rattle.isdb_mmt.specs.declared.maybe.MaybeU32.{MaybeU32}
-use Rattle.isdb_mmt.specs.declared.maybe.MaybeU32.TheVariants.{None as no_u32}
 use Rattle.isdb_mmt.specs.declared.mpu.FragmentationIndicator.{FragmentationIndicator}
 use Rattle.isdb_mmt.specs.declared.mpu.FragmentationIndicator.TheVariants.{Complete, Head, Middle, Last}
 use Rattle.isdb_mmt.specs.declared.mpu.PayloadHeader.{PayloadHeader}
-use Rattle.isdb_mmt.specs.declared.mpu.MaybeMfu.{MaybeMfu}
-use Rattle.isdb_mmt.specs.declared.mpu.MaybeMfu.TheVariants.{None as no_mfu}
-use Rattle.isdb_mmt.specs.Decoder.Maps.{is_some, one}
+use Rattle.isdb_mmt.specs.Decoder.Maps.{one}
 
 -- an object: what its record carries, from its first packet and unit, and its bytes
 pub record Mfu : Type 0 where
   pub mpu : ℕ
   pub rap : Bool
-  pub mfu : MaybeMfu
-  pub item_id : MaybeU32
+  pub mfu : Option MfuHeader
+  pub item_id : Option ℕ
   pub bytes : Bytes
 
 pub record Asset : Type 0 where
@@ -48,7 +44,7 @@ no_stats =
     }
 
 unfoldable pub fresh : Asset
-fresh = record { number = none; mpu = none; held = none; range = none; stats = no_stats }
+fresh = record { number = None; mpu = None; held = None; range = None; stats = no_stats }
 
 -- with so many objects delivered and dropped more
 abbrev pub objects_counted : AssetStats → ℕ → ℕ → AssetStats
@@ -71,12 +67,12 @@ most_object = 16777216
 
 -- a number that does not follow the last one
 unfoldable pub gap : Option ℕ → ℕ → Bool
-gap none n = false
-gap (some l) n = not (follows l n)
+gap None n = false
+gap (Some l) n = not (follows l n)
 
 unfoldable pub lost_by : Option ℕ → ℕ → ℕ
-lost_by none n = 0
-lost_by (some l) n = if follows l n then 0 else lost_from l n
+lost_by None n = 0
+lost_by (Some l) n = if follows l n then 0 else lost_from l n
 
 -- what one unit does: the object held after it, how many are dropped, which are delivered
 pub record UnitEffect : Type 0 where
@@ -89,18 +85,18 @@ grown h d = record { mpu = h.mpu; rap = h.rap; mfu = h.mfu; item_id = h.item_id;
 
 -- an object continued: it fits or it is dropped; its end delivers it
 unfoldable pub continued : Bool → Bool → Mfu → UnitEffect
-continued true true h = record { held = none; drops = 0; outs = h ∷ [] }
-continued true false h = record { held = some h; drops = 0; outs = [] }
-continued false e h = record { held = none; drops = 1; outs = [] }
+continued true true h = record { held = None; drops = 0; outs = h ∷ [] }
+continued true false h = record { held = Some h; drops = 0; outs = [] }
+continued false e h = record { held = None; drops = 1; outs = [] }
 
 unfoldable pub effect_of : FragmentationIndicator → Option Mfu → Mfu → UnitEffect
-unfolding is_some continued grown
-effect_of Complete h u = record { held = none; drops = one (is_some h); outs = u ∷ [] }
-effect_of Head h u = record { held = some u; drops = one (is_some h); outs = [] }
-effect_of Middle none u = record { held = none; drops = 0; outs = [] }
-effect_of Middle (some h) u = continued (length h.bytes + length u.bytes ≤? most_object) false (grown h u.bytes)
-effect_of Last none u = record { held = none; drops = 0; outs = [] }
-effect_of Last (some h) u = continued (length h.bytes + length u.bytes ≤? most_object) true (grown h u.bytes)
+unfolding continued grown
+effect_of Complete h u = record { held = None; drops = one (is_some h); outs = u ∷ [] }
+effect_of Head h u = record { held = Some u; drops = one (is_some h); outs = [] }
+effect_of Middle None u = record { held = None; drops = 0; outs = [] }
+effect_of Middle (Some h) u = continued (length h.bytes + length u.bytes ≤? most_object) false (grown h u.bytes)
+effect_of Last None u = record { held = None; drops = 0; outs = [] }
+effect_of Last (Some h) u = continued (length h.bytes + length u.bytes ≤? most_object) true (grown h u.bytes)
 
 unfoldable pub after_unit : Asset → UnitEffect → Asset
 after_unit a r =
@@ -113,12 +109,12 @@ after_unit a r =
     }
 
 abbrev pub mpu_in : Option PayloadHeader → Option ℕ
-mpu_in none = none
-mpu_in (some h) = some h.mpu_sequence_number
+mpu_in None = None
+mpu_in (Some h) = Some h.mpu_sequence_number
 
 abbrev pub mpu_number : Option PayloadHeader → ℕ
-mpu_number none = 0
-mpu_number (some h) = h.mpu_sequence_number
+mpu_number None = 0
+mpu_number (Some h) = h.mpu_sequence_number
 
 -- the object that a unit begins
 unfoldable pub object_of : MpuPacket → PayloadUnit → Mfu
@@ -140,46 +136,45 @@ delivered_by m a [] = []
 delivered_by m a (u ∷ us) = (unit_effect m a u).outs ++ delivered_by m (after_unit a (unit_effect m a u)) us
 
 unfoldable pub new_mpu : Option ℕ → Option ℕ → Bool
-new_mpu o none = false
-new_mpu none (some n) = true
-new_mpu (some l) (some n) = not (n =? l)
+new_mpu o None = false
+new_mpu None (Some n) = true
+new_mpu (Some l) (Some n) = not (n =? l)
 
 unfoldable pub jumped : Option ℕ → Option ℕ → Bool
-jumped o none = false
-jumped none (some n) = false
-jumped (some l) (some n) = not (n =? l) && not (follows l n)
+jumped o None = false
+jumped None (Some n) = false
+jumped (Some l) (Some n) = not (n =? l) && not (follows l n)
 
 unfoldable pub mpu_after : Option ℕ → Option ℕ → Option ℕ
-mpu_after o none = o
-mpu_after o (some n) = some n
+mpu_after o None = o
+mpu_after o (Some n) = Some n
 
 -- first and last, which moves only with a new number
 abbrev pub last_in : Option (ℕ × ℕ) → ℕ → Option (ℕ × ℕ)
-last_in none n = some (n, n)
-last_in (some r) n = some (r.0, n)
+last_in None n = Some (n, n)
+last_in (Some r) n = Some (r.0, n)
 
 unfoldable pub range_after : Bool → Option (ℕ × ℕ) → Option ℕ → Option (ℕ × ℕ)
 range_after false r n = r
-range_after true r none = r
-range_after true r (some n) = last_in r n
+range_after true r None = r
+range_after true r (Some n) = last_in r n
 
 abbrev pub completes : Option PayloadHeader → Bool
-completes none = false
-completes (some h) = completes_of h.fragmentation
+completes None = false
+completes (Some h) = completes_of h.fragmentation
 
 -- a payload whose header fails, or a clear one whose units do
 unfoldable pub malformed_payload : MpuPacket → Bool
-unfolding is_some
 malformed_payload m = cond (is_some m.header) (not m.scrambled && not (is_some m.units)) true
 
 -- the gap rule, and what the packet's and the payload's headers count
 unfoldable pub after_headers : Asset → MpuPacket → Asset
-unfolding gap lost_by is_some mpu_after new_mpu jumped range_after malformed_payload
+unfolding gap lost_by mpu_after new_mpu jumped range_after malformed_payload
 after_headers a m =
     record {
-      number = some m.number;
+      number = Some m.number;
       mpu = mpu_after a.mpu (mpu_in m.header);
-      held = cond (gap a.number m.number) none a.held;
+      held = cond (gap a.number m.number) None a.held;
       range = range_after (new_mpu a.mpu (mpu_in m.header)) a.range (mpu_in m.header);
       stats =
           record {
@@ -211,13 +206,12 @@ tagged i (d ∷ ds) = record { id = i; scrambled = false; mfu = d } ∷ tagged i
 
 -- a scrambled payload with a good header, passed on from byte 8 to its end where the session is set so
 unfoldable pub passes : Bool → MpuPacket → List Rec
-unfolding is_some
 passes pass m =
     cond (pass && (m.scrambled && is_some m.header))
     (record {
       id = m.id;
       scrambled = true;
-      mfu = record { mpu = mpu_number m.header; rap = m.rap; mfu = no_mfu; item_id = no_u32; bytes = m.raw };
+      mfu = record { mpu = mpu_number m.header; rap = m.rap; mfu = None; item_id = None; bytes = m.raw };
     } ∷ [])
     []
 

@@ -1,8 +1,7 @@
 -- What a message packet does to the message that is being joined for its packet id, and the tables it gives: the Rust's
 -- `Messages::push`, on values.
 -- Translated from message.rs of isdb-rs (Apache-2.0, see NOTICE) and changed.
-use Rattle.std.specs.Prelude.{ℕ, ◌+◌, Bool, true, false, cond, not, ◌&&◌, List, [], ◌∷◌, ◌++◌, map, length, drop, slice_index}
-use Rattle.std.proofs.Math.Option.{Option, none, some}
+use Rattle.std.specs.Prelude.{ℕ, ◌+◌, Bool, true, false, cond, not, ◌&&◌, List, [], ◌∷◌, ◌++◌, map, length, drop, slice_index, Option, None, Some, is_some}
 use Rattle.isdb_tlv.specs.Guards.{◌<?◌, ◌≤?◌}
 use Rattle.std.specs.Prelude.{if◌then◌else◌}
 use Rattle.isdb_mmt.specs.Formats.Part.{part_of}
@@ -14,7 +13,6 @@ use Rattle.isdb_mmt.specs.declared.message.Division.TheVariants.{Undivided, Firs
 use Rattle.isdb_mmt.specs.declared.message.Fragment.{Fragment}
 use Rattle.isdb_mmt.specs.declared.message.Content.{Content}
 use Rattle.isdb_mmt.specs.declared.message.Content.TheVariants.{Malformed as bad_message, Nothing, Table as one_table_of, Tables}
-use Rattle.isdb_mmt.specs.Decoder.Maps.{is_some}
 use Rattle.isdb_mmt.specs.Decoder.Objects.{gap}
 
 -- the largest message
@@ -32,7 +30,7 @@ pub record Reassembly : Type 0 where
   pub partial : Option PartialMessage
 
 unfoldable pub idle : Reassembly
-idle = record { number = none; partial = none }
+idle = record { number = None; partial = None }
 
 abbrev pub short : MessagePacket → Bool
 short c = length c.payload <? 2
@@ -47,27 +45,27 @@ started c =
 -- what is joined before the fragment: a gap takes it away
 unfoldable pub part_before : Reassembly → MessagePacket → Option PartialMessage
 unfolding gap
-part_before l c = cond (gap l.number c.number) none l.partial
+part_before l c = cond (gap l.number c.number) None l.partial
 
 -- a message continued, where it fits
 unfoldable pub joined_on : Option PartialMessage → Bytes → Option PartialMessage
-joined_on none d = none
-joined_on (some j) d =
+joined_on None d = None
+joined_on (Some j) d =
     cond (length j.bytes + length d ≤? most_message)
-    (some (record { long = j.long; aggregated = j.aggregated; bytes = j.bytes ++ d })) none
+    (Some (record { long = j.long; aggregated = j.aggregated; bytes = j.bytes ++ d })) None
 
 unfoldable pub part_after : Division → Option PartialMessage → MessagePacket → Option PartialMessage
 unfolding joined_on
-part_after Undivided j c = none
-part_after First j c = some (started c)
+part_after Undivided j c = None
+part_after First j c = Some (started c)
 part_after middle_part j c = joined_on j (drop 2 c.payload)
-part_after last_part j c = none
+part_after last_part j c = None
 
 unfoldable pub whole_of : Division → Option PartialMessage → MessagePacket → Option PartialMessage
 unfolding joined_on
-whole_of Undivided j c = some (started c)
-whole_of First j c = none
-whole_of middle_part j c = none
+whole_of Undivided j c = Some (started c)
+whole_of First j c = None
+whole_of middle_part j c = None
 whole_of last_part j c = joined_on j (drop 2 c.payload)
 
 -- a payload below 2 bytes sets the number, and leaves the message, over a gap too
@@ -75,14 +73,14 @@ unfoldable pub reassembly_after : Reassembly → MessagePacket → Reassembly
 unfolding part_before part_after
 reassembly_after l c =
     record {
-      number = some c.number;
+      number = Some c.number;
       partial = cond (short c) l.partial (part_after (flags_of c).division (part_before l c) c);
     }
 
 -- the message that the packet makes whole
 unfoldable pub message_completed : Reassembly → MessagePacket → Option PartialMessage
 unfolding part_before whole_of
-message_completed l c = cond (short c) none (whole_of (flags_of c).division (part_before l c) c)
+message_completed l c = cond (short c) None (whole_of (flags_of c).division (part_before l c) c)
 
 -- a continuing fragment without a message, and one that makes it too long
 abbrev pub continues : Division → Bool
@@ -92,11 +90,11 @@ continues middle_part = true
 continues last_part = true
 
 unfoldable pub orphan : Reassembly → MessagePacket → Bool
-unfolding part_before is_some
+unfolding part_before
 orphan l c = not (short c) && (continues (flags_of c).division && not (is_some (part_before l c)))
 
 unfoldable pub oversize : Reassembly → MessagePacket → Bool
-unfolding part_before is_some joined_on
+unfolding part_before joined_on
 oversize l c =
     not (short c)
     && (continues (flags_of c).division
@@ -148,5 +146,5 @@ cut_of j =
     else tables_of j.bytes
 
 unfoldable pub cut_of_all : Option PartialMessage → TablesFound
-cut_of_all none = no_tables 0
-cut_of_all (some j) = cut_of j
+cut_of_all None = no_tables 0
+cut_of_all (Some j) = cut_of j

@@ -1,7 +1,8 @@
 -- Worked cases, proved as one table by computation: the lengths of descriptors, and feeds from their bytes through `classify` and
 -- `pushed`, with the readings that are easily got wrong. Those of messages and sections are in ControlCases.
-use Rattle.std.specs.Prelude.{ℕ, Bool, true, false, List, [], ◌∷◌, ◌++◌, map, replicate, refl}
-use Rattle.std.proofs.Math.Option.{Option, none, some}
+use Rattle.isdb_tlv.specs.declared.ip.IpError.{IpError}
+use Rattle.isdb_tlv.specs.declared.ip.Datagram.{Datagram}
+use Rattle.std.specs.Prelude.{ℕ, Bool, true, false, List, [], ◌∷◌, ◌++◌, map, replicate, refl, Err, None, Result, Some, Option}
 use Rattle.isdb_mmt.specs.Examples.Worked.{Case, ◌⇒◌, Holds}
 use Rattle.isdb_tlv.specs.Fields.{bytes_of}
 use Rattle.isdb_tlv.specs.Bytes.{be}
@@ -11,8 +12,6 @@ use Rattle.isdb_tlv.specs.Ip.{compressed_of}
 use Rattle.isdb_tlv.specs.Mmtp.{fec_type_of, payload_type_of, bits_of, entry, entries, extension_at, after_fixed, mmtp_of}
 use Rattle.isdb_tlv.specs.Si.{is_tlv_si, section_at, sections_from, sections_of}
 use Rattle.isdb_tlv.specs.declared.ip.IpError.TheVariants.{HeaderType}
-use Rattle.isdb_tlv.specs.declared.ip.IpResult.{IpResult}
-use Rattle.isdb_tlv.specs.declared.ip.IpResult.TheVariants.{Err}
 use Rattle.isdb_mmt.specs.declared.desc.Descriptor.{Descriptor}
 use Rattle.isdb_mmt.specs.declared.desc.Descriptor.TheVariants.{StreamIdentifier, Other}
 use Rattle.isdb_mmt.specs.Formats.Part.{part_at, part_of}
@@ -24,7 +23,7 @@ use Rattle.isdb_mmt.specs.Formats.Sdt.{sdt_body, sdt_of}
 use Rattle.isdb_mmt.specs.Formats.Mpt.{declared_length_of, mpt_assets, mpt_table, mpt_of}
 use Rattle.isdb_mmt.specs.Formats.Message.{division_of, pa_tables, section_table, content_of, table_at, tables_from}
 use Rattle.isdb_mmt.specs.Decoder.Packet.{Bytes, media_of, clear, readable, classify}
-use Rattle.isdb_mmt.specs.Decoder.Maps.{find, put, or_else, is_some}
+use Rattle.isdb_mmt.specs.Decoder.Maps.{find, put, or_else}
 use Rattle.isdb_mmt.specs.Decoder.Objects.{Asset, Rec, fresh, gap, lost_by, grown, continued, effect_of, after_unit, object_of, unit_effect, after_units, delivered_by, new_mpu, jumped, mpu_after, range_after, malformed_payload, after_headers, asset_after, tagged, passes, media_gives}
 use Rattle.isdb_mmt.specs.Decoder.Reassembly.{idle, part_before, joined_on, part_after, whole_of, reassembly_after, message_completed, orphan, oversize, tables_of, tables_of_all, messages_of, cut_of, cut_of_all}
 use Rattle.isdb_mmt.specs.Decoder.Kept.{body_read, section_of, other_version, keep_if, keep, keep_all_of, zeros, table_counted, section_increments, table_by_id, table_read, table_increments, mpt_after, mpt_after_all, stored, stored_all, counted_all}
@@ -32,10 +31,7 @@ use Rattle.isdb_mmt.specs.Decoder.GivenTables.{tables_given}
 use Rattle.isdb_mmt.specs.Decoder.Model.{State, Control, opened, idle_control, asset_of, control_of, packet_counted, message_counted, reassembly_counted, time_after, pushed, gives}
 use Rattle.isdb_mmt.specs.Books.Book.{book, nothing, entered_all, entered, reception_log, log_entries, units_received, follower, drop_counted, in_order_of, missing, continued_by, delivered_of}
 use Rattle.isdb_mmt.specs.Decoder.Needs.{Needs, needs, units_need, reassembly_needs, table_area_of, tables_need}
-use Rattle.isdb_mmt.specs.declared.maybe.MaybeU32.TheVariants.{None as no_u32}
 use Rattle.isdb_mmt.specs.declared.mpu.MfuHeader.{MfuHeader}
-use Rattle.isdb_mmt.specs.declared.mpu.MaybeMfu.{MaybeMfu}
-use Rattle.isdb_mmt.specs.declared.mpu.MaybeMfu.TheVariants.{None as no_mfu, Some as some_mfu}
 use Rattle.isdb_mmt.specs.Books.Demand.{Feed, packets_of, push_all, give_all, held_bytes}
 use Rattle.isdb_mmt.specs.Pushes.Leaves.{joined_in as joining_in}
 
@@ -90,7 +86,7 @@ pub data Told : Type 0 where
   width : ℕ → Told
   decoded : List Descriptor → Told
   bodies : List Bytes → Told
-  ip : IpResult → Told
+  ip : Result Datagram IpError → Told
   leaves : Left → Told
   books : List Bytes → ℕ → Option Bytes → Told
   given : List Bytes → Told
@@ -110,7 +106,7 @@ joined_in s c =
     joined s.counters.orphan_fragments s.counters.message_malformed c.reassembly.number (joining_in c.reassembly.partial) c.mpt
 
 unfoldable pub told : Ask → Told
-unfolding bytes_of be feed feed_byte crc_of packet_type compressed_of fec_type_of payload_type_of bits_of entry entries extension_at after_fixed mmtp_of is_tlv_si section_at sections_from sections_of length_width_of step_at split_from split_of stream_identifier descriptor_of descriptors_of fragment_type_of indicator payload_header unit_in unit_at unit_step units_from units_of follows lost_from long_section_of entry_at entries_from entries_told nit_body nit_of sdt_body sdt_of declared_length_of mpt_assets mpt_table mpt_of division_of pa_tables section_table content_of table_at tables_from media_of classify find put or_else is_some fresh gap lost_by grown continued effect_of after_unit object_of unit_effect after_units delivered_by clear readable new_mpu jumped mpu_after range_after malformed_payload after_headers asset_after tagged passes media_gives idle part_before joined_on part_after whole_of reassembly_after message_completed orphan oversize tables_of tables_of_all messages_of cut_of cut_of_all body_read section_of other_version keep_if keep keep_all_of zeros table_counted section_increments table_by_id table_read table_increments mpt_after mpt_after_all stored stored_all counted_all opened idle_control asset_of control_of packet_counted message_counted reassembly_counted tables_given time_after pushed gives book nothing entered_all entered reception_log log_entries units_received follower drop_counted in_order_of missing continued_by delivered_of needs units_need reassembly_needs table_area_of tables_need push_all give_all held_bytes
+unfolding bytes_of be feed feed_byte crc_of packet_type compressed_of fec_type_of payload_type_of bits_of entry entries extension_at after_fixed mmtp_of is_tlv_si section_at sections_from sections_of length_width_of step_at split_from split_of stream_identifier descriptor_of descriptors_of fragment_type_of indicator payload_header unit_in unit_at unit_step units_from units_of follows lost_from long_section_of entry_at entries_from entries_told nit_body nit_of sdt_body sdt_of declared_length_of mpt_assets mpt_table mpt_of division_of pa_tables section_table content_of table_at tables_from media_of classify find put or_else fresh gap lost_by grown continued effect_of after_unit object_of unit_effect after_units delivered_by clear readable new_mpu jumped mpu_after range_after malformed_payload after_headers asset_after tagged passes media_gives idle part_before joined_on part_after whole_of reassembly_after message_completed orphan oversize tables_of tables_of_all messages_of cut_of cut_of_all body_read section_of other_version keep_if keep keep_all_of zeros table_counted section_increments table_by_id table_read table_increments mpt_after mpt_after_all stored stored_all counted_all opened idle_control asset_of control_of packet_counted message_counted reassembly_counted tables_given time_after pushed gives book nothing entered_all entered reception_log log_entries units_received follower drop_counted in_order_of missing continued_by delivered_of needs units_need reassembly_needs table_area_of tables_need push_all give_all held_bytes
 told (width_of t) = width (length_width_of t)
 told (decoded_of s) = decoded (descriptors_of s)
 told (bodies_of s) = bodies (map (λ r. part_of s r.body) (split_of s).found)
@@ -193,9 +189,9 @@ header =
     }
 
 -- a record of the id, MPU 7, with or without an MFU header
-abbrev pub record_of : Bool → MaybeMfu → Bytes → Rec
+abbrev pub record_of : Bool → Option MfuHeader → Bytes → Rec
 record_of hidden h d =
-    record { id = id; scrambled = hidden; mfu = record { mpu = 7; rap = false; mfu = h; item_id = no_u32; bytes = d } }
+    record { id = id; scrambled = hidden; mfu = record { mpu = 7; rap = false; mfu = h; item_id = None; bytes = d } }
 
 -- nothing scrambled, one MPU: packets, lost, malformed, objects, dropped, held
 abbrev pub clearly : ℕ → ℕ → ℕ → List Bytes → ℕ → Option Bytes → Told
@@ -225,32 +221,32 @@ cases =
     ∷ (read_as (0x00 ∷ 0x10 ∷ 0x62 ∷ []) ⇒ ip (Err (HeaderType 0x62)))
     ∷ (ip_errors_of ((0x03, 0x00 ∷ 0x10 ∷ 0x62 ∷ []) ∷ []) ⇒ errors 1)
     -- a head at the last number, its last at 0: delivered, and nothing lost
-    ∷ (left (head_of 4294967295 ab ∷ last_of 0 cd ∷ []) ⇒ clearly 2 0 0 ((ab ++ cd) ∷ []) 0 none)
-    ∷ (booked (head_of 4294967295 ab ∷ last_of 0 cd ∷ []) ⇒ books ((ab ++ cd) ∷ []) 0 none)
+    ∷ (left (head_of 4294967295 ab ∷ last_of 0 cd ∷ []) ⇒ clearly 2 0 0 ((ab ++ cd) ∷ []) 0 None)
+    ∷ (booked (head_of 4294967295 ab ∷ last_of 0 cd ∷ []) ⇒ books ((ab ++ cd) ∷ []) 0 None)
     -- two packets lost; a repeated number is a gap, and what is held is dropped
-    ∷ (left (head_of 5 ab ∷ last_of 8 cd ∷ []) ⇒ clearly 2 2 0 [] 1 none)
-    ∷ (left (head_of 5 ab ∷ last_of 5 cd ∷ []) ⇒ clearly 2 1048576 0 [] 1 none)
-    ∷ (booked (head_of 5 ab ∷ last_of 5 cd ∷ []) ⇒ books [] 1 none)
+    ∷ (left (head_of 5 ab ∷ last_of 8 cd ∷ []) ⇒ clearly 2 2 0 [] 1 None)
+    ∷ (left (head_of 5 ab ∷ last_of 5 cd ∷ []) ⇒ clearly 2 1048576 0 [] 1 None)
+    ∷ (booked (head_of 5 ab ∷ last_of 5 cd ∷ []) ⇒ books [] 1 None)
     -- a whole unit, a head, and a last behind a gap
-    ∷ (left (complete_of 5 ab ∷ head_of 6 ab ∷ last_of 8 ab ∷ []) ⇒ clearly 3 1 0 (ab ∷ []) 1 none)
+    ∷ (left (complete_of 5 ab ∷ head_of 6 ab ∷ last_of 8 ab ∷ []) ⇒ clearly 3 1 0 (ab ∷ []) 1 None)
     -- the header stands outside the declared length: the MPU is counted, then the payload is malformed; of metadata it is not
-    ∷ (left (mmtp 0x00 5 (payload 0 0x20 []) ∷ []) ⇒ clearly 1 0 1 [] 0 none)
-    ∷ (left (mmtp 0x00 5 (payload 0 0x00 []) ∷ []) ⇒ clearly 1 0 0 [] 0 none)
+    ∷ (left (mmtp 0x00 5 (payload 0 0x20 []) ∷ []) ⇒ clearly 1 0 1 [] 0 None)
+    ∷ (left (mmtp 0x00 5 (payload 0 0x00 []) ∷ []) ⇒ clearly 1 0 0 [] 0 None)
     -- a timed unit of 13 bytes, and of 14
-    ∷ (left (mmtp 0x00 5 (payload 19 0x28 (replicate 13 0x00)) ∷ []) ⇒ clearly 1 0 1 [] 0 none)
-    ∷ (left (mmtp 0x00 5 (payload 20 0x28 (replicate 14 0x00)) ∷ []) ⇒ clearly 1 0 0 ([] ∷ []) 0 none)
+    ∷ (left (mmtp 0x00 5 (payload 19 0x28 (replicate 13 0x00)) ∷ []) ⇒ clearly 1 0 1 [] 0 None)
+    ∷ (left (mmtp 0x00 5 (payload 20 0x28 (replicate 14 0x00)) ∷ []) ⇒ clearly 1 0 0 ([] ∷ []) 0 None)
     -- an unreadable payload passes, and what is held stays
-    ∷ (left (head_of 5 ab ∷ unreadable 6 ∷ last_of 7 cd ∷ []) ⇒ clearly 3 0 1 ((ab ++ cd) ∷ []) 0 none)
-    ∷ (booked (head_of 5 ab ∷ unreadable 6 ∷ []) ⇒ books [] 0 (some ab))
+    ∷ (left (head_of 5 ab ∷ unreadable 6 ∷ last_of 7 cd ∷ []) ⇒ clearly 3 0 1 ((ab ++ cd) ∷ []) 0 None)
+    ∷ (booked (head_of 5 ab ∷ unreadable 6 ∷ []) ⇒ books [] 0 (Some ab))
     -- a scrambled payload is passed on from byte 8 to its end, beyond the six bytes that it declares
     ∷ (passed (scrambled_of 5 (payload 6 0x28 ab) ∷ []) ⇒ given (ab ∷ []))
     -- a scrambled unit that could be read: counted, and handed out only as it is, where the session is set so
-    ∷ (left (scrambled_unit ∷ []) ⇒ leaves (record { packets = 1; lost = 0; scrambled = 1; mpus = 1; malformed = 0; objects = []; dropped = 0; held = none }))
+    ∷ (left (scrambled_unit ∷ []) ⇒ leaves (record { packets = 1; lost = 0; scrambled = 1; mpus = 1; malformed = 0; objects = []; dropped = 0; held = None }))
     ∷ (handed false (scrambled_unit ∷ []) ⇒ records [])
-    ∷ (handed true (scrambled_unit ∷ []) ⇒ records (record_of true no_mfu (replicate 14 0x00 ++ ab) ∷ []))
+    ∷ (handed true (scrambled_unit ∷ []) ⇒ records (record_of true None (replicate 14 0x00 ++ ab) ∷ []))
     -- the five fields of an MFU's header; the MPU's number
-    ∷ (handed false (mmtp 0x00 5 (payload 22 0x28 (one_to14 ++ ab)) ∷ []) ⇒ records (record_of false (some_mfu header) ab ∷ []))
-    ∷ (mpu_of (complete_of 5 ab ∷ []) ⇒ mpu (some 7) (some (7, 7)))
+    ∷ (handed false (mmtp 0x00 5 (payload 22 0x28 (one_to14 ++ ab)) ∷ []) ⇒ records (record_of false (Some header) ab ∷ []))
+    ∷ (mpu_of (complete_of 5 ab ∷ []) ⇒ mpu (Some 7) (Some (7, 7)))
     -- a last needs room for what it joins; a whole unit for nothing but its record
     ∷ (needed (head_of 5 ab ∷ []) (last_of 6 cd) ⇒ asks (media_needs 0 4 1 4))
     ∷ (needed [] (complete_of 5 ab) ⇒ asks (media_needs 1 0 1 2))

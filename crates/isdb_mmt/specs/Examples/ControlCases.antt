@@ -1,6 +1,5 @@
 -- Worked cases of messages and sections, as one table: feeds from their bytes, what is joined and kept of them, and what they need.
-use Rattle.std.specs.Prelude.{ℕ, ◌+◌, List, [], ◌∷◌, ◌++◌, take, drop, replicate, refl}
-use Rattle.std.proofs.Math.Option.{none, some}
+use Rattle.std.specs.Prelude.{ℕ, ◌+◌, List, [], ◌∷◌, ◌++◌, take, drop, replicate, refl, None, Some}
 use Rattle.isdb_mmt.specs.Examples.Worked.{Case, ◌⇒◌, Holds}
 use Rattle.isdb_mmt.specs.Decoder.Packet.{Bytes}
 use Rattle.isdb_mmt.specs.Decoder.Needs.{Needs}
@@ -85,10 +84,10 @@ cases =
     ∷ (kept_of ((0xFE, nit1 ++ nit_next) ∷ []) ⇒ kept (nit1 ∷ nit_next ∷ []))
     ∷ (kept_of (fragment 0x00 (table_message 14 sdt) ∷ []) ⇒ kept (sdt ∷ []))
     -- a payload below two bytes sets the number and leaves the message, over a gap too
-    ∷ (joined_of (first_part 1 (take 6 mpt_message) ∷ control 9 (0x00 ∷ []) ∷ []) ⇒ joined 0 1 (some 9) (some (take 6 mpt_message)) none)
-    ∷ (joined_of (first_part 1 (take 6 mpt_message) ∷ control 9 (0x00 ∷ []) ∷ last_part 10 (drop 6 mpt_message) ∷ []) ⇒ joined 0 1 (some 10) none (some mpt))
+    ∷ (joined_of (first_part 1 (take 6 mpt_message) ∷ control 9 (0x00 ∷ []) ∷ []) ⇒ joined 0 1 (Some 9) (Some (take 6 mpt_message)) None)
+    ∷ (joined_of (first_part 1 (take 6 mpt_message) ∷ control 9 (0x00 ∷ []) ∷ last_part 10 (drop 6 mpt_message) ∷ []) ⇒ joined 0 1 (Some 10) None (Some mpt))
     -- a last behind a gap is an orphan
-    ∷ (joined_of (first_part 1 (take 6 mpt_message) ∷ last_part 3 (drop 6 mpt_message) ∷ []) ⇒ joined 1 0 (some 3) none none)
+    ∷ (joined_of (first_part 1 (take 6 mpt_message) ∷ last_part 3 (drop 6 mpt_message) ∷ []) ⇒ joined 1 0 (Some 3) None None)
     -- an undivided message needs no room to be joined in, a first fragment its own length; an MPT its declared length
     ∷ (needed [] (fragment 0x00 empty_pa) ⇒ asks (message_needs 1 0 0))
     ∷ (needed [] (fragment 0x40 empty_pa) ⇒ asks (message_needs 1 7 0))

@@ -1,6 +1,6 @@
 -- Worked cases of a push over the session's bytes, as one table: the rows of records, the question that a packet fails, and the
 -- bytes that an accepted one leaves at their places.
-use Rattle.std.specs.Prelude.{ℕ, ◌+◌, ◌*◌, true, false, List, [], ◌∷◌, ◌++◌, length, take, replicate, slice_index, refl}
+use Rattle.std.specs.Prelude.{ℕ, ◌+◌, ◌*◌, true, false, List, [], ◌∷◌, ◌++◌, length, take, replicate, slice_index, refl, None, Some}
 use Rattle.isdb_mmt.specs.Examples.Worked.{Case, ◌⇒◌, Holds}
 use Rattle.isdb_tlv.specs.Ip.{ipv4_of}
 use Rattle.isdb_mmt.specs.Formats.Plt.{package_at_of, delivery_size, delivery_at_of, deliveries_whole, plt_deliveries, plt_table, plt_of}
@@ -28,8 +28,6 @@ use Rattle.isdb_tlv.specs.Cut.{cut_at, recording_from, recording_of}
 use Rattle.isdb_mmt.specs.Pushes.Records.{rows_from, data_from, read_row, read_rows}
 use Rattle.isdb_mmt.specs.Examples.Cases.{told as told_of_feeds, compressed, mmtp, payload, complete_of, head_of, last_of, ab, cd, one_to14, header}
 use Rattle.isdb_mmt.specs.Examples.ControlCases.{fragment, first_part, nit1, nit_next, empty_pa, mpt, table_message, mpt_message}
-use Rattle.isdb_mmt.specs.declared.maybe.MaybeU32.TheVariants.{None as no_u32, Some as some_u32}
-use Rattle.isdb_mmt.specs.declared.mpu.MaybeMfu.TheVariants.{None as no_mfu, Some as some_mfu}
 use Rattle.isdb_mmt.specs.declared.decoder.limits.Limits.{Limits}
 
 -- one place of each sort, with areas of 2, 8 and 16 bytes, for so many packets
@@ -157,7 +155,7 @@ full =
     record {
       id = 0xF100;
       scrambled = true;
-      mfu = record { mpu = 7; rap = true; mfu = some_mfu header; item_id = some_u32 0x11121314; bytes = ab };
+      mfu = record { mpu = 7; rap = true; mfu = Some header; item_id = Some 0x11121314; bytes = ab };
     }
 
 abbrev pub bare : Rec
@@ -165,7 +163,7 @@ bare =
     record {
       id = 0xF101;
       scrambled = false;
-      mfu = record { mpu = 8; rap = false; mfu = no_mfu; item_id = no_u32; bytes = 0xCC ∷ 0xDD ∷ 0xEE ∷ [] };
+      mfu = record { mpu = 8; rap = false; mfu = None; item_id = None; bytes = 0xCC ∷ 0xDD ∷ 0xEE ∷ [] };
     }
 
 -- a number of four bytes, and of eight, below 256

@@ -1,6 +1,12 @@
 -- Worked cases of readings, as one table: what each answers of a session after some packets, of lent bytes that hold no session, and
 -- of a session whose kept bytes were overwritten.
-use Rattle.std.specs.Prelude.{ℕ, false, List, [], ◌∷◌, ◌++◌, replicate, refl}
+use Rattle.std.specs.Prelude.{ℕ, false, List, [], ◌∷◌, ◌++◌, replicate, refl, Option, Some, None, Result, Ok}
+use Rattle.isdb_mmt.specs.declared.decoder.refusal.Refusal.{Refusal}
+use Rattle.isdb_mmt.specs.declared.decoder.readings.MediaState.{MediaState}
+use Rattle.isdb_mmt.specs.declared.decoder.readings.Held.{Held}
+use Rattle.isdb_mmt.specs.declared.decoder.readings.Held.TheVariants.{NoId, NoObject, Object}
+use Rattle.isdb_mmt.specs.declared.decoder.readings.ControlState.{ControlState}
+use Rattle.isdb_mmt.specs.declared.decoder.readings.CarriedAsset.{CarriedAsset}
 use Rattle.isdb_mmt.specs.Examples.Worked.{Case, ◌⇒◌, Holds}
 use Rattle.isdb_mmt.specs.Decoder.Packet.{Bytes}
 use Rattle.isdb_mmt.specs.Formats.Part.{part_at}
@@ -16,29 +22,9 @@ use Rattle.isdb_mmt.specs.Theorems.Calls.{Reading, counters, time, count, next_m
 use Rattle.isdb_mmt.specs.Examples.Cases.{complete_of, head_of, compressed, payload, ab}
 use Rattle.isdb_mmt.specs.Examples.ControlCases.{fragment, first_part, nit1, nit_next, mpt, table_message}
 use Rattle.isdb_mmt.specs.Examples.PushCases.{input, only, ntp, plt as plt_bytes, tot as tot_bytes, told as told_of_pushes}
-use Rattle.isdb_mmt.specs.declared.maybe.MaybeU16.TheVariants.{Some as some_u16}
-use Rattle.isdb_mmt.specs.declared.maybe.MaybeU32.TheVariants.{None as no_u32, Some as some_u32}
-use Rattle.isdb_mmt.specs.declared.mpu.MaybeMfu.TheVariants.{Some as some_mfu}
 use Rattle.isdb_mmt.specs.declared.decoder.limits.Limits.{Limits}
 use Rattle.isdb_mmt.specs.declared.decoder.counts.AssetStats.{AssetStats}
 use Rattle.isdb_mmt.specs.declared.decoder.counts.Counters.{Counters}
-use Rattle.isdb_mmt.specs.declared.decoder.readings.CountersReading.{CountersReading}
-use Rattle.isdb_mmt.specs.declared.decoder.readings.CountersReading.TheVariants.{Counters as the_counters}
-use Rattle.isdb_mmt.specs.declared.decoder.readings.CountReading.{CountReading}
-use Rattle.isdb_mmt.specs.declared.decoder.readings.CountReading.TheVariants.{Count}
-use Rattle.isdb_mmt.specs.declared.decoder.readings.TimeReading.{TimeReading}
-use Rattle.isdb_mmt.specs.declared.decoder.readings.TimeReading.TheVariants.{Nothing as no_time, Timestamp}
-use Rattle.isdb_mmt.specs.declared.decoder.readings.NameReading.{NameReading}
-use Rattle.isdb_mmt.specs.declared.decoder.readings.NameReading.TheVariants.{Nothing as no_name_of, Name}
-use Rattle.isdb_mmt.specs.declared.decoder.readings.MaybeRange.TheVariants.{Some as some_range}
-use Rattle.isdb_mmt.specs.declared.decoder.readings.MediaReading.{MediaReading}
-use Rattle.isdb_mmt.specs.declared.decoder.readings.MediaReading.TheVariants.{Nothing as no_media, Media as the_media}
-use Rattle.isdb_mmt.specs.declared.decoder.readings.HeldReading.{HeldReading}
-use Rattle.isdb_mmt.specs.declared.decoder.readings.HeldReading.TheVariants.{NoId, Nothing as no_object, Object as the_object}
-use Rattle.isdb_mmt.specs.declared.decoder.readings.ControlReading.{ControlReading}
-use Rattle.isdb_mmt.specs.declared.decoder.readings.ControlReading.TheVariants.{Nothing as no_control, Control as the_control}
-use Rattle.isdb_mmt.specs.declared.decoder.readings.AssetReading.{AssetReading}
-use Rattle.isdb_mmt.specs.declared.decoder.readings.AssetReading.TheVariants.{Nothing as no_asset, Asset as the_asset}
 
 -- two places of each sort, with areas of 2, 8 and 32 bytes
 abbrev pub two : Limits
@@ -87,15 +73,15 @@ pub data Ask : Type 0 where
 
 pub data Told : Type 0 where
   number : ℕ → Told
-  feed : CountersReading → Told
-  timed : TimeReading → Told
-  counted : CountReading → Told
-  name : NameReading → Told
-  media : MediaReading → Told
-  object : HeldReading → Told
-  control : ControlReading → Told
+  feed : Result Counters Refusal → Told
+  timed : Result (Option ℕ) Refusal → Told
+  counted : Result ℕ Refusal → Told
+  name : Result (Option ℕ) Refusal → Told
+  media : Result (Option MediaState) Refusal → Told
+  object : Result Held Refusal → Told
+  control : Result (Option ControlState) Refusal → Told
   table : TableTold → Told
-  asset : AssetReading → Told
+  asset : Result (Option CarriedAsset) Refusal → Told
 
 unfoldable pub told : Ask → Told
 unfolding told_of_pushes sized location_of asset_fields asset_at_of service_id_of parses_as media_found control_found section_found counters_read time_read count_read least_from ascending_from next_media_read next_control_read next_key_read media_read held_read control_read section_read mpt_read plt_read tot_read first_carried asset_among asset_read reading_number
@@ -169,18 +155,18 @@ only_counted packets tables =
 abbrev cases : List (Case Ask Told)
 cases =
     -- nothing yet
-    (counters_in (after []) ⇒ feed (the_counters (only_counted 0 0)))
-    ∷ (time_in (after []) ⇒ timed no_time)
-    ∷ (count_in (after []) 0x21 ⇒ counted (Count 0))
-    ∷ (media_from (after []) 0 ⇒ name no_name_of)
-    ∷ (media_in (after []) 0xF100 ⇒ media no_media)
-    ∷ (held_in (after []) 0xF100 ⇒ object NoId)
-    ∷ (control_in (after []) 0x8001 ⇒ control no_control)
+    (counters_in (after []) ⇒ feed (Ok (only_counted 0 0)))
+    ∷ (time_in (after []) ⇒ timed (Ok None))
+    ∷ (count_in (after []) 0x21 ⇒ counted (Ok 0))
+    ∷ (media_from (after []) 0 ⇒ name (Ok None))
+    ∷ (media_in (after []) 0xF100 ⇒ media (Ok None))
+    ∷ (held_in (after []) 0xF100 ⇒ object (Ok NoId))
+    ∷ (control_in (after []) 0x8001 ⇒ control (Ok None))
     ∷ (section_in (after []) 0x40000400 ⇒ table nothing)
     ∷ (mpt_in (after []) 0x8001 ⇒ table nothing)
     ∷ (plt_in (after []) ⇒ table nothing)
     ∷ (tot_in (after []) ⇒ table nothing)
-    ∷ (asset_in (after []) 0xF100 ⇒ asset no_asset)
+    ∷ (asset_in (after []) 0xF100 ⇒ asset (Ok None))
     -- no session: 5
     ∷ (number_of blank counters ⇒ number 5)
     ∷ (number_of blank time ⇒ number 5)
@@ -197,36 +183,36 @@ cases =
     ∷ (number_of blank (asset_of 0) ⇒ number 5)
     ∷ (number_of (after []) counters ⇒ number 0)
     -- counted
-    ∷ (counters_in nits ⇒ feed (the_counters (only_counted 2 2)))
-    ∷ (time_in (after (ntp ∷ [])) ⇒ timed (Timestamp 0x0102030405060708))
-    ∷ (count_in (after (fragment 0x00 (table_message 1 (0x21 ∷ [])) ∷ [])) 0x21 ⇒ counted (Count 1))
+    ∷ (counters_in nits ⇒ feed (Ok (only_counted 2 2)))
+    ∷ (time_in (after (ntp ∷ [])) ⇒ timed (Ok (Some 0x0102030405060708)))
+    ∷ (count_in (after (fragment 0x00 (table_message 1 (0x21 ∷ [])) ∷ [])) 0x21 ⇒ counted (Ok 1))
     -- ids in ascending order, whichever came first
-    ∷ (media_from units 0 ⇒ name (Name 0xF100))
-    ∷ (media_from units 0xF100 ⇒ name (Name 0xF100))
-    ∷ (media_from units 0xF101 ⇒ name (Name 0xF101))
-    ∷ (media_from units 0xF102 ⇒ name no_name_of)
-    ∷ (media_in units 0xF100 ⇒ media (the_media (record { stats = one_unit_of; sequence = some_u32 5; mpu_range = some_range (record { first = 7; last = 7 }); held = some_u32 2 })))
-    ∷ (media_in units 0xF102 ⇒ media no_media)
+    ∷ (media_from units 0 ⇒ name (Ok (Some 0xF100)))
+    ∷ (media_from units 0xF100 ⇒ name (Ok (Some 0xF100)))
+    ∷ (media_from units 0xF101 ⇒ name (Ok (Some 0xF101)))
+    ∷ (media_from units 0xF102 ⇒ name (Ok None))
+    ∷ (media_in units 0xF100 ⇒ media (Ok (Some (record { stats = one_unit_of; sequence = Some 5; mpu_range = Some (record { first = 7; last = 7 }); held = Some 2 }))))
+    ∷ (media_in units 0xF102 ⇒ media (Ok None))
     -- the held object of F100h lies in the second area
     ∷ (held_in units 0xF100
-    ⇒ object (the_object (record {
+    ⇒ object (Ok (Object (record {
       mpu_sequence_number = 7;
       rap = false;
-      mfu = some_mfu (record { movie_fragment_sequence_number = 0; sample_number = 0; offset = 0; priority = 0; dependency_counter = 0 });
-      item_id = no_u32;
+      mfu = Some (record { movie_fragment_sequence_number = 0; sample_number = 0; offset = 0; priority = 0; dependency_counter = 0 });
+      item_id = None;
       bytes = part_at 2 2;
-    })))
-    ∷ (held_in (leaves_all (opened_session two blank) (input 36 2 (complete_of 5 ab) ∷ [])) 0xF100 ⇒ object no_object)
+    }))))
+    ∷ (held_in (leaves_all (opened_session two blank) (input 36 2 (complete_of 5 ab) ∷ [])) 0xF100 ⇒ object (Ok NoObject))
     -- a control id whose message is being joined, and one whose message is whole
-    ∷ (control_in (after (first_part 5 ab ∷ [])) 0x8001 ⇒ control (the_control (record { sequence = some_u32 5; joined = some_u32 2 })))
-    ∷ (control_in mpts 0x8000 ⇒ control (the_control (record { sequence = some_u32 5; joined = no_u32 })))
-    ∷ (control_from mpts 0 ⇒ name (Name 0x8000))
-    ∷ (control_from mpts 0x8001 ⇒ name (Name 0x8001))
+    ∷ (control_in (after (first_part 5 ab ∷ [])) 0x8001 ⇒ control (Ok (Some (record { sequence = Some 5; joined = Some 2 }))))
+    ∷ (control_in mpts 0x8000 ⇒ control (Ok (Some (record { sequence = Some 5; joined = None }))))
+    ∷ (control_from mpts 0 ⇒ name (Ok (Some 0x8000)))
+    ∷ (control_from mpts 0x8001 ⇒ name (Ok (Some 0x8001)))
     -- keys within a sort, here a table id
-    ∷ (key_from nits 0x40000000 0x40FFFFFF ⇒ name (Name 0x40000400))
-    ∷ (key_from nits 0x40000401 0x40FFFFFF ⇒ name (Name 0x40000401))
-    ∷ (key_from nits 0x40000402 0x40FFFFFF ⇒ name no_name_of)
-    ∷ (key_from nits 0x41000000 0x41FFFFFF ⇒ name no_name_of)
+    ∷ (key_from nits 0x40000000 0x40FFFFFF ⇒ name (Ok (Some 0x40000400)))
+    ∷ (key_from nits 0x40000401 0x40FFFFFF ⇒ name (Ok (Some 0x40000401)))
+    ∷ (key_from nits 0x40000402 0x40FFFFFF ⇒ name (Ok None))
+    ∷ (key_from nits 0x41000000 0x41FFFFFF ⇒ name (Ok None))
     -- kept sections, and one whose bytes were overwritten: 5, of it alone
     ∷ (section_in nits 0x40000400 ⇒ table (these nit1))
     ∷ (section_in nits 0x40000401 ⇒ table (these nit_next))
@@ -243,10 +229,10 @@ cases =
     ∷ (mpt_in mpts 0x8001 ⇒ table (these asset_mpt))
     ∷ (mpt_in (damaged mpts) 0x8001 ⇒ table (refused 5))
     ∷ (asset_in mpts 0xF100
-    ⇒ asset (the_asset (record {
+    ⇒ asset (Ok (Some (record {
       control_id = 0x8001;
       mpt = part_at 64 29;
-      service_id = some_u16 0x0065;
+      service_id = Some 0x0065;
       asset =
           record {
             identifier_type = 0;
@@ -258,8 +244,8 @@ cases =
             locations_start = 24;
             descriptors = part_at 29 0;
           };
-    })))
-    ∷ (asset_in mpts 0xF101 ⇒ asset no_asset)
+    }))))
+    ∷ (asset_in mpts 0xF101 ⇒ asset (Ok None))
     ∷ (number_of (damaged mpts) (asset_of 0xF100) ⇒ number 5)
     ∷ []
 

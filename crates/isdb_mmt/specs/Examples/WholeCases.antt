@@ -1,10 +1,8 @@
 -- Worked cases of whole values, by computation: an MPT with one asset, one location and three descriptors, and an SDT with one
 -- service. Every byte that they hold is in the value.
-use Rattle.std.specs.Prelude.{◌≡◌, ℕ, true, false, List, [], ◌∷◌, ◌++◌, refl}
-use Rattle.std.proofs.Math.Option.{some}
+use Rattle.std.specs.Prelude.{◌≡◌, ℕ, true, false, List, [], ◌∷◌, ◌++◌, refl, None, Some}
 use Rattle.isdb_tlv.specs.Bytes.{be}
 use Rattle.isdb_tlv.specs.Crc.{feed, feed_byte, crc_of}
-use Rattle.isdb_mmt.specs.Decoder.Maps.{is_some}
 use Rattle.isdb_mmt.specs.Formats.Part.{part_at}
 use Rattle.isdb_mmt.specs.WholeValues.Steps.{to_end}
 use Rattle.isdb_mmt.specs.Formats.Location.{sized, url_of, location_of}
@@ -16,8 +14,6 @@ use Rattle.isdb_mmt.specs.Formats.Sdt.{sdt_body, sdt_of, service_step}
 use Rattle.isdb_mmt.specs.WholeValues.WholeDescriptors.{access_control as control, mpu_timestamp, extended_timestamp as extended, service_names}
 use Rattle.isdb_mmt.specs.WholeValues.Whole.{mpt_value}
 use Rattle.isdb_mmt.specs.WholeValues.WholeSections.{sdt_value}
-use Rattle.isdb_mmt.specs.declared.maybe.MaybeU16.TheVariants.{None as no_u16, Some as some_u16}
-use Rattle.isdb_mmt.specs.declared.maybe.MaybeU32.TheVariants.{Some as some_u32}
 use Rattle.isdb_mmt.specs.declared.location.Location.TheVariants.{SameFlow, Url}
 
 -- access control: CA system 5, packet id F100h in the same flow
@@ -48,7 +44,7 @@ abbrev mpt_bytes : List ℕ
 mpt_bytes =
     (0x20 ∷ 0x01 ∷ 0x00 ∷ 0x46 ∷ 0xFC ∷ 0x02 ∷ 0x00 ∷ 0x65 ∷ 0x00 ∷ 0x00 ∷ 0x01 ∷ asset_bytes) ++ (0xFF ∷ [])
 
-pub mpt_whole : mpt_value mpt_bytes ≡ some (record {
+pub mpt_whole : mpt_value mpt_bytes ≡ Some (record {
   mpt = record {
     table_id = 0x20;
     version = 1;
@@ -75,7 +71,7 @@ pub mpt_whole : mpt_value mpt_bytes ≡ some (record {
     locations = record { location = Url (part_at 2 2); url = 0x61 ∷ 0x62 ∷ [] } ∷ [];
     descriptors = record {
       found =
-          record { tag = 0x8004; body = access_body; value = control 5 (some (record { location = SameFlow 0xF100; url = [] })) }
+          record { tag = 0x8004; body = access_body; value = control 5 (Some (record { location = SameFlow 0xF100; url = [] })) }
           ∷ record {
             tag = 0x0001;
             body = time_body;
@@ -85,13 +81,13 @@ pub mpt_whole : mpt_value mpt_bytes ≡ some (record {
             tag = 0x8026;
             body = extended_body;
             value = extended (record {
-              timescale = some_u32 1000;
-              default_pts_offset = no_u16;
+              timescale = Some 1000;
+              default_pts_offset = None;
               mpus = record {
                 sequence_number = 7;
                 leap_indicator = 0;
                 decoding_time_offset = 10;
-                access_units = record { dts_pts_offset = 20; pts_offset = some_u16 30 } ∷ [];
+                access_units = record { dts_pts_offset = 20; pts_offset = Some 30 } ∷ [];
               } ∷ [];
             });
           }
@@ -100,7 +96,7 @@ pub mpt_whole : mpt_value mpt_bytes ≡ some (record {
     };
   } ∷ [];
 })
-unfolding mpt_of declared_length_of mpt_table mpt_assets asset_at_of asset_fields location_of sized url_of to_end step_at length_width_of split_of split_from descriptor_of access_control timestamp_at extended_timestamp extended_of mpus_whole mpus_from mpu_at unit_step be is_some
+unfolding mpt_of declared_length_of mpt_table mpt_assets asset_at_of asset_fields location_of sized url_of to_end step_at length_width_of split_of split_from descriptor_of access_control timestamp_at extended_timestamp extended_of mpus_whole mpus_from mpu_at unit_step be
 mpt_whole = refl
 
 -- service 101 with its names: provider 61h 62h, service 63h 64h
@@ -112,7 +108,7 @@ sdt_bytes =
     (0x9F ∷ 0xB0 ∷ 0x1B ∷ 0x00 ∷ 0x04 ∷ 0xC3 ∷ 0x00 ∷ 0x00 ∷ 0x00 ∷ 0x04 ∷ 0xFF ∷ 0x00 ∷ 0x65 ∷ 0xE3 ∷ 0x00 ∷ 0x0A ∷ 0x80 ∷ 0x19 ∷ 0x07 ∷ name_body)
     ++ (0xE3 ∷ 0xE1 ∷ 0x01 ∷ 0x1E ∷ [])
 
-pub sdt_whole : sdt_value sdt_bytes ≡ some (record {
+pub sdt_whole : sdt_value sdt_bytes ≡ Some (record {
   header = record {
     table_id = 0x9F;
     extension = 4;

@@ -1,21 +1,17 @@
 -- AMT: ARIB STD-B60, Table 5-2.
-use Rattle.std.specs.Prelude.{ℕ, ◌+◌, ◌-◌, ◌*◌, ◌/◌, ◌%◌, Bool, not, List, [], length, drop, slice_index}
+use Rattle.isdb_mmt.specs.declared.table.section.SectionError.{SectionError}
+use Rattle.isdb_mmt.specs.declared.table.amt.Amt.{Amt}
+use Rattle.std.specs.Prelude.{ℕ, ◌+◌, ◌-◌, ◌*◌, ◌/◌, ◌%◌, Bool, not, List, [], length, drop, slice_index, Err, None, Ok, Result, Some, Option, is_some}
 use Rattle.isdb_tlv.specs.Guards.{◌<?◌, ◌=?◌}
 use Rattle.std.specs.Prelude.{if◌then◌else◌}
 use Rattle.isdb_tlv.specs.Bytes.{be}
-use Rattle.std.proofs.Math.Option.{Option, none, some}
 use Rattle.isdb_tlv.specs.Walk.{Next, stop, more, run, also}
-use Rattle.isdb_mmt.specs.Decoder.Maps.{is_some}
 use Rattle.isdb_mmt.specs.Formats.Section.{long_section_of, in_section}
 use Rattle.isdb_tlv.specs.declared.ip.Address.{Address}
 use Rattle.isdb_tlv.specs.declared.ip.Address.TheVariants.{V4, V6}
 use Rattle.isdb_mmt.specs.declared.table.section.SectionHeader.{SectionHeader}
 use Rattle.isdb_mmt.specs.declared.table.section.SectionError.TheVariants.{Malformed}
-use Rattle.isdb_mmt.specs.declared.table.amt.AmtResult.{AmtResult}
-use Rattle.isdb_mmt.specs.declared.table.amt.AmtResult.TheVariants.{Ok, Err}
 use Rattle.isdb_mmt.specs.declared.table.amt.AmtService.{AmtService}
-use Rattle.isdb_mmt.specs.declared.table.amt.AmtStep.{AmtStep}
-use Rattle.isdb_mmt.specs.declared.table.amt.AmtStep.TheVariants.{Malformed as broken, Service as service}
 
 -- an address of 16 bytes, or of 4
 abbrev pub address_at : List ℕ → ℕ → Bool → Address
@@ -43,30 +39,30 @@ abbrev pub loop_length : List ℕ → ℕ → ℕ
 loop_length s at = be 2 s (at + 2) % 1024
 
 -- a service: service id 16 bits, flags, a loop that has the addresses and may be longer
-unfoldable pub service_at : List ℕ → ℕ → AmtStep
+unfoldable pub service_at : List ℕ → ℕ → Option (AmtService × ℕ)
 service_at s at =
-    if length s - at <? 4 then broken
-    else if length s - (at + 4) <? loop_length s at then broken
-    else if loop_length s at <? address_size (wide_flow s at) * 2 + 2 then broken
-    else service (flow_of (drop (at + 4) s) (be 2 s at) (address_size (wide_flow s at)) (wide_flow s at)) (at + 4 + loop_length s at)
+    if length s - at <? 4 then None
+    else if length s - (at + 4) <? loop_length s at then None
+    else if loop_length s at <? address_size (wide_flow s at) * 2 + 2 then None
+    else Some (flow_of (drop (at + 4) s) (be 2 s at) (address_size (wide_flow s at)) (wide_flow s at), at + 4 + loop_length s at)
 
 -- `n` services from a place on, or none where one is not whole
-abbrev pub service_item : AmtStep → Next (Option (List AmtService))
-service_item broken = stop none
-service_item (service x next) = more next (also x)
+abbrev pub service_item : Option (AmtService × ℕ) → Next (Option (List AmtService))
+service_item None = stop None
+service_item (Some (x, next)) = more next (also x)
 
 abbrev pub services_from : ℕ → List ℕ → ℕ → Option (List AmtService)
-services_from n s at = run (λ p. service_item (service_at s p)) (λ p. some []) n at
+services_from n s at = run (λ p. service_item (service_at s p)) (λ p. Some []) n at
 
 unfoldable pub services_whole : ℕ → List ℕ → ℕ → Bool
 services_whole n s at = is_some (services_from n s at)
 
 -- number of services 10 bits, reserved 6, then those; bytes behind them are not looked at
-unfoldable pub amt_body : SectionHeader → List ℕ → AmtResult
+unfoldable pub amt_body : SectionHeader → List ℕ → Result (SectionHeader × Amt) SectionError
 amt_body h s =
     if length s <? 2 then Err Malformed
     else if not (services_whole (be 2 s 0 / 64) s 2) then Err Malformed
-    else Ok h (record { services = be 2 s 0 / 64 })
+    else Ok (h, record { services = be 2 s 0 / 64 })
 
-unfoldable pub amt_of : List ℕ → AmtResult
+unfoldable pub amt_of : List ℕ → Result (SectionHeader × Amt) SectionError
 amt_of s = in_section Err amt_body s (long_section_of s)

@@ -1,23 +1,18 @@
 -- MH-BIT: ARIB STD-B60, Table 7-21.
-use Rattle.std.specs.Prelude.{ℕ, ◌+◌, ◌/◌, ◌%◌, List, map, length, take, drop, slice_index}
+use Rattle.isdb_mmt.specs.declared.table.section.Parsed.{Parsed}
+use Rattle.std.specs.Prelude.{ℕ, ◌+◌, ◌/◌, ◌%◌, List, map, length, take, drop, slice_index, Err, Ok}
 use Rattle.isdb_tlv.specs.Guards.{◌<?◌, ◌=?◌}
 use Rattle.std.specs.Prelude.{if◌then◌else◌}
 use Rattle.isdb_mmt.specs.Formats.Part.{part_at}
 use Rattle.isdb_mmt.specs.Formats.Desc.{broken, Loop}
-use Rattle.isdb_mmt.specs.Formats.Section.{length12, long_section_of, in_section, entry_at, entry_as, entries_from}
+use Rattle.isdb_mmt.specs.Formats.Section.{length12, long_section_of, in_section, entry_at, entry_as, entries_from, parsed}
 use Rattle.isdb_mmt.specs.declared.table.section.SectionHeader.{SectionHeader}
 use Rattle.isdb_mmt.specs.declared.table.section.SectionError.TheVariants.{Malformed}
 use Rattle.isdb_mmt.specs.declared.table.section.Entry.{Entry}
 use Rattle.isdb_mmt.specs.declared.table.bit.Bit.{Bit}
-use Rattle.isdb_mmt.specs.declared.table.bit.BitResult.{BitResult}
-use Rattle.isdb_mmt.specs.declared.table.bit.BitResult.TheVariants.{Ok, Err}
-use Rattle.isdb_mmt.specs.declared.table.bit.BitParsed.{BitParsed}
 use Rattle.isdb_mmt.specs.declared.table.bit.Broadcaster.{Broadcaster}
 use Rattle.isdb_mmt.specs.declared.table.bit.BroadcasterStep.{BroadcasterStep}
 use Rattle.isdb_mmt.specs.declared.table.bit.BroadcasterStep.TheVariants.{End, Malformed as not_whole, Broadcaster as broadcaster}
-
-abbrev pub bit_parsed : BitResult → ℕ → BitParsed
-bit_parsed r n = record { result = r; breaks = n }
 
 -- reserved 3 bits, broadcast view propriety 1, length of the first descriptor loop 12, that loop, then broadcasters, which
 -- are to end with the body
@@ -29,18 +24,18 @@ bit_fields s l =
       broadcasters = length l.found;
     }
 
-abbrev pub bit_loop : SectionHeader → List ℕ → Loop Entry → BitParsed
+abbrev pub bit_loop : SectionHeader → List ℕ → Loop Entry → Parsed (SectionHeader × Bit)
 bit_loop h s l =
-    bit_parsed (if l.whole then Ok h (bit_fields s l) else Err Malformed) (broken (take (length12 s 0) (drop 2 s)) + l.breaks)
+    parsed (if l.whole then Ok (h, bit_fields s l) else Err Malformed) (broken (take (length12 s 0) (drop 2 s)) + l.breaks)
 
-unfoldable pub bit_body : SectionHeader → List ℕ → BitParsed
+unfoldable pub bit_body : SectionHeader → List ℕ → Parsed (SectionHeader × Bit)
 bit_body h s =
-    if length s <? 2 then bit_parsed (Err Malformed) 0
-    else if length s <? length12 s 0 + 2 then bit_parsed (Err Malformed) 0
+    if length s <? 2 then parsed (Err Malformed) 0
+    else if length s <? length12 s 0 + 2 then parsed (Err Malformed) 0
     else bit_loop h s (entries_from s 1 (length12 s 0 + 2))
 
-unfoldable pub bit_of : List ℕ → BitParsed
-bit_of s = in_section (λ e. bit_parsed (Err e) 0) bit_body s (long_section_of s)
+unfoldable pub bit_of : List ℕ → Parsed (SectionHeader × Bit)
+bit_of s = in_section (λ e. parsed (Err e) 0) bit_body s (long_section_of s)
 
 -- a broadcaster: id 8 bits, reserved 4, descriptors' length 12
 abbrev pub broadcaster_of : List ℕ → Entry → Broadcaster

@@ -1,6 +1,7 @@
 -- MMT-SI descriptors: ARIB STD-B60, 7.4, Table 4-10.
-use Rattle.std.specs.Prelude.{ℕ, ◌+◌, ◌-◌, ◌/◌, ◌%◌, Bool, true, false, List, [], ◌∷◌, length, drop, slice_index, slice_index_or}
-use Rattle.std.proofs.Math.Option.{Option, none, some}
+use Rattle.isdb_mmt.specs.declared.timestamp.Extended.{Extended}
+use Rattle.isdb_mmt.specs.declared.location.Location.{Location}
+use Rattle.std.specs.Prelude.{◌≡◌, ℕ, ◌+◌, ◌-◌, ◌/◌, ◌%◌, Bool, true, false, List, [], ◌∷◌, length, drop, slice_index, slice_index_or, None, Some, Option, is_some}
 use Rattle.isdb_tlv.specs.Guards.{◌<?◌, ◌≤?◌, ◌=?◌}
 use Rattle.std.specs.Prelude.{if◌then◌else◌}
 use Rattle.isdb_tlv.specs.Bytes.{be}
@@ -8,22 +9,13 @@ use Rattle.isdb_tlv.specs.Walk.{Next, stop, more, walk}
 use Rattle.isdb_mmt.specs.Formats.Part.{part_at, part_of}
 use Rattle.isdb_mmt.specs.Formats.Tags.{mpu_timestamp_tag, dependency_tag, access_control_tag, scrambler_tag, hevc_tag, service_list_tag, stream_identifier_tag, content_tag, broadcaster_name_tag, service_tag, extended_timestamp_tag, short_event_tag}
 use Rattle.isdb_mmt.specs.Formats.Location.{location_of}
-use Rattle.isdb_mmt.specs.Decoder.Maps.{is_some}
 use Rattle.isdb_mmt.specs.Formats.Timestamp.{extended_of}
 use Rattle.isdb_mmt.specs.declared.part.Part.{Part}
-use Rattle.isdb_mmt.specs.declared.location.Located.{Located}
-use Rattle.isdb_mmt.specs.declared.location.Located.TheVariants.{None as not_located, Some as located}
-use Rattle.isdb_mmt.specs.declared.location.MaybeLocation.{MaybeLocation}
-use Rattle.isdb_mmt.specs.declared.location.MaybeLocation.TheVariants.{None as no_location, Some as some_location}
-use Rattle.isdb_mmt.specs.declared.timestamp.MaybeExtended.{MaybeExtended}
-use Rattle.isdb_mmt.specs.declared.timestamp.MaybeExtended.TheVariants.{None as not_extended, Some as extended}
 use Rattle.isdb_mmt.specs.declared.desc.Step.{Step}
 use Rattle.isdb_mmt.specs.declared.desc.Step.TheVariants.{End, Broken, Raw}
 use Rattle.isdb_mmt.specs.declared.desc.Counted.{Counted}
 use Rattle.isdb_mmt.specs.declared.desc.Descriptor.{Descriptor}
 use Rattle.isdb_mmt.specs.declared.desc.Descriptor.TheVariants.{MpuTimestamp, ExtendedTimestamp, AccessControl, Scrambler, StreamIdentifier, Service, ServiceList, ShortEvent, Content, Hevc, BroadcasterName, Other}
-use Rattle.isdb_mmt.specs.declared.desc.Found.{Found}
-use Rattle.isdb_mmt.specs.declared.desc.Found.TheVariants.{None as not_found, Some as found}
 use Rattle.isdb_mmt.specs.declared.desc.ServiceStep.{ServiceStep}
 use Rattle.isdb_mmt.specs.declared.desc.ServiceStep.TheVariants.{End as no_service, Service as service}
 use Rattle.isdb_mmt.specs.declared.desc.GenreStep.{GenreStep}
@@ -53,6 +45,11 @@ step_at s at =
     else if length s - at <? 2 then Broken at
     else body_at s at (be 2 s at) (length_width_of (be 2 s at))
 
+-- what a walk gives at a place, and where it stands then: behind the descriptor, or still where none stands
+abbrev pub Walked : List ℕ → ℕ → Option (ℕ × Part) → ℕ → Type 0
+Walked s at None next = ((tag : ℕ) (body : Part) (to : ℕ) → step_at s at ≡ Raw tag body to → ⊥) × (next ≡ at)
+Walked s at (Some d) next = step_at s at ≡ Raw d.0 d.1 next
+
 -- a loop's descriptors, each by its tag and its body's place, and the place of the first that does not fit
 pub record RawDescriptor : Type 0 where
   pub tag : ℕ
@@ -66,12 +63,12 @@ abbrev pub also : RawDescriptor → Split → Split
 also r l = record { found = r ∷ l.found; broke = l.broke }
 
 abbrev pub item : Step → Next Split
-item End = stop (record { found = []; broke = none })
-item (Broken at) = stop (record { found = []; broke = some at })
+item End = stop (record { found = []; broke = None })
+item (Broken at) = stop (record { found = []; broke = Some at })
 item (Raw tag body next) = more next (also (record { tag = tag; body = body }))
 
 unfoldable pub split_from : List ℕ → ℕ → Split
-split_from s at = walk (λ p. item (step_at s p)) (record { found = []; broke = none }) (length s) at
+split_from s at = walk (λ p. item (step_at s p)) (record { found = []; broke = None }) (length s) at
 
 unfoldable pub split_of : List ℕ → Split
 split_of s = split_from s 0
@@ -103,9 +100,9 @@ abbrev pub other : ℕ → List ℕ → Descriptor
 other tag s = Other tag (part_at 0 (length s))
 
 -- 7.4.3.7, access control: CA system id 16 bits, then a location; one that cannot be read is absent
-abbrev pub location_in : Located → MaybeLocation
-location_in not_located = no_location
-location_in (located l n) = some_location l
+abbrev pub location_in : Option (Location × ℕ) → Option Location
+location_in None = None
+location_in (Some (l, n)) = Some l
 
 unfoldable pub access_control : List ℕ → Descriptor
 access_control s =
@@ -147,9 +144,9 @@ hevc s =
     if length s <? 12 then other hevc_tag s
     else Hevc (slice_index s 0 % 32) (slice_index s 0 / 32 % 2 =? 1) (slice_index s 11)
 
-abbrev pub extended_in : List ℕ → MaybeExtended → Descriptor
-extended_in s not_extended = other extended_timestamp_tag s
-extended_in s (extended e) = ExtendedTimestamp e
+abbrev pub extended_in : List ℕ → Option Extended → Descriptor
+extended_in s None = other extended_timestamp_tag s
+extended_in s (Some e) = ExtendedTimestamp e
 
 unfoldable pub extended_timestamp : List ℕ → Descriptor
 extended_timestamp s = extended_in s (extended_of s)
@@ -193,16 +190,16 @@ is_other_of (BroadcasterName n) = false
 is_other_of (Other t b) = true
 
 -- the first of a loop's descriptors that has a tag and could be decoded
-abbrev pub or_next : Descriptor → Part → Found → Found
-or_next d body rest = if is_other_of d then rest else found d body
+abbrev pub or_next : Descriptor → Part → Option (Descriptor × Part) → Option (Descriptor × Part)
+or_next d body rest = if is_other_of d then rest else Some (d, body)
 
-abbrev pub first_in : ℕ → List ℕ → List RawDescriptor → Found
-first_in tag s [] = not_found
+abbrev pub first_in : ℕ → List ℕ → List RawDescriptor → Option (Descriptor × Part)
+first_in tag s [] = None
 first_in tag s (r ∷ l) =
     if r.tag =? tag then or_next (descriptor_of tag (part_of s r.body)) r.body (first_in tag s l)
     else first_in tag s l
 
-unfoldable pub first_of : ℕ → List ℕ → ℕ → Found
+unfoldable pub first_of : ℕ → List ℕ → ℕ → Option (Descriptor × Part)
 first_of tag s at = first_in tag s (split_from s at).found
 
 -- 7.4.3.16, service list: entries of a service id, 16 bits, and a service type, 8

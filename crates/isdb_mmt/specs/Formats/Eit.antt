@@ -1,23 +1,18 @@
 -- MH-EIT: ARIB STD-B60, Table 7-18.
-use Rattle.std.specs.Prelude.{ℕ, ◌+◌, ◌/◌, ◌%◌, List, map, length, slice_index}
+use Rattle.isdb_mmt.specs.declared.table.section.Parsed.{Parsed}
+use Rattle.std.specs.Prelude.{ℕ, ◌+◌, ◌/◌, ◌%◌, List, map, length, slice_index, Err, Ok}
 use Rattle.isdb_tlv.specs.Guards.{◌<?◌, ◌=?◌}
 use Rattle.std.specs.Prelude.{if◌then◌else◌}
 use Rattle.isdb_tlv.specs.Bytes.{be}
 use Rattle.isdb_mmt.specs.Formats.Desc.{Loop}
-use Rattle.isdb_mmt.specs.Formats.Section.{long_section_of, in_section, entry_at, entry_as, entries_from}
+use Rattle.isdb_mmt.specs.Formats.Section.{long_section_of, in_section, entry_at, entry_as, entries_from, parsed}
 use Rattle.isdb_mmt.specs.declared.table.section.SectionHeader.{SectionHeader}
 use Rattle.isdb_mmt.specs.declared.table.section.SectionError.TheVariants.{Malformed}
 use Rattle.isdb_mmt.specs.declared.table.section.Entry.{Entry}
 use Rattle.isdb_mmt.specs.declared.table.eit.Eit.{Eit}
-use Rattle.isdb_mmt.specs.declared.table.eit.EitResult.{EitResult}
-use Rattle.isdb_mmt.specs.declared.table.eit.EitResult.TheVariants.{Ok, Err}
-use Rattle.isdb_mmt.specs.declared.table.eit.EitParsed.{EitParsed}
 use Rattle.isdb_mmt.specs.declared.table.eit.Event.{Event}
 use Rattle.isdb_mmt.specs.declared.table.eit.EventStep.{EventStep}
 use Rattle.isdb_mmt.specs.declared.table.eit.EventStep.TheVariants.{End, Malformed as broken, Event as event}
-
-abbrev pub eit_parsed : EitResult → ℕ → EitParsed
-eit_parsed r n = record { result = r; breaks = n }
 
 -- TLV stream id 16 bits, original network id 16, segment last section number 8, last table id 8, then events
 abbrev pub eit_fields : List ℕ → Loop Entry → Eit
@@ -31,14 +26,14 @@ eit_fields s l =
     }
 
 -- the events are to end with the body
-abbrev pub eit_loop : SectionHeader → List ℕ → Loop Entry → EitParsed
-eit_loop h s l = eit_parsed (if l.whole then Ok h (eit_fields s l) else Err Malformed) l.breaks
+abbrev pub eit_loop : SectionHeader → List ℕ → Loop Entry → Parsed (SectionHeader × Eit)
+eit_loop h s l = parsed (if l.whole then Ok (h, eit_fields s l) else Err Malformed) l.breaks
 
-unfoldable pub eit_body : SectionHeader → List ℕ → EitParsed
-eit_body h s = if length s <? 6 then eit_parsed (Err Malformed) 0 else eit_loop h s (entries_from s 10 6)
+unfoldable pub eit_body : SectionHeader → List ℕ → Parsed (SectionHeader × Eit)
+eit_body h s = if length s <? 6 then parsed (Err Malformed) 0 else eit_loop h s (entries_from s 10 6)
 
-unfoldable pub eit_of : List ℕ → EitParsed
-eit_of s = in_section (λ e. eit_parsed (Err e) 0) eit_body s (long_section_of s)
+unfoldable pub eit_of : List ℕ → Parsed (SectionHeader × Eit)
+eit_of s = in_section (λ e. parsed (Err e) 0) eit_body s (long_section_of s)
 
 -- an event: event id 16 bits, start time 40, duration 24, running status 3, free CA mode 1, descriptors' length 12
 abbrev pub event_of : List ℕ → Entry → Event

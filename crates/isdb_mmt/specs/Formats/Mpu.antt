@@ -1,27 +1,19 @@
 -- MPU payloads: ARIB STD-B60, 6.3.2, Tables 6-1 to 6-3; and the steps of sequence numbers.
-use Rattle.std.specs.Prelude.{ℕ, ◌+◌, ◌-◌, ◌/◌, ◌%◌, ◌^◌, min, Bool, true, false, not, List, [], length, take, slice_index, slice_range}
-use Rattle.std.proofs.Math.Option.{Option, none, some}
+use Rattle.std.specs.Prelude.{unwrap_or, ℕ, ◌+◌, ◌-◌, ◌/◌, ◌%◌, ◌^◌, min, Bool, true, false, not, List, [], length, take, slice_index, slice_range, None, Some, Option}
 use Rattle.isdb_tlv.specs.Guards.{◌<?◌, ◌≤?◌, ◌=?◌}
 use Rattle.std.specs.Prelude.{if◌then◌else◌}
 use Rattle.isdb_tlv.specs.Bytes.{be}
 use Rattle.isdb_tlv.specs.Walk.{Next, stop, more, walk, also, count_of}
 use Rattle.isdb_mmt.specs.Formats.Part.{part_at}
-use Rattle.isdb_mmt.specs.declared.maybe.MaybeU32.TheVariants.{None as no_u32, Some as some_u32}
 use Rattle.isdb_mmt.specs.declared.mpu.FragmentType.{FragmentType}
 use Rattle.isdb_mmt.specs.declared.mpu.FragmentType.TheVariants.{MpuMetadata, MovieFragmentMetadata, Mfu, Reserved}
 use Rattle.isdb_mmt.specs.declared.mpu.FragmentationIndicator.{FragmentationIndicator}
 use Rattle.isdb_mmt.specs.declared.mpu.FragmentationIndicator.TheVariants.{Complete, Head, Middle, Last}
 use Rattle.isdb_mmt.specs.declared.mpu.PayloadHeader.{PayloadHeader}
-use Rattle.isdb_mmt.specs.declared.mpu.MaybeHeader.{MaybeHeader}
-use Rattle.isdb_mmt.specs.declared.mpu.MaybeHeader.TheVariants.{None, Some}
 use Rattle.isdb_mmt.specs.declared.mpu.MfuHeader.{MfuHeader}
-use Rattle.isdb_mmt.specs.declared.mpu.MaybeMfu.{MaybeMfu}
-use Rattle.isdb_mmt.specs.declared.mpu.MaybeMfu.TheVariants.{None as no_mfu, Some as some_mfu}
 use Rattle.isdb_mmt.specs.declared.mpu.Unit.{Unit as DataUnit}
 use Rattle.isdb_mmt.specs.declared.mpu.UnitStep.{UnitStep}
 use Rattle.isdb_mmt.specs.declared.mpu.UnitStep.TheVariants.{End, Malformed, Unit as found}
-use Rattle.isdb_mmt.specs.declared.mpu.UnitCount.{UnitCount}
-use Rattle.isdb_mmt.specs.declared.mpu.UnitCount.TheVariants.{Malformed as not_whole, Count}
 
 -- MPU_fragment_type, 4 bits (Table 6-2)
 abbrev pub fragment_code_of : FragmentType → ℕ
@@ -71,7 +63,7 @@ payload_header_fields s =
     }
 
 -- the declared bytes are to be there; the header's 8 bytes are those of the whole payload, whatever it declares
-unfoldable pub payload_header : List ℕ → MaybeHeader
+unfoldable pub payload_header : List ℕ → Option PayloadHeader
 payload_header s =
     if length s <? 2 then None
     else if length s <? be 2 s 0 + 2 then None
@@ -99,22 +91,17 @@ abbrev pub no_header : MfuHeader
 no_header =
     record { movie_fragment_sequence_number = 0; sample_number = 0; offset = 0; priority = 0; dependency_counter = 0 }
 
-abbrev pub has_header : MaybeMfu → Bool
-has_header no_mfu = false
-has_header (some_mfu h) = true
-
-abbrev pub header_or : MaybeMfu → MfuHeader
-header_or no_mfu = no_header
-header_or (some_mfu h) = h
+abbrev pub header_or : Option MfuHeader → MfuHeader
+header_or o = unwrap_or o no_header
 
 -- a unit of timed data in the bytes from `at` to `end`, and one of untimed data, with an item id of 32 bits
 abbrev pub timed_unit : List ℕ → ℕ → ℕ → DataUnit
 timed_unit s at end =
-    record { mfu = some_mfu (mfu_at (slice_range s at end)); item_id = no_u32; «data» = part_at (at + 14) (end - at - 14) }
+    record { mfu = Some (mfu_at (slice_range s at end)); item_id = None; «data» = part_at (at + 14) (end - at - 14) }
 
 abbrev pub untimed_unit : List ℕ → ℕ → ℕ → DataUnit
 untimed_unit s at end =
-    record { mfu = no_mfu; item_id = some_u32 (be 4 (slice_range s at end) 0); «data» = part_at (at + 4) (end - at - 4) }
+    record { mfu = None; item_id = Some (be 4 (slice_range s at end) 0); «data» = part_at (at + 4) (end - at - 4) }
 
 unfoldable pub unit_in : List ℕ → Bool → ℕ → ℕ → UnitStep
 unit_in s timed at end =
@@ -139,19 +126,19 @@ unit_step s timed aggregated at =
     else unit_at s timed aggregated at
 
 abbrev pub item : UnitStep → Next (Option (List DataUnit))
-item End = stop (some [])
-item Malformed = stop none
+item End = stop (Some [])
+item Malformed = stop None
 item (found u next) = more next (also u)
 
 -- the units from a place on, or none where one is not whole
 unfoldable pub units_from : List ℕ → Bool → Bool → ℕ → Option (List DataUnit)
-units_from s timed aggregated at = walk (λ p. item (unit_step s timed aggregated p)) none (length s) at
+units_from s timed aggregated at = walk (λ p. item (unit_step s timed aggregated p)) None (length s) at
 
 unfoldable pub units_of : List ℕ → Bool → Bool → Option (List DataUnit)
 units_of s timed aggregated = units_from s timed aggregated 8
 
-unfoldable pub counted : Option (List DataUnit) → UnitCount
-counted o = count_of not_whole Count o
+unfoldable pub counted : Option (List DataUnit) → Option ℕ
+counted o = count_of None Some o
 
 -- the number behind another: behind 4,294,967,295 comes 0
 unfoldable pub follows : ℕ → ℕ → Bool

@@ -1,5 +1,7 @@
 -- TLV-NIT and TLV-SI descriptors: ARIB STD-B60, Tables 5-1, 5-4, 5-6, and 5.3.
-use Rattle.std.specs.Prelude.{ℕ, zero, suc, ◌+◌, ◌-◌, ◌*◌, ◌/◌, ◌%◌, List, map, length, slice_index, slice_index_or}
+use Rattle.isdb_mmt.specs.declared.table.section.SectionError.{SectionError}
+use Rattle.isdb_mmt.specs.declared.table.nit.Nit.{Nit}
+use Rattle.std.specs.Prelude.{ℕ, zero, suc, ◌+◌, ◌-◌, ◌*◌, ◌/◌, ◌%◌, List, map, length, slice_index, slice_index_or, Err, None, Ok, Option, Result, Some}
 use Rattle.isdb_tlv.specs.Guards.{◌<?◌, ◌=?◌, ◌≠?◌}
 use Rattle.std.specs.Prelude.{if◌then◌else◌}
 use Rattle.isdb_tlv.specs.Bytes.{be}
@@ -10,39 +12,33 @@ use Rattle.isdb_mmt.specs.Formats.Section.{length12, long_section_of, in_section
 use Rattle.isdb_mmt.specs.declared.table.section.SectionHeader.{SectionHeader}
 use Rattle.isdb_mmt.specs.declared.table.section.SectionError.TheVariants.{Malformed}
 use Rattle.isdb_mmt.specs.declared.table.section.Entry.{Entry}
-use Rattle.isdb_mmt.specs.declared.maybe.MaybeU64.{MaybeU64}
-use Rattle.isdb_mmt.specs.declared.maybe.MaybeU64.TheVariants.{None as no_u64, Some as some_u64}
 use Rattle.isdb_mmt.specs.declared.part.Part.{Part}
-use Rattle.isdb_mmt.specs.declared.table.nit.NitResult.{NitResult}
-use Rattle.isdb_mmt.specs.declared.table.nit.NitResult.TheVariants.{Ok, Err}
 use Rattle.isdb_mmt.specs.declared.table.nit.NitStream.{NitStream}
 use Rattle.isdb_mmt.specs.declared.table.nit.StreamStep.{StreamStep}
 use Rattle.isdb_mmt.specs.declared.table.nit.StreamStep.TheVariants.{End, Malformed as broken, Stream as stream}
 use Rattle.isdb_mmt.specs.declared.table.nit.TlvStep.{TlvStep}
 use Rattle.isdb_mmt.specs.declared.table.nit.TlvStep.TheVariants.{End as no_more, Descriptor as descriptor}
-use Rattle.isdb_mmt.specs.declared.table.nit.MaybePart.{MaybePart}
-use Rattle.isdb_mmt.specs.declared.table.nit.MaybePart.TheVariants.{None as no_part, Some as some_part}
 
 -- the loop of streams starts behind the network's descriptors and its own length
 abbrev pub streams_part : List ℕ → Part
 streams_part s = part_at (length12 s 0 + 4) (length12 s (length12 s 0 + 2))
 
-abbrev pub nit_loop : SectionHeader → List ℕ → Loop Entry → NitResult
+abbrev pub nit_loop : SectionHeader → List ℕ → Loop Entry → Result (SectionHeader × Nit) SectionError
 nit_loop h s l =
     if l.whole
-    then Ok h (record { descriptors = part_at 2 (length12 s 0); loop_part = streams_part s; streams = length l.found })
+    then Ok (h, record { descriptors = part_at 2 (length12 s 0); loop_part = streams_part s; streams = length l.found })
     else Err Malformed
 
 -- reserved 4 bits, length of the network's descriptors 12, those, reserved 4, length of the loop of streams 12, streams,
 -- which are to end with that loop
-unfoldable pub nit_body : SectionHeader → List ℕ → NitResult
+unfoldable pub nit_body : SectionHeader → List ℕ → Result (SectionHeader × Nit) SectionError
 nit_body h s =
     if length s <? 2 then Err Malformed
     else if length s <? length12 s 0 + 4 then Err Malformed
     else if length s - (length12 s 0 + 4) <? length12 s (length12 s 0 + 2) then Err Malformed
     else nit_loop h s (entries_from (part_of s (streams_part s)) 4 0)
 
-unfoldable pub nit_of : List ℕ → NitResult
+unfoldable pub nit_of : List ℕ → Result (SectionHeader × Nit) SectionError
 nit_of s = in_section Err nit_body s (long_section_of s)
 
 -- a stream: TLV stream id 16 bits, original network id 16, reserved 4, descriptors' length 12
@@ -69,34 +65,34 @@ tlv_step_at s at =
 abbrev pub digit : List ℕ → ℕ → ℕ
 digit s i = if i % 2 =? 0 then slice_index s (i / 2) / 16 else slice_index s (i / 2) % 16
 
-abbrev pub with_digit : ℕ → MaybeU64 → MaybeU64
-with_digit d no_u64 = no_u64
-with_digit d (some_u64 v) = if 9 <? d then no_u64 else some_u64 (v * 10 + d)
+abbrev pub with_digit : ℕ → Option ℕ → Option ℕ
+with_digit d None = None
+with_digit d (Some v) = if 9 <? d then None else Some (v * 10 + d)
 
 -- the number of `n` digits; none where one is above 9
-abbrev pub bcd_from : ℕ → List ℕ → MaybeU64
-bcd_from zero s = some_u64 0
+abbrev pub bcd_from : ℕ → List ℕ → Option ℕ
+bcd_from zero s = Some 0
 bcd_from (suc n) s = with_digit (digit s n) (bcd_from n s)
 
-abbrev pub tenfold : MaybeU64 → MaybeU64
-tenfold no_u64 = no_u64
-tenfold (some_u64 v) = some_u64 (v * 10)
+abbrev pub tenfold : Option ℕ → Option ℕ
+tenfold None = None
+tenfold (Some v) = Some (v * 10)
 
 -- Table 5-6: the frequency of a satellite delivery system descriptor, eight digits in units of 10 kHz
-unfoldable pub frequency_of : ℕ → List ℕ → MaybeU64
+unfoldable pub frequency_of : ℕ → List ℕ → Option ℕ
 frequency_of tag s =
-    if tag ≠? satellite_delivery_tlv_tag then no_u64
-    else if length s <? 4 then no_u64
+    if tag ≠? satellite_delivery_tlv_tag then None
+    else if length s <? 4 then None
     else tenfold (bcd_from 8 s)
 
 -- the whole body of a descriptor that has the wanted tag
-unfoldable pub whole_body : ℕ → ℕ → List ℕ → MaybePart
-whole_body wanted tag s = if tag ≠? wanted then no_part else some_part (part_at 0 (length s))
+unfoldable pub whole_body : ℕ → ℕ → List ℕ → Option Part
+whole_body wanted tag s = if tag ≠? wanted then None else Some (part_at 0 (length s))
 
 -- the text of a network name descriptor
-abbrev pub network_name_of : ℕ → List ℕ → MaybePart
+abbrev pub network_name_of : ℕ → List ℕ → Option Part
 network_name_of tag s = whole_body network_name_tlv_tag tag s
 
 -- Table 5-4: the entries of a service list descriptor, as one of MMT-SI has them
-abbrev pub service_list_of : ℕ → List ℕ → MaybePart
+abbrev pub service_list_of : ℕ → List ℕ → Option Part
 service_list_of tag s = whole_body service_list_tlv_tag tag s

@@ -1,34 +1,30 @@
 -- MH-SDT: ARIB STD-B60, Table 7-23.
-use Rattle.std.specs.Prelude.{ℕ, ◌+◌, ◌/◌, ◌%◌, List, map, length, slice_index}
+use Rattle.isdb_mmt.specs.declared.table.section.Parsed.{Parsed}
+use Rattle.isdb_mmt.specs.declared.table.sdt.Sdt.{Sdt}
+use Rattle.std.specs.Prelude.{ℕ, ◌+◌, ◌/◌, ◌%◌, List, map, length, slice_index, Err, Ok}
 use Rattle.isdb_tlv.specs.Guards.{◌<?◌, ◌=?◌}
 use Rattle.std.specs.Prelude.{if◌then◌else◌}
 use Rattle.isdb_tlv.specs.Bytes.{be}
 use Rattle.isdb_mmt.specs.Formats.Desc.{Loop}
-use Rattle.isdb_mmt.specs.Formats.Section.{long_section_of, in_section, entry_at, entry_as, entries_from}
+use Rattle.isdb_mmt.specs.Formats.Section.{long_section_of, in_section, entry_at, entry_as, entries_from, parsed}
 use Rattle.isdb_mmt.specs.declared.table.section.SectionHeader.{SectionHeader}
 use Rattle.isdb_mmt.specs.declared.table.section.SectionError.TheVariants.{Malformed}
 use Rattle.isdb_mmt.specs.declared.table.section.Entry.{Entry}
-use Rattle.isdb_mmt.specs.declared.table.sdt.SdtResult.{SdtResult}
-use Rattle.isdb_mmt.specs.declared.table.sdt.SdtResult.TheVariants.{Ok, Err}
-use Rattle.isdb_mmt.specs.declared.table.sdt.SdtParsed.{SdtParsed}
 use Rattle.isdb_mmt.specs.declared.table.sdt.SdtService.{SdtService}
 use Rattle.isdb_mmt.specs.declared.table.sdt.SdtStep.{SdtStep}
 use Rattle.isdb_mmt.specs.declared.table.sdt.SdtStep.TheVariants.{End, Malformed as broken, Service as service}
 
-abbrev pub sdt_parsed : SdtResult → ℕ → SdtParsed
-sdt_parsed r n = record { result = r; breaks = n }
-
 -- original network id 16 bits, reserved 8, then services, which are to end with the body; the reserved byte may be missing
 -- where there are none
-abbrev pub sdt_loop : SectionHeader → List ℕ → Loop Entry → SdtParsed
+abbrev pub sdt_loop : SectionHeader → List ℕ → Loop Entry → Parsed (SectionHeader × Sdt)
 sdt_loop h s l =
-    sdt_parsed (if l.whole then Ok h (record { original_network_id = be 2 s 0; services = length l.found }) else Err Malformed) l.breaks
+    parsed (if l.whole then Ok (h, record { original_network_id = be 2 s 0; services = length l.found }) else Err Malformed) l.breaks
 
-unfoldable pub sdt_body : SectionHeader → List ℕ → SdtParsed
-sdt_body h s = if length s <? 2 then sdt_parsed (Err Malformed) 0 else sdt_loop h s (entries_from s 3 3)
+unfoldable pub sdt_body : SectionHeader → List ℕ → Parsed (SectionHeader × Sdt)
+sdt_body h s = if length s <? 2 then parsed (Err Malformed) 0 else sdt_loop h s (entries_from s 3 3)
 
-unfoldable pub sdt_of : List ℕ → SdtParsed
-sdt_of s = in_section (λ e. sdt_parsed (Err e) 0) sdt_body s (long_section_of s)
+unfoldable pub sdt_of : List ℕ → Parsed (SectionHeader × Sdt)
+sdt_of s = in_section (λ e. parsed (Err e) 0) sdt_body s (long_section_of s)
 
 -- a service: service id 16 bits, reserved 3, EIT user defined flags 3, EIT schedule flag 1, EIT present following flag 1,
 -- running status 3, free CA mode 1, descriptors' length 12

@@ -1,5 +1,6 @@
 -- The long-form section (ARIB STD-B60, 7.2.3.2; ISO/IEC 13818-1, 2.4.4.11) and the loops of entries in it.
-use Rattle.std.specs.Prelude.{ℕ, ◌+◌, ◌-◌, ◌/◌, ◌%◌, true, false, List, length, take, slice_index}
+use Rattle.isdb_mmt.specs.declared.table.section.Parsed.{Parsed}
+use Rattle.std.specs.Prelude.{ℕ, ◌+◌, ◌-◌, ◌/◌, ◌%◌, true, false, List, length, take, slice_index, Err, Ok, Result}
 use Rattle.isdb_tlv.specs.Guards.{◌<?◌, ◌≤?◌, ◌=?◌, ◌≠?◌}
 use Rattle.std.specs.Prelude.{if◌then◌else◌}
 use Rattle.isdb_tlv.specs.Bytes.{be}
@@ -10,8 +11,6 @@ use Rattle.isdb_mmt.specs.Formats.Desc.{Loop, ended, also_described}
 use Rattle.isdb_mmt.specs.declared.table.section.SectionHeader.{SectionHeader}
 use Rattle.isdb_mmt.specs.declared.table.section.SectionError.{SectionError}
 use Rattle.isdb_mmt.specs.declared.table.section.SectionError.TheVariants.{Truncated, Crc}
-use Rattle.isdb_mmt.specs.declared.table.section.LongSection.{LongSection}
-use Rattle.isdb_mmt.specs.declared.table.section.LongSection.TheVariants.{Ok, Err}
 use Rattle.isdb_mmt.specs.declared.table.section.Entry.{Entry}
 use Rattle.isdb_mmt.specs.declared.table.section.EntryStep.{EntryStep}
 use Rattle.isdb_mmt.specs.declared.table.section.EntryStep.TheVariants.{End, Malformed as malformed, Entry as entry}
@@ -37,7 +36,7 @@ header_of s n =
 
 -- the section length counts what stands behind it: five bytes of header at least, and a CRC over all. The body is what is
 -- between.
-unfoldable pub long_section_of : List ℕ → LongSection
+unfoldable pub long_section_of : List ℕ → Result SectionHeader SectionError
 long_section_of s =
     if length s <? 3 then Err Truncated
     else if length12 s 1 <? 9 then Err Truncated
@@ -45,8 +44,12 @@ long_section_of s =
     else if crc_of (take (length12 s 1 + 3) s) ≠? 0 then Err Crc
     else Ok (header_of s (length12 s 1 - 9))
 
+-- what a table's section gives, and how many descriptor loops broke on the way
+abbrev pub parsed : {T : Type 0} → Result T SectionError → ℕ → Parsed T
+parsed r n = record { result = r; breaks = n }
+
 -- what a table's body is read as, or that there is no section
-abbrev pub in_section : {R : Type 0} → (SectionError → R) → (SectionHeader → List ℕ → R) → List ℕ → LongSection → R
+abbrev pub in_section : {R : Type 0} → (SectionError → R) → (SectionHeader → List ℕ → R) → List ℕ → Result SectionHeader SectionError → R
 in_section refused read s (Err e) = refused e
 in_section refused read s (Ok h) = read h (part_of s h.body)
 

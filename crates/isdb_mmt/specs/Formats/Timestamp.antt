@@ -1,26 +1,16 @@
 -- The MPU timestamp descriptor (ARIB STD-B60, 7.4.3.5) and the MPU extended timestamp descriptor (7.4.3.35).
-use Rattle.std.specs.Prelude.{ℕ, ◌+◌, ◌-◌, ◌*◌, ◌/◌, ◌%◌, Bool, not, List, [], length, slice_index, slice_index_or}
-use Rattle.std.proofs.Math.Option.{Option, none, some}
+use Rattle.std.specs.Prelude.{ℕ, ◌+◌, ◌-◌, ◌*◌, ◌/◌, ◌%◌, Bool, not, List, [], length, slice_index, slice_index_or, None, Some, Option, is_some}
 use Rattle.isdb_tlv.specs.Guards.{◌<?◌, ◌≤?◌, ◌=?◌}
 use Rattle.std.specs.Prelude.{if◌then◌else◌}
 use Rattle.isdb_tlv.specs.Bytes.{be}
 use Rattle.isdb_tlv.specs.Walk.{Next, stop, more, walk, also}
 use Rattle.isdb_mmt.specs.Formats.Part.{part_at}
-use Rattle.isdb_mmt.specs.Decoder.Maps.{is_some}
-use Rattle.isdb_mmt.specs.declared.maybe.MaybeU16.{MaybeU16}
-use Rattle.isdb_mmt.specs.declared.maybe.MaybeU16.TheVariants.{None as no_u16, Some as some_u16}
-use Rattle.isdb_mmt.specs.declared.maybe.MaybeU32.{MaybeU32}
-use Rattle.isdb_mmt.specs.declared.maybe.MaybeU32.TheVariants.{None as no_u32, Some as some_u32}
 use Rattle.isdb_mmt.specs.declared.timestamp.TimestampStep.{TimestampStep}
 use Rattle.isdb_mmt.specs.declared.timestamp.TimestampStep.TheVariants.{End as no_more, Timestamp}
 use Rattle.isdb_mmt.specs.declared.timestamp.Extended.{Extended}
-use Rattle.isdb_mmt.specs.declared.timestamp.MaybeExtended.{MaybeExtended}
-use Rattle.isdb_mmt.specs.declared.timestamp.MaybeExtended.TheVariants.{None, Some}
 use Rattle.isdb_mmt.specs.declared.timestamp.MpuStep.{MpuStep}
 use Rattle.isdb_mmt.specs.declared.timestamp.MpuStep.TheVariants.{End, Broken, Mpu}
 use Rattle.isdb_mmt.specs.declared.timestamp.AccessUnit.{AccessUnit}
-use Rattle.isdb_mmt.specs.declared.timestamp.AccessUnitStep.{AccessUnitStep}
-use Rattle.isdb_mmt.specs.declared.timestamp.AccessUnitStep.TheVariants.{End as no_unit, Unit as access_unit}
 
 -- 7.4.3.5: entries of an MPU sequence number, 32 bits, and a presentation time, 64
 unfoldable pub timestamp_at : List ℕ → ℕ → TimestampStep
@@ -36,11 +26,11 @@ scale_end flags = if flags % 2 =? 0 then 1 else 5
 abbrev pub head_end : ℕ → ℕ
 head_end flags = if flags / 2 % 4 =? 1 then scale_end flags + 2 else scale_end flags
 
-abbrev pub timescale_of : List ℕ → ℕ → MaybeU32
-timescale_of s flags = if flags % 2 =? 0 then no_u32 else some_u32 (be 4 s 1)
+abbrev pub timescale_of : List ℕ → ℕ → Option ℕ
+timescale_of s flags = if flags % 2 =? 0 then None else Some (be 4 s 1)
 
-abbrev pub default_offset : List ℕ → ℕ → MaybeU16
-default_offset s flags = if flags / 2 % 4 =? 1 then some_u16 (be 2 s (scale_end flags)) else no_u16
+abbrev pub default_offset : List ℕ → ℕ → Option ℕ
+default_offset s flags = if flags / 2 % 4 =? 1 then Some (be 2 s (scale_end flags)) else None
 
 -- an access unit: a DTS-PTS offset of 16 bits, and a PTS offset of its own where the type is 2
 abbrev pub unit_size_of : Bool → ℕ
@@ -58,18 +48,18 @@ mpu_at s own at =
 
 -- the MPUs from a place on, or none where they do not end with the body
 abbrev pub mpu_item : MpuStep → Next (Option (List MpuStep))
-mpu_item End = stop (some [])
-mpu_item Broken = stop none
+mpu_item End = stop (Some [])
+mpu_item Broken = stop None
 mpu_item (Mpu q l d n units next) = more next (also (Mpu q l d n units next))
 
 unfoldable pub mpus_from : List ℕ → Bool → ℕ → Option (List MpuStep)
-mpus_from s own at = walk (λ p. mpu_item (mpu_at s own p)) none (length s) at
+mpus_from s own at = walk (λ p. mpu_item (mpu_at s own p)) None (length s) at
 
 unfoldable pub mpus_whole : List ℕ → Bool → ℕ → Bool
 mpus_whole s own at = is_some (mpus_from s own at)
 
 -- a whole descriptor: its head and its MPUs are there
-unfoldable pub extended_of : List ℕ → MaybeExtended
+unfoldable pub extended_of : List ℕ → Option Extended
 extended_of s =
     if length s <? 1 then None
     else if length s <? head_end (slice_index s 0) then None
@@ -86,11 +76,11 @@ abbrev pub unit_at : List ℕ → Extended → ℕ → AccessUnit
 unit_at s e at =
     record {
       dts_pts_offset = be 2 s at;
-      pts_offset = if e.own_pts_offset then some_u16 (be 2 s (at + 2)) else e.default_pts_offset;
+      pts_offset = if e.own_pts_offset then Some (be 2 s (at + 2)) else e.default_pts_offset;
     }
 
 -- what stands at a place of an MPU's access units
-unfoldable pub unit_step : List ℕ → Extended → ℕ → AccessUnitStep
+unfoldable pub unit_step : List ℕ → Extended → ℕ → Option (AccessUnit × ℕ)
 unit_step s e at =
-    if length s - at <? unit_size_of e.own_pts_offset then no_unit
-    else access_unit (unit_at s e at) (at + unit_size_of e.own_pts_offset)
+    if length s - at <? unit_size_of e.own_pts_offset then None
+    else Some (unit_at s e at, at + unit_size_of e.own_pts_offset)

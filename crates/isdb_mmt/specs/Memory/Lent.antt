@@ -1,12 +1,10 @@
 -- Parts of lent memory: the bytes that stand at a place, memory with other bytes there, and places of one size with a name
 -- each.
-use Rattle.std.specs.Prelude.{ℕ, zero, suc, ◌+◌, ◌*◌, ◌/◌, ◌%◌, Bool, true, false, not, List, [], ◌∷◌, ◌++◌, length, take, drop}
+use Rattle.std.specs.Prelude.{ℕ, zero, suc, ◌+◌, ◌*◌, ◌/◌, ◌%◌, Bool, true, false, not, List, [], ◌∷◌, ◌++◌, length, take, drop, None, Option, Some}
 use Rattle.isdb_tlv.specs.Guards.{◌=?◌, ◌<?◌}
 use Rattle.std.specs.Prelude.{if◌then◌else◌}
 use Rattle.isdb_tlv.specs.Bytes.{be}
 use Rattle.isdb_mmt.specs.Formats.Maybe.{flag_of}
-use Rattle.isdb_mmt.specs.declared.decoder.place.Found.{Found}
-use Rattle.isdb_mmt.specs.declared.decoder.place.Found.TheVariants.{At, Nothing}
 use Rattle.isdb_mmt.specs.declared.decoder.place.PlaceFor.{PlaceFor}
 use Rattle.isdb_mmt.specs.declared.decoder.place.PlaceFor.TheVariants.{Own, Free, NoneFree}
 
@@ -54,14 +52,14 @@ unfoldable pub cell_of : ℕ → ℕ
 cell_of x = x * 2654435769 / 16777216 % 32768
 
 -- the index of the first `x`, where the first name has the index `i`
-unfoldable pub found_from : ℕ → List ℕ → ℕ → Found
-found_from i [] x = Nothing
-found_from i (y ∷ ys) x = if y =? x then At i else found_from (i + 1) ys x
+unfoldable pub found_from : ℕ → List ℕ → ℕ → Option ℕ
+found_from i [] x = None
+found_from i (y ∷ ys) x = if y =? x then Some i else found_from (i + 1) ys x
 
 -- the place of `x`, or the next free one of `limit`
-abbrev pub place_for_found : ℕ → ℕ → Found → PlaceFor
-place_for_found n limit (At i) = Own i
-place_for_found n limit Nothing = if n <? limit then Free n else NoneFree
+abbrev pub place_for_found : ℕ → ℕ → Option ℕ → PlaceFor
+place_for_found n limit (Some i) = Own i
+place_for_found n limit None = if n <? limit then Free n else NoneFree
 
 unfoldable pub place_for_name : List ℕ → ℕ → ℕ → PlaceFor
 unfolding found_from

@@ -1,8 +1,7 @@
 -- What is known of an id, a key and the whole, as the places of a session hold it: what is absent is 0.
-use Rattle.std.specs.Prelude.{ℕ, Bool, false, length}
-use Rattle.std.proofs.Math.Option.{Option, none, some}
+use Rattle.std.specs.Prelude.{ℕ, Bool, false, length, Option, None, Some, is_some}
 use Rattle.isdb_mmt.specs.Decoder.Packet.{Bytes}
-use Rattle.isdb_mmt.specs.Decoder.Maps.{is_some, or_else}
+use Rattle.isdb_mmt.specs.Decoder.Maps.{or_else}
 use Rattle.isdb_mmt.specs.Decoder.Objects.{Mfu, Asset}
 use Rattle.isdb_mmt.specs.Decoder.Reassembly.{PartialMessage}
 use Rattle.isdb_mmt.specs.Decoder.Kept.{Kept, KeptTables}
@@ -21,15 +20,15 @@ no_object =
     record { mpu_sequence_number = 0; rap = false; timed = false; header = no_header; item = false; item_id = 0; length = 0 }
 
 abbrev pub held_for : Option Mfu → Object
-held_for none = no_object
-held_for (some h) = object_for h
+held_for None = no_object
+held_for (Some h) = object_for h
 
 abbrev pub first_in : Option (ℕ × ℕ) → ℕ
-first_in none = 0
-first_in (some r) = r.0
+first_in None = 0
+first_in (Some r) = r.0
 
 unfoldable pub place_for_asset : ℕ → Asset → Media
-unfolding is_some or_else
+unfolding or_else
 place_for_asset id a =
     record {
       packet_id = id;
@@ -45,19 +44,19 @@ place_for_asset id a =
 
 -- the flags of the message that is being joined
 abbrev pub long_in : Option PartialMessage → Bool
-long_in none = false
-long_in (some j) = j.long
+long_in None = false
+long_in (Some j) = j.long
 
 abbrev pub aggregated_in : Option PartialMessage → Bool
-aggregated_in none = false
-aggregated_in (some j) = j.aggregated
+aggregated_in None = false
+aggregated_in (Some j) = j.aggregated
 
 abbrev pub table_length : Option Bytes → ℕ
-table_length none = 0
-table_length (some b) = length b
+table_length None = 0
+table_length (Some b) = length b
 
 unfoldable pub control_for : ℕ → ControlState → Control
-unfolding is_some or_else
+unfolding or_else
 control_for id c =
     record {
       packet_id = id;
@@ -75,7 +74,6 @@ abbrev pub section_for : ℕ → Kept → KeptSection
 section_for k x = record { key = k; version = x.version; length = length x.bytes }
 
 unfoldable pub latest_for : KeptTables → Latest
-unfolding is_some
 latest_for s =
     record {
       plt = is_some s.plt;

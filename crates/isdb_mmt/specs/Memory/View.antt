@@ -1,6 +1,5 @@
 -- The session as a state of the model: what its bytes say.
-use Rattle.std.specs.Prelude.{◌≡◌, ℕ, ◌+◌, ◌*◌, Bool, true, false}
-use Rattle.std.proofs.Math.Option.{Option, none, some}
+use Rattle.std.specs.Prelude.{◌≡◌, ℕ, ◌+◌, ◌*◌, Bool, true, false, None, Some, Option}
 use Rattle.isdb_mmt.specs.Decoder.Packet.{Bytes}
 use Rattle.isdb_mmt.specs.Decoder.Objects.{Mfu, Asset}
 use Rattle.isdb_mmt.specs.Decoder.Kept.{Kept}
@@ -10,11 +9,7 @@ use Rattle.isdb_mmt.specs.Memory.Session.{Session, limits_of, latest_of, time_of
 use Rattle.isdb_mmt.specs.Memory.Check.{media_in, controls_in, sections_in, lengths_of, sound}
 use Rattle.isdb_mmt.specs.Memory.Opening.{opened_session}
 use Rattle.isdb_mmt.specs.Memory.Limits.{asked}
-use Rattle.isdb_mmt.specs.declared.maybe.MaybeU32.{MaybeU32}
-use Rattle.isdb_mmt.specs.declared.maybe.MaybeU32.TheVariants.{None as no_u32, Some as some_u32}
 use Rattle.isdb_mmt.specs.declared.mpu.MfuHeader.{MfuHeader}
-use Rattle.isdb_mmt.specs.declared.mpu.MaybeMfu.{MaybeMfu}
-use Rattle.isdb_mmt.specs.declared.mpu.MaybeMfu.TheVariants.{None as no_mfu, Some as some_mfu}
 use Rattle.isdb_mmt.specs.declared.decoder.limits.Limits.{Limits}
 use Rattle.isdb_mmt.specs.declared.decoder.media.Object.{Object}
 use Rattle.isdb_mmt.specs.declared.decoder.media.Media.{Media}
@@ -23,16 +18,16 @@ use Rattle.isdb_mmt.specs.declared.decoder.section.KeptSection.{KeptSection}
 
 -- what a flag says is there
 abbrev pub given : {A : Type 0} → Bool → A → Option A
-given true a = some a
-given false a = none
+given true a = Some a
+given false a = None
 
-abbrev pub header_given : Bool → MfuHeader → MaybeMfu
-header_given true h = some_mfu h
-header_given false h = no_mfu
+abbrev pub header_given : Bool → MfuHeader → Option MfuHeader
+header_given true h = Some h
+header_given false h = None
 
-abbrev pub item_given : Bool → ℕ → MaybeU32
-item_given true i = some_u32 i
-item_given false i = no_u32
+abbrev pub item_given : Bool → ℕ → Option ℕ
+item_given true i = Some i
+item_given false i = None
 
 -- a held object with its bytes
 unfoldable pub mfu_of : Object → Bytes → Mfu

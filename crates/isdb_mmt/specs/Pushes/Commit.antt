@@ -1,11 +1,11 @@
 -- What a commit writes to the areas of the kept tables: of each place that is logged, its table out of the message. It decides nothing.
-use Rattle.std.specs.Prelude.{◌≡◌, ℕ, zero, suc, ◌+◌, ◌-◌, ◌*◌, ◌<◌, ◌≤◌, true, List, [], ◌∷◌, length, ◌≢◌, slice_index}
+use Rattle.std.specs.Prelude.{◌≡◌, ℕ, zero, suc, ◌+◌, ◌-◌, ◌*◌, ◌<◌, ◌≤◌, List, [], ◌∷◌, length, ◌≢◌, slice_index, Option, None, Some}
 use Rattle.isdb_tlv.specs.Guards.{◌=?◌}
 use Rattle.std.specs.Prelude.{if◌then◌else◌}
 use Rattle.isdb_mmt.specs.Memory.Layout.{most_sections, most_control_ids, most_table_area, state_size}
 use Rattle.isdb_mmt.specs.Decoder.Packet.{Bytes}
 use Rattle.isdb_mmt.specs.Memory.Lent.{part, over}
-use Rattle.isdb_mmt.specs.Pushes.TableOutcome.{index_size, place_at}
+use Rattle.isdb_mmt.specs.Pushes.TableOutcome.{index_size, place_at, recent_length}
 use Rattle.isdb_mmt.specs.Pushes.PendingTables.{Logged, logged}
 use Rattle.isdb_mmt.specs.declared.part.Part.{Part}
 use Rattle.isdb_mmt.specs.declared.decoder.head.Used.{Used}
@@ -30,9 +30,9 @@ AllFit area m [] = Unit {0}
 AllFit area m (e ∷ es) = EntryFits area m e × AllFit area m es
 
 -- a table that is logged, over the area that starts at `at`
-abbrev pub put_recent : ℕ → Recent → Bytes → Bytes → Bytes
-put_recent at r m t =
-    if r.there then (if r.from =? 0 then t else over at (part (r.from - 1) r.length m) t) else t
+abbrev pub put_recent : ℕ → Option Recent → Bytes → Bytes → Bytes
+put_recent at None m t = t
+put_recent at (Some r) m t = if r.from =? 0 then t else over at (part (r.from - 1) r.length m) t
 
 -- `n` places of an index with their log, from the place `i` on
 unfoldable pub logged_from : ℕ → ℕ → List ℕ → List ℕ → List Logged
@@ -51,9 +51,9 @@ pub record CanStoreOne (tables ix log : List ℕ) (i area : ℕ) (m : Bytes) : T
   pub room : (i + 1) * area ≤ length tables
   pub fits : EntryFits area m (logged (place_at ix i) (slice_index log i))
 
-pub record CanStoreRecent (tables : List ℕ) (r : Recent) (i area : ℕ) (m : Bytes) : Type 0 where
+pub record CanStoreRecent (tables : List ℕ) (r : Option Recent) (i area : ℕ) (m : Bytes) : Type 0 where
   pub room : (i + 1) * area ≤ length tables
-  pub small : r.there ≡ true → r.length ≤ area
+  pub small : recent_length r ≤ area
 
 -- a part of a message, to a place
 pub record CanPut (s : List ℕ) (at : ℕ) (m : Bytes) (p : Part) : Type 0 where
@@ -77,6 +77,6 @@ pub record CanStoreAreas (tables ix log : List ℕ) (g : WalkState) (l : Limits)
   pub few : l.sections + l.control_ids ≤ most_sections + most_control_ids
   pub area : l.table_area ≤ most_table_area
   pub place : i < l.control_ids
-  pub mpt : g.mpt.there ≡ true → g.mpt.length ≤ l.table_area
-  pub plt : g.plt.there ≡ true → g.plt.length ≤ l.table_area
-  pub tot : g.tot.there ≡ true → g.tot.length ≤ l.table_area
+  pub mpt : recent_length g.mpt ≤ l.table_area
+  pub plt : recent_length g.plt ≤ l.table_area
+  pub tot : recent_length g.tot ≤ l.table_area

@@ -1,19 +1,16 @@
 -- What a message packet does to the place of its id, by the place, the packet's number and its payload alone. One law says that it
 -- is what the model does (proofs/Fragments).
-use Rattle.std.specs.Prelude.{ℕ, ◌+◌, ◌-◌, ◌≤◌, Bool, true, false, not, ◌++◌, length, drop, slice_index}
-use Rattle.std.proofs.Math.Option.{Option, none, some}
+use Rattle.std.specs.Prelude.{ℕ, ◌+◌, ◌-◌, ◌≤◌, Bool, true, false, not, ◌++◌, length, drop, slice_index, Option, None, Some, is_some}
 use Rattle.isdb_tlv.specs.Guards.{◌<?◌}
 use Rattle.std.specs.Prelude.{if◌then◌else◌}
 use Rattle.isdb_mmt.specs.Decoder.Packet.{Bytes}
-use Rattle.isdb_mmt.specs.Decoder.Maps.{is_some, one}
+use Rattle.isdb_mmt.specs.Decoder.Maps.{one}
 use Rattle.isdb_mmt.specs.Formats.Message.{fragment_of}
 use Rattle.isdb_mmt.specs.Decoder.Reassembly.{PartialMessage, most_message}
 use Rattle.isdb_mmt.specs.Decoder.Kept.{with_packet_counts}
-use Rattle.isdb_mmt.specs.Decoder.Needs.{partial_length}
 use Rattle.isdb_mmt.specs.Memory.Lent.{over}
 use Rattle.isdb_mmt.specs.Memory.Layout.{most_count}
 use Rattle.isdb_mmt.specs.Pushes.MediaPlace.{gap_after}
-use Rattle.isdb_mmt.specs.Memory.PlacesOf.{long_in, aggregated_in}
 use Rattle.isdb_mmt.specs.declared.message.Division.{Division}
 use Rattle.isdb_mmt.specs.declared.message.Division.TheVariants.{Undivided as undivided, First as first, Middle as middle, Last as last}
 use Rattle.isdb_mmt.specs.declared.message.Fragment.{Fragment}
@@ -55,38 +52,49 @@ fragment_outcome c n b = if length b <? 2 then Short else by_division (flags_in 
 -- ---- what is joined after it
 
 abbrev pub joined_with : Bool → Bool → ℕ → Joined
-joined_with long aggregated n = record { joining = true; long_length = long; aggregated = aggregated; length = n }
+joined_with long aggregated n = record { long_length = long; aggregated = aggregated; length = n }
 
-abbrev pub none_joined : Joined
-none_joined = record { joining = false; long_length = false; aggregated = false; length = 0 }
+abbrev pub joined_still : Control → Option Joined
+joined_still c = if c.joining then Some (joined_with c.long_length c.aggregated c.length) else None
 
-abbrev pub joined_still : Control → Joined
-joined_still c = if c.joining then joined_with c.long_length c.aggregated c.length else none_joined
-
-unfoldable pub joined_by : FragmentOutcome → Control → Bytes → Joined
+unfoldable pub joined_by : FragmentOutcome → Control → Bytes → Option Joined
 joined_by Short c b = joined_still c
-joined_by Undivided c b = none_joined
-joined_by First c b = joined_with (flags_in b).long_length (flags_in b).aggregated (length b - 2)
-joined_by Orphan c b = none_joined
-joined_by Oversize c b = none_joined
-joined_by Grown c b = joined_with c.long_length c.aggregated (grown_length c b)
-joined_by Whole c b = none_joined
+joined_by Undivided c b = None
+joined_by First c b = Some (joined_with (flags_in b).long_length (flags_in b).aggregated (length b - 2))
+joined_by Orphan c b = None
+joined_by Oversize c b = None
+joined_by Grown c b = Some (joined_with c.long_length c.aggregated (grown_length c b))
+joined_by Whole c b = None
 
--- the model's, as a place holds it
-abbrev pub joined_as : Option PartialMessage → Joined
-joined_as o = record { joining = is_some o; long_length = long_in o; aggregated = aggregated_in o; length = partial_length o }
+-- the model's
+abbrev pub joined_as : Option PartialMessage → Option Joined
+joined_as None = None
+joined_as (Some m) = Some (joined_with m.long m.aggregated (length m.bytes))
+
+-- as a place holds it: without one, its flags are down and its length is 0
+abbrev pub joined_long : Option Joined → Bool
+joined_long None = false
+joined_long (Some j) = j.long_length
+
+abbrev pub joined_aggregated : Option Joined → Bool
+joined_aggregated None = false
+joined_aggregated (Some j) = j.aggregated
+
+abbrev pub joined_length : Option Joined → ℕ
+joined_length None = 0
+joined_length (Some j) = j.length
 
 -- the place after, with the MPT that is kept then
-abbrev pub control_with : ℕ → ℕ → Joined → Bool → ℕ → Control
+abbrev pub control_with : ℕ → ℕ → Option Joined → Bool → ℕ → Control
 control_with id n j mpt size =
     record {
       packet_id = id;
       seen = true;
       sequence = n;
-      joining = j.joining;
-      long_length = j.long_length;
-      aggregated = j.aggregated;
-      length = j.length;
+      joining = is_some j;
+      long_length = joined_long j;
+      aggregated = joined_aggregated j;
+      length = joined_length j;
       mpt = mpt;
       mpt_length = size;
     }
@@ -115,13 +123,13 @@ area_by Whole c b = grown_length c b
 
 -- the message that is whole with it, where `m` is what was joined before
 unfoldable pub whole_by_of : FragmentOutcome → Control → Bytes → Bytes → Option PartialMessage
-whole_by_of Short c m b = none
-whole_by_of Undivided c m b = some (record { long = (flags_in b).long_length; aggregated = (flags_in b).aggregated; bytes = drop 2 b })
-whole_by_of First c m b = none
-whole_by_of Orphan c m b = none
-whole_by_of Oversize c m b = none
-whole_by_of Grown c m b = none
-whole_by_of Whole c m b = some (record { long = c.long_length; aggregated = c.aggregated; bytes = m ++ drop 2 b })
+whole_by_of Short c m b = None
+whole_by_of Undivided c m b = Some (record { long = (flags_in b).long_length; aggregated = (flags_in b).aggregated; bytes = drop 2 b })
+whole_by_of First c m b = None
+whole_by_of Orphan c m b = None
+whole_by_of Oversize c m b = None
+whole_by_of Grown c m b = None
+whole_by_of Whole c m b = Some (record { long = c.long_length; aggregated = c.aggregated; bytes = m ++ drop 2 b })
 
 abbrev pub completes : FragmentOutcome → Bool
 completes Short = false

@@ -1,9 +1,7 @@
 -- Whole units given out as records, one behind the other.
-use Rattle.std.specs.Prelude.{◌≡◌, ℕ, ◌*◌, ◌≤◌, Bool, true, false, List, [], map, length}
-use Rattle.std.proofs.Math.Option.{Option, none, some}
+use Rattle.std.specs.Prelude.{◌≡◌, ℕ, ◌*◌, ◌≤◌, Bool, true, false, List, [], map, length, Option, None, Some, is_some}
 use Rattle.isdb_mmt.specs.Formats.Part.{part_of}
 use Rattle.isdb_mmt.specs.Decoder.Packet.{Bytes}
-use Rattle.isdb_mmt.specs.Decoder.Maps.{is_some}
 use Rattle.isdb_mmt.specs.Formats.Mpu.{units_of}
 use Rattle.isdb_mmt.specs.Decoder.Objects.{Rec}
 use Rattle.isdb_mmt.specs.Decoder.Needs.{data_of}
@@ -20,8 +18,8 @@ unit_rec id mpu rap q u =
     }
 
 unfoldable pub unit_recs : ℕ → ℕ → Bool → Bytes → Option (List DataUnit) → List Rec
-unit_recs id mpu rap q none = []
-unit_recs id mpu rap q (some us) = map (unit_rec id mpu rap q) us
+unit_recs id mpu rap q None = []
+unit_recs id mpu rap q (Some us) = map (unit_rec id mpu rap q) us
 
 -- the units are whole, and there is room for their records
 pub record Outputs (q : Bytes) (timed aggregated : Bool) (id mpu : ℕ) (rap : Bool) (rows given : Bytes) : Type 0 where

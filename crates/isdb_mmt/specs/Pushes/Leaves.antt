@@ -1,8 +1,7 @@
 -- What an accepted packet leaves in the lent bytes: the model's next state, laid out. Of the state, the places of the packet's own
 -- id, the kept sections, how many places are in use, PLT and TOT, the time and the counters; of the areas, what the next state
 -- holds, joins and keeps. What it keeps from before lies there already.
-use Rattle.std.specs.Prelude.{ℕ, ◌+◌, ◌*◌, true, List, [], ◌∷◌, ◌++◌, length}
-use Rattle.std.proofs.Math.Option.{Option, none, some}
+use Rattle.std.specs.Prelude.{ℕ, ◌+◌, ◌*◌, true, List, [], ◌∷◌, ◌++◌, length, Option, None, Some}
 use Rattle.isdb_tlv.specs.Fields.{written}
 use Rattle.isdb_mmt.specs.declared.decoder.counts.Counters.{Counters}
 use Rattle.isdb_mmt.specs.Decoder.Packet.{Bytes, MessagePacket, Packet, ip_error, ntp, non_mmtp_of, media, message, control, other}
@@ -25,8 +24,8 @@ use Rattle.isdb_mmt.specs.declared.decoder.section.KeptSection.{KeptSection}
 -- ---- places
 
 abbrev pub joined_in : Option PartialMessage → Option Bytes
-joined_in none = none
-joined_in (some j) = some j.bytes
+joined_in None = None
+joined_in (Some j) = Some j.bytes
 
 abbrev pub kept_place : ℕ × Kept → KeptSection
 kept_place e = section_for e.0 e.1
@@ -53,8 +52,8 @@ abbrev pub with_latest : KeptTables → List ℕ → List ℕ
 with_latest s l = over latest_place (written (latest_fields (latest_for s))) l
 
 abbrev pub with_time : Option ℕ → List ℕ → List ℕ
-with_time none l = l
-with_time (some t) l = over time_place (written (time_fields (record { seen = true; timestamp = t }))) l
+with_time None l = l
+with_time (Some t) l = over time_place (written (time_fields (record { seen = true; timestamp = t }))) l
 
 abbrev pub with_counters : Counters → List ℕ → List ℕ
 with_counters c l = over counters_place (written (counters_fields c)) l
@@ -66,8 +65,8 @@ state_of_tables n l = with_counters n.counters (with_sections n.store.kept (with
 -- ---- the areas
 
 abbrev pub bytes_over : ℕ → Option Bytes → Bytes → Bytes
-bytes_over at none l = l
-bytes_over at (some b) l = over at b l
+bytes_over at None l = l
+bytes_over at (Some b) l = over at b l
 
 -- kept sections, the first in the area `i`
 unfoldable pub kept_over : ℕ → ℕ → List (ℕ × Kept) → Bytes → Bytes

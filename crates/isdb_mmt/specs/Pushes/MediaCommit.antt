@@ -1,14 +1,13 @@
 -- How a media packet is answered and committed, by its place and its outcome. Laws say that this is what the model needs, leaves
 -- and gives out (proofs/MediaPushes).
-use Rattle.std.specs.Prelude.{◌≡◌, ℕ, ◌+◌, ◌-◌, ◌*◌, ◌<◌, ◌≤◌, Bool, true, false, ◌&&◌, List, [], ◌∷◌, ◌++◌, length}
-use Rattle.std.proofs.Math.Option.{Option, none, some}
+use Rattle.std.specs.Prelude.{◌≡◌, ℕ, ◌+◌, ◌-◌, ◌*◌, ◌<◌, ◌≤◌, Bool, true, false, ◌&&◌, List, [], ◌∷◌, ◌++◌, length, None, Some, Option, is_some}
 use Rattle.isdb_tlv.specs.Guards.{◌<?◌, ◌=?◌}
 use Rattle.std.specs.Prelude.{if◌then◌else◌}
 use Rattle.isdb_tlv.specs.Fields.{written}
 use Rattle.isdb_tlv.specs.declared.mmtp.Header.{Header}
 use Rattle.isdb_mmt.specs.Formats.Part.{part_of, part_at}
 use Rattle.isdb_mmt.specs.Decoder.Packet.{Bytes, media_of}
-use Rattle.isdb_mmt.specs.Decoder.Maps.{one, is_some}
+use Rattle.isdb_mmt.specs.Decoder.Maps.{one}
 use Rattle.isdb_mmt.specs.Formats.Mpu.{units_of}
 use Rattle.isdb_mmt.specs.Decoder.Objects.{no_stats, Asset, Rec, asset_after, media_gives}
 use Rattle.isdb_mmt.specs.Decoder.Needs.{data_of}
@@ -21,11 +20,7 @@ use Rattle.isdb_mmt.specs.Pushes.Records.{row_size, row_fields, rows_from, data_
 use Rattle.isdb_mmt.specs.Pushes.MediaPush.{no_object, held_over, one_more_of, with_used, with_packets}
 use Rattle.isdb_mmt.specs.Pushes.MediaPlace.{place_after_of, StatsWithin}
 use Rattle.isdb_mmt.specs.Pushes.MediaOutcome.{media_outcome, CanReadUnits}
-use Rattle.isdb_mmt.specs.declared.maybe.MaybeU32.TheVariants.{None as no_u32}
-use Rattle.isdb_mmt.specs.declared.mpu.MaybeMfu.TheVariants.{None as no_mfu}
 use Rattle.isdb_mmt.specs.declared.mpu.PayloadHeader.{PayloadHeader}
-use Rattle.isdb_mmt.specs.declared.mpu.MaybeHeader.{MaybeHeader}
-use Rattle.isdb_mmt.specs.declared.mpu.MaybeHeader.TheVariants.{None as no_payload, Some as payload}
 use Rattle.isdb_mmt.specs.declared.mpu.Unit.{Unit as DataUnit}
 use Rattle.isdb_mmt.specs.declared.decoder.place.PlaceFor.{PlaceFor}
 use Rattle.isdb_mmt.specs.declared.decoder.place.PlaceFor.TheVariants.{Own, Free, NoneFree}
@@ -69,9 +64,9 @@ index_of NoneFree = 0
 -- ---- the answer
 
 -- whether the payload is passed on, scrambled as it is
-unfoldable pub passes_on : Bool → Bool → MaybeHeader → Bool
-passes_on pass scrambled no_payload = false
-passes_on pass scrambled (payload h) = pass && scrambled
+unfoldable pub passes_on : Bool → Bool → Option PayloadHeader → Bool
+passes_on pass scrambled None = false
+passes_on pass scrambled (Some h) = pass && scrambled
 
 -- records and data bytes: a payload passed on is one record, of all but its first 8 bytes
 abbrev pub records_handed : Bool → MediaEffect → ℕ
@@ -134,8 +129,8 @@ data_in q (u ∷ us) = part_of q u.«data» ++ data_in q us
 
 unfoldable pub units_data : Bytes → Option (List DataUnit) → Bytes
 unfolding data_in
-units_data q none = []
-units_data q (some us) = data_in q us
+units_data q None = []
+units_data q (Some us) = data_in q us
 
 pub record CanAppend (q : Bytes) (timed aggregated : Bool) (from : ℕ) (l : Bytes) : Type 0 where
   pub long : length q ≤ 65537
@@ -163,7 +158,7 @@ pub record CanCommit (at : ℕ) (pass : Bool) (p : Media) (r : MediaOutcome) (h 
 -- of a payload with the header x, whose units are taken
 pub record CanTake (x : PayloadHeader) (at : ℕ) (p : Media) (r : MediaOutcome) (h : Header) (b objects rows given : Bytes) : Type 0 where
   pub can : CanCommit at false p r h b objects rows given
-  pub header : r.header ≡ payload x
+  pub header : r.header ≡ Some x
   pub taken : r.taken ≡ true
 
 pub record Committed (at : ℕ) (pass : Bool) (p : Media) (h : Header) (b objects rows given objects' rows' given' : Bytes) : Type 0 where
@@ -178,7 +173,7 @@ pub record CanEnd (at : ℕ) (p : Media) (t : MediaEffect) (q objects rows given
 
 -- a payload passed on
 abbrev pub passed_unit : ℕ → DataUnit
-passed_unit n = record { mfu = no_mfu; item_id = no_u32; «data» = part_at 8 (n - 8) }
+passed_unit n = record { mfu = None; item_id = None; «data» = part_at 8 (n - 8) }
 
 pub record CanPass (b rows given : Bytes) : Type 0 where
   pub long : length b ≤ 65535

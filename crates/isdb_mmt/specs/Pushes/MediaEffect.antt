@@ -1,14 +1,12 @@
 -- What a media packet does to its place, by the place and the lengths of the units alone. One law each says that it is what the
 -- model does (proofs/MediaEffects).
-use Rattle.std.specs.Prelude.{ℕ, ◌+◌, ◌<◌, ◌≤◌, max, Bool, true, false, not, List, [], ◌∷◌, length}
-use Rattle.std.proofs.Math.Option.{Option, none, some}
+use Rattle.std.specs.Prelude.{ℕ, ◌+◌, ◌<◌, ◌≤◌, max, Bool, true, false, List, [], ◌∷◌, length, None, Some, Option, is_some, unwrap_or}
 use Rattle.isdb_tlv.specs.Guards.{◌≤?◌}
 use Rattle.std.specs.Prelude.{if◌then◌else◌}
 use Rattle.isdb_mmt.specs.Formats.Part.{part_of}
 use Rattle.isdb_mmt.specs.Decoder.Maps.{one}
 use Rattle.isdb_mmt.specs.Decoder.Objects.{most_object}
-use Rattle.isdb_mmt.specs.Formats.Maybe.{has_u32, number_u32}
-use Rattle.isdb_mmt.specs.Formats.Mpu.{has_header, header_or}
+use Rattle.isdb_mmt.specs.Formats.Mpu.{header_or}
 use Rattle.isdb_mmt.specs.Pushes.MediaPush.{no_object}
 use Rattle.isdb_mmt.specs.declared.part.Part.{Part}
 use Rattle.isdb_mmt.specs.declared.mpu.FragmentationIndicator.{FragmentationIndicator}
@@ -16,8 +14,6 @@ use Rattle.isdb_mmt.specs.declared.mpu.FragmentationIndicator.TheVariants.{Compl
 use Rattle.isdb_mmt.specs.declared.mpu.Unit.{Unit as DataUnit}
 use Rattle.isdb_mmt.specs.declared.decoder.media.Object.{Object}
 use Rattle.isdb_mmt.specs.declared.decoder.reassembler.MediaEffect.{MediaEffect}
-use Rattle.isdb_mmt.specs.declared.decoder.reassembler.UnitsEffect.{UnitsEffect}
-use Rattle.isdb_mmt.specs.declared.decoder.reassembler.UnitsEffect.TheVariants.{Malformed, Units}
 
 -- ---- units
 
@@ -26,10 +22,10 @@ unit_object mpu rap u n =
     record {
       mpu_sequence_number = mpu;
       rap = rap;
-      timed = has_header u.mfu;
+      timed = is_some u.mfu;
       header = header_or u.mfu;
-      item = has_u32 u.item_id;
-      item_id = number_u32 u.item_id;
+      item = is_some u.item_id;
+      item_id = unwrap_or u.item_id 0;
       length = n;
     }
 
@@ -45,13 +41,16 @@ with_length n o =
       length = n;
     }
 
+-- the object that is held, the empty one where none is
+abbrev pub object_or : Option Object → Object
+object_or o = unwrap_or o no_object
+
 -- a whole unit of n bytes of data, at p
 unfoldable pub complete_unit : MediaEffect → Part → ℕ → MediaEffect
 complete_unit t p n =
     record {
-      held = false;
-      object = no_object;
-      drops = t.drops + one t.held;
+      object = None;
+      drops = t.drops + one (is_some t.object);
       records = t.records + 1;
       bytes = t.bytes + n;
       longest = t.longest;
@@ -61,9 +60,8 @@ complete_unit t p n =
 unfoldable pub head_unit : MediaEffect → Object → Part → ℕ → MediaEffect
 head_unit t o p n =
     record {
-      held = true;
-      object = o;
-      drops = t.drops + one t.held;
+      object = Some o;
+      drops = t.drops + one (is_some t.object);
       records = t.records;
       bytes = t.bytes;
       longest = max t.longest n;
@@ -73,8 +71,7 @@ head_unit t o p n =
 unfoldable pub dropped_unit : MediaEffect → Part → MediaEffect
 dropped_unit t p =
     record {
-      held = false;
-      object = no_object;
+      object = None;
       drops = t.drops + 1;
       records = t.records;
       bytes = t.bytes;
@@ -83,21 +80,19 @@ dropped_unit t p =
     }
 
 -- the object has n bytes with this unit, and may end with it
-unfoldable pub grown_to : Bool → MediaEffect → Part → ℕ → MediaEffect
-grown_to true t p n =
+unfoldable pub grown_to : Bool → Object → MediaEffect → Part → ℕ → MediaEffect
+grown_to true o t p n =
     record {
-      held = false;
-      object = no_object;
+      object = None;
       drops = t.drops;
       records = t.records + 1;
       bytes = t.bytes + n;
       longest = max t.longest n;
       last = p;
     }
-grown_to false t p n =
+grown_to false o t p n =
     record {
-      held = true;
-      object = with_length n t.object;
+      object = Some (with_length n o);
       drops = t.drops;
       records = t.records;
       bytes = t.bytes;
@@ -105,11 +100,13 @@ grown_to false t p n =
       last = p;
     }
 
+abbrev pub grown_by : Bool → MediaEffect → Part → ℕ → Option Object → MediaEffect
+grown_by ends t p n None = t
+grown_by ends t p n (Some o) =
+    if o.length + n ≤? most_object then grown_to ends o t p (o.length + n) else dropped_unit t p
+
 unfoldable pub grown_unit : Bool → MediaEffect → Part → ℕ → MediaEffect
-grown_unit ends t p n =
-    if not t.held then t
-    else if t.object.length + n ≤? most_object then grown_to ends t p (t.object.length + n)
-    else dropped_unit t p
+grown_unit ends t p n = grown_by ends t p n t.object
 
 unfoldable pub with_unit : FragmentationIndicator → ℕ → Bool → MediaEffect → DataUnit → ℕ → MediaEffect
 with_unit Complete mpu rap t u n = complete_unit t u.«data» n
@@ -122,15 +119,15 @@ module _ (f : FragmentationIndicator) (mpu : ℕ) (rap : Bool) (q : List ℕ) wh
   with_each_unit t [] = t
   with_each_unit t (u ∷ us) = with_each_unit (with_unit f mpu rap t u (length (part_of q u.«data»))) us
 
-  unfoldable pub units_effect : MediaEffect → Option (List DataUnit) → UnitsEffect
-  units_effect t none = Malformed
-  units_effect t (some us) = Units (with_each_unit t us)
+  unfoldable pub units_effect : MediaEffect → Option (List DataUnit) → Option MediaEffect
+  units_effect t None = None
+  units_effect t (Some us) = Some (with_each_unit t us)
 
 -- what a walk can carry: nothing overflows, `at` bytes behind its start
 pub record Roomy (t : MediaEffect) (at : ℕ) : Type 0 where
-  pub drops : t.drops + one t.held ≤ at + 2
+  pub drops : t.drops + one (is_some t.object) ≤ at + 2
   pub records : t.records ≤ at
-  pub bytes : t.bytes + t.object.length ≤ at + 4294967296
+  pub bytes : t.bytes + (object_or t.object).length ≤ at + 4294967296
 
 -- so is one unit more
 pub record Light (t : MediaEffect) (n : ℕ) : Type 0 where

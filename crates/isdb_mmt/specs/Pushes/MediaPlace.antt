@@ -1,15 +1,14 @@
 -- What a media packet makes of its place, from the place, the packet's number and header, and the effect of its units.
-use Rattle.std.specs.Prelude.{ℕ, ◌+◌, ◌≤◌, Bool, true, false, not, ◌&&◌}
+use Rattle.isdb_mmt.specs.declared.mpu.PayloadHeader.{PayloadHeader}
+use Rattle.std.specs.Prelude.{ℕ, ◌+◌, ◌≤◌, Bool, true, false, not, ◌&&◌, None, Option, Some, is_some}
 use Rattle.isdb_tlv.specs.Guards.{◌=?◌}
 use Rattle.std.specs.Prelude.{if◌then◌else◌}
 use Rattle.isdb_mmt.specs.Formats.Part.{part_at}
 use Rattle.isdb_mmt.specs.Decoder.Maps.{one}
 use Rattle.isdb_mmt.specs.Formats.Mpu.{follows, lost_from, completes_of}
 use Rattle.isdb_mmt.specs.Formats.Mpu.{no_header}
-use Rattle.isdb_mmt.specs.Pushes.MediaPush.{no_object}
+use Rattle.isdb_mmt.specs.Pushes.MediaEffect.{object_or}
 use Rattle.isdb_mmt.specs.declared.mpu.MfuHeader.{MfuHeader}
-use Rattle.isdb_mmt.specs.declared.mpu.MaybeHeader.{MaybeHeader}
-use Rattle.isdb_mmt.specs.declared.mpu.MaybeHeader.TheVariants.{None as no_payload, Some as payload}
 use Rattle.isdb_mmt.specs.declared.decoder.counts.AssetStats.{AssetStats}
 use Rattle.isdb_mmt.specs.declared.decoder.media.Object.{Object}
 use Rattle.isdb_mmt.specs.declared.decoder.media.Media.{Media}
@@ -45,45 +44,45 @@ normal_object o =
     }
 
 -- before the units: a gap drops the held object
-abbrev pub begun : Bool → Object → ℕ → MediaEffect
-begun held o drops = record { held = held; object = o; drops = drops; records = 0; bytes = 0; longest = 0; last = part_at 0 0 }
+abbrev pub begun : Option Object → ℕ → MediaEffect
+begun o drops = record { object = o; drops = drops; records = 0; bytes = 0; longest = 0; last = part_at 0 0 }
 
 unfoldable pub start_of : Media → ℕ → MediaEffect
 start_of p n =
-    if not p.held then begun false no_object 0
-    else if gap_in p n then begun false no_object 1
-    else begun true (normal_object p.object) 0
+    if not p.held then begun None 0
+    else if gap_in p n then begun None 1
+    else begun (Some (normal_object p.object)) 0
 
 -- the MPU number
-unfoldable pub new_in : Media → MaybeHeader → Bool
-new_in p no_payload = false
-new_in p (payload h) = if p.mpu_seen then not (h.mpu_sequence_number =? p.mpu) else true
+unfoldable pub new_in : Media → Option PayloadHeader → Bool
+new_in p None = false
+new_in p (Some h) = if p.mpu_seen then not (h.mpu_sequence_number =? p.mpu) else true
 
-unfoldable pub jump_in : Media → MaybeHeader → Bool
-jump_in p no_payload = false
-jump_in p (payload h) =
+unfoldable pub jump_in : Media → Option PayloadHeader → Bool
+jump_in p None = false
+jump_in p (Some h) =
     if not p.mpu_seen then false
     else if h.mpu_sequence_number =? p.mpu then false
     else not (follows p.mpu h.mpu_sequence_number)
 
-abbrev pub seen_mpu : Media → MaybeHeader → Bool
-seen_mpu p no_payload = p.mpu_seen
-seen_mpu p (payload h) = true
+abbrev pub seen_mpu : Media → Option PayloadHeader → Bool
+seen_mpu p None = p.mpu_seen
+seen_mpu p (Some h) = true
 
-abbrev pub last_mpu : Media → MaybeHeader → ℕ
-last_mpu p no_payload = item_if p.mpu_seen p.mpu
-last_mpu p (payload h) = h.mpu_sequence_number
+abbrev pub last_mpu : Media → Option PayloadHeader → ℕ
+last_mpu p None = item_if p.mpu_seen p.mpu
+last_mpu p (Some h) = h.mpu_sequence_number
 
-unfoldable pub first_mpu_of : Media → MaybeHeader → ℕ
-first_mpu_of p no_payload = item_if p.mpu_seen p.first_mpu
-first_mpu_of p (payload h) = if p.mpu_seen then p.first_mpu else h.mpu_sequence_number
+unfoldable pub first_mpu_of : Media → Option PayloadHeader → ℕ
+first_mpu_of p None = item_if p.mpu_seen p.first_mpu
+first_mpu_of p (Some h) = if p.mpu_seen then p.first_mpu else h.mpu_sequence_number
 
-abbrev pub completes_in : MaybeHeader → Bool
-completes_in no_payload = false
-completes_in (payload h) = completes_of h.fragmentation
+abbrev pub completes_in : Option PayloadHeader → Bool
+completes_in None = false
+completes_in (Some h) = completes_of h.fragmentation
 
 -- the counts: what a packet adds, and the sums
-unfoldable pub adds_of : Media → ℕ → Bool → MaybeHeader → Bool → MediaEffect → AssetStats
+unfoldable pub adds_of : Media → ℕ → Bool → Option PayloadHeader → Bool → MediaEffect → AssetStats
 adds_of p n scrambled h bad t =
     record {
       packets = 1;
@@ -111,11 +110,11 @@ summed s d =
       malformed = s.malformed + d.malformed;
     }
 
-unfoldable pub stats_after : Media → ℕ → Bool → MaybeHeader → Bool → MediaEffect → AssetStats
+unfoldable pub stats_after : Media → ℕ → Bool → Option PayloadHeader → Bool → MediaEffect → AssetStats
 unfolding summed adds_of
 stats_after p n scrambled h bad t = summed p.stats (adds_of p n scrambled h bad t)
 
-unfoldable pub place_after_of : ℕ → Media → ℕ → Bool → MaybeHeader → Bool → MediaEffect → Media
+unfoldable pub place_after_of : ℕ → Media → ℕ → Bool → Option PayloadHeader → Bool → MediaEffect → Media
 place_after_of id p n scrambled h bad t =
     record {
       packet_id = id;
@@ -124,8 +123,8 @@ place_after_of id p n scrambled h bad t =
       mpu_seen = seen_mpu p h;
       mpu = last_mpu p h;
       first_mpu = first_mpu_of p h;
-      held = t.held;
-      object = t.object;
+      held = is_some t.object;
+      object = object_or t.object;
       stats = stats_after p n scrambled h bad t;
     }
 

@@ -1,7 +1,6 @@
 -- What a media packet asks for, leaves in the lent bytes and hands out. All of it is the model's, laid out in bytes: of the
 -- state the packet's own place, the number of places in use where it takes one, and the count of packets; of the objects its area.
-use Rattle.std.specs.Prelude.{◌≡◌, ℕ, ◌+◌, ◌*◌, List, [], ◌∷◌, length, ◌≢◌}
-use Rattle.std.proofs.Math.Option.{Option, none, some}
+use Rattle.std.specs.Prelude.{◌≡◌, ℕ, ◌+◌, ◌*◌, List, [], ◌∷◌, length, ◌≢◌, Option, None, Some}
 use Rattle.isdb_tlv.specs.Guards.{◌<?◌}
 use Rattle.std.specs.Prelude.{if◌then◌else◌}
 use Rattle.isdb_tlv.specs.Fields.{field, written}
@@ -24,8 +23,8 @@ use Rattle.isdb_mmt.specs.declared.decoder.limits.Limits.{Limits}
 -- ---- what is left
 
 abbrev pub held_over : ℕ → Option Mfu → List ℕ → List ℕ
-held_over at none l = l
-held_over at (some h) l = over at h.bytes l
+held_over at None l = l
+held_over at (Some h) l = over at h.bytes l
 
 abbrev pub with_place : ℕ → ℕ → Asset → List ℕ → List ℕ
 with_place i id a l = over (media_places + media_size * i) (written (media_fields (place_for_asset id a))) l

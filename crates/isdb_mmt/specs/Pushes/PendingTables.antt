@@ -1,13 +1,11 @@
 -- The walk on copies: an index with a log, and what one table makes of them. Its memory is not limited here.
-use Rattle.std.specs.Prelude.{◌≡◌, ℕ, ◌+◌, ◌-◌, ◌*◌, ◌<◌, ◌≤◌, max, Bool, true, false, List, [], ◌∷◌, ◌++◌, map, length, slice_index, slice_set}
-use Rattle.std.proofs.Math.Option.{Option, none, some}
+use Rattle.std.specs.Prelude.{◌≡◌, ℕ, ◌+◌, ◌-◌, ◌*◌, ◌<◌, ◌≤◌, max, Bool, true, false, List, [], ◌∷◌, ◌++◌, map, length, slice_index, slice_set, Option, None, Some}
 use Rattle.isdb_tlv.specs.Guards.{◌<?◌, ◌=?◌}
 use Rattle.std.specs.Prelude.{if◌then◌else◌}
 use Rattle.isdb_mmt.specs.declared.decoder.counts.Counters.{Counters}
 use Rattle.isdb_mmt.specs.Memory.Layout.{most_sections, most_message_area, most_table_area, most_count, table_ids}
 use Rattle.isdb_mmt.specs.Decoder.Packet.{Bytes}
 use Rattle.isdb_mmt.specs.Memory.Lent.{part, indexed}
-use Rattle.isdb_mmt.specs.Memory.View.{given}
 use Rattle.isdb_mmt.specs.Decoder.Kept.{Kept, Table, a_section, section_of, with_table_counts}
 use Rattle.isdb_mmt.specs.declared.part.Part.{Part}
 use Rattle.isdb_mmt.specs.declared.decoder.section.KeptSection.{KeptSection}
@@ -45,9 +43,9 @@ pub record PendingTables : Type 0 where
   pub malformed : ℕ
   pub changes : ℕ
   pub breaks : ℕ
-  pub mpt : Recent
-  pub plt : Recent
-  pub tot : Recent
+  pub mpt : Option Recent
+  pub plt : Option Recent
+  pub tot : Option Recent
   pub longest : ℕ
 
 abbrev pub pending_of : List ℕ → List ℕ → List ℕ → WalkState → PendingTables
@@ -66,8 +64,8 @@ pending_of ix log others g =
       longest = g.longest;
     }
 
-abbrev pub recent : ℕ → ℕ → ℕ → Recent
-recent v f n = record { there = true; version = v; from = f; length = n }
+abbrev pub recent : ℕ → ℕ → ℕ → Option Recent
+recent v f n = Some (record { version = v; from = f; length = n })
 
 abbrev pub put_at : List Logged → ℕ → Logged → List Logged
 put_at es i e = if i <? length es then slice_set es i e else es ++ (e ∷ [])
@@ -88,7 +86,7 @@ others_after l (Plt v n) = l
 others_after l (Tot n) = l
 others_after l (Put i x) = l
 
-abbrev pub mpt_after : Recent → TableAction → ℕ → Recent
+abbrev pub mpt_after : Option Recent → TableAction → ℕ → Option Recent
 mpt_after r Nothing f = r
 mpt_after r (Other id) f = r
 mpt_after r (Mpt v n) f = recent v f n
@@ -96,7 +94,7 @@ mpt_after r (Plt v n) f = r
 mpt_after r (Tot n) f = r
 mpt_after r (Put i x) f = r
 
-abbrev pub plt_after : Recent → TableAction → ℕ → Recent
+abbrev pub plt_after : Option Recent → TableAction → ℕ → Option Recent
 plt_after r Nothing f = r
 plt_after r (Other id) f = r
 plt_after r (Mpt v n) f = r
@@ -104,7 +102,7 @@ plt_after r (Plt v n) f = recent v f n
 plt_after r (Tot n) f = r
 plt_after r (Put i x) f = r
 
-abbrev pub tot_after : Recent → TableAction → ℕ → Recent
+abbrev pub tot_after : Option Recent → TableAction → ℕ → Option Recent
 tot_after r Nothing f = r
 tot_after r (Other id) f = r
 tot_after r (Mpt v n) f = r
@@ -163,8 +161,9 @@ committed_entry m areas area i e = (
 abbrev pub committed_kept : Bytes → Bytes → ℕ → List Logged → List (ℕ × Kept)
 committed_kept m areas area es = indexed (committed_entry m areas area) 0 es
 
-abbrev pub committed_recent : Bytes → Bytes → ℕ → Recent → Option Bytes
-committed_recent m areas at r = given r.there (bytes_at m areas at r.from r.length)
+abbrev pub committed_recent : Bytes → Bytes → ℕ → Option Recent → Option Bytes
+committed_recent m areas at None = None
+committed_recent m areas at (Some r) = Some (bytes_at m areas at r.from r.length)
 
 -- where the areas of the MPT, the PLT and the TOT start
 pub record Areas : Type 0 where
@@ -193,9 +192,11 @@ committed m a c d =
     }
 
 -- the versions of the MPT and the PLT are those of their bytes
-abbrev pub VersionOf : Option Bytes → Recent → Type 0
-VersionOf none r = r.there ≡ false
-VersionOf (some b) r = (r.there ≡ true) × (r.version ≡ slice_index b 1)
+abbrev pub VersionOf : Option Bytes → Option Recent → Type 0
+VersionOf None None = Unit {0}
+VersionOf None (Some r) = ⊥
+VersionOf (Some b) None = ⊥
+VersionOf (Some b) (Some r) = r.version ≡ slice_index b 1
 
 pub record Versions (m : Bytes) (a : Areas) (d : PendingTables) : Type 0 where
   pub mpt : VersionOf (committed_recent m a.bytes a.mpt d.mpt) d.mpt
@@ -272,7 +273,7 @@ counted_by g t =
     }
 
 -- with a table of `n` bytes kept
-abbrev pub kept_with : WalkState → ℕ → Recent → Recent → Recent → ℕ → WalkState
+abbrev pub kept_with : WalkState → ℕ → Option Recent → Option Recent → Option Recent → ℕ → WalkState
 kept_with g used m p t n =
     record {
       used = used;

@@ -1,14 +1,13 @@
 -- The packets that are met most, told by a few tests: header-compressed IP without a header, MMTP without packet counter and extension, one
 -- timed unit, for an id whose last packet was the one before it, of the same MPU: a whole unit where no object is held, or a middle part
 -- where one is.
-use Rattle.std.specs.Prelude.{◌≡◌, ℕ, ◌+◌, ◌-◌, ◌*◌, ◌/◌, ◌%◌, ◌<◌, ◌≤◌, Bool, true, false, not, List, length, drop, slice_index, slice_index_or}
+use Rattle.std.specs.Prelude.{◌≡◌, ℕ, ◌+◌, ◌-◌, ◌*◌, ◌/◌, ◌%◌, ◌<◌, ◌≤◌, Bool, true, false, not, List, length, drop, slice_index, slice_index_or, None, Option, Some}
 use Rattle.isdb_tlv.specs.Guards.{◌<?◌, ◌≤?◌, ◌=?◌, ◌≠?◌}
 use Rattle.std.specs.Prelude.{if◌then◌else◌}
 use Rattle.isdb_tlv.specs.Bytes.{be}
 use Rattle.isdb_tlv.specs.declared.mmtp.Header.{Header}
 use Rattle.isdb_tlv.specs.declared.mmtp.FecType.TheVariants.{NotProtected}
 use Rattle.isdb_tlv.specs.declared.mmtp.PayloadType.TheVariants.{Mpu}
-use Rattle.isdb_tlv.specs.declared.mmtp.MaybeControl.TheVariants.{None as no_control}
 use Rattle.isdb_mmt.specs.Decoder.Packet.{Bytes, media_of}
 use Rattle.isdb_mmt.specs.Formats.Mpu.{payload_header, declared_of, follows}
 use Rattle.isdb_mmt.specs.Memory.Layout.{most_media_ids, most_mfu_area, most_count, media_size, stats_place, state_size, table_ids}
@@ -22,12 +21,6 @@ use Rattle.isdb_mmt.specs.Pushes.MediaPlace.{StatsWithin}
 use Rattle.isdb_mmt.specs.Pushes.MediaCommit.{state_after, CanPushMedia}
 use Rattle.isdb_mmt.specs.Pushes.Push.{Input, Pushed}
 use Rattle.isdb_mmt.specs.declared.mpu.PayloadHeader.{PayloadHeader}
-use Rattle.isdb_mmt.specs.declared.mpu.MaybeHeader.{MaybeHeader}
-use Rattle.isdb_mmt.specs.declared.mpu.MaybeHeader.TheVariants.{None as no_payload, Some as payload}
-use Rattle.isdb_mmt.specs.declared.maybe.MaybeU32.{MaybeU32}
-use Rattle.isdb_mmt.specs.declared.maybe.MaybeU32.TheVariants.{None as no_u32, Some as some_u32}
-use Rattle.isdb_mmt.specs.declared.decoder.place.Found.{Found}
-use Rattle.isdb_mmt.specs.declared.decoder.place.Found.TheVariants.{At, Nothing}
 use Rattle.isdb_mmt.specs.declared.decoder.place.PlaceFor.TheVariants.{Own}
 use Rattle.isdb_mmt.specs.declared.decoder.counts.AssetStats.{AssetStats}
 use Rattle.isdb_mmt.specs.declared.decoder.media.Object.{Object}
@@ -95,7 +88,7 @@ plain_header b =
       packet_id = be 2 b 5;
       sequence = be 4 b 11;
       scramble_info = false;
-      scramble_control = no_control;
+      scramble_control = None;
     }
 
 -- ---- the place after it
@@ -189,14 +182,14 @@ pub record CanStorePlain (l : List ℕ) (i : ℕ) : Type 0 where
   pub packets : (counters_of l).tlv_packets ≤ most_count
 
 -- the place of an id whose next packet is `n` of MPU `mpu`, where it was found
-abbrev pub NextAt : List ℕ → ℕ → ℕ → ℕ → Found → Type 0
-NextAt l id n mpu Nothing = Unit {0}
-NextAt l id n mpu (At i) = (media_place_for l id ≡ Own i) × ((is_next (media_at l i) n mpu ≡ true) × (i < most_media_ids))
+abbrev pub NextAt : List ℕ → ℕ → ℕ → ℕ → Option ℕ → Type 0
+NextAt l id n mpu None = Unit {0}
+NextAt l id n mpu (Some i) = (media_place_for l id ≡ Own i) × ((is_next (media_at l i) n mpu ≡ true) × (i < most_media_ids))
 
 -- a payload's header, where the place holds no object
-abbrev pub FreeHeader : List ℕ → ℕ → Bytes → MaybeHeader → Type 0
-FreeHeader l i b no_payload = Unit {0}
-FreeHeader l i b (payload x) = ((media_at l i).held ≡ false) × (payload_header b ≡ payload x)
+abbrev pub FreeHeader : List ℕ → ℕ → Bytes → Option PayloadHeader → Type 0
+FreeHeader l i b None = Unit {0}
+FreeHeader l i b (Some x) = ((media_at l i).held ≡ false) × (payload_header b ≡ Some x)
 
 -- the length of its object with `n` bytes more, where it holds one and they have room
 pub record CanGrow (l : List ℕ) (i n : ℕ) : Type 0 where
@@ -205,9 +198,9 @@ pub record CanGrow (l : List ℕ) (i n : ℕ) : Type 0 where
   pub area : (limits_of l).mfu_area ≤ most_mfu_area
   pub short : n ≤ 65535
 
-abbrev pub GrownAt : List ℕ → ℕ → ℕ → MaybeU32 → Type 0
-GrownAt l i n no_u32 = Unit {0}
-GrownAt l i n (some_u32 k) = (growing (media_at l i) ≡ true) × ((k ≡ (media_at l i).object.length + n) × (k ≤ (limits_of l).mfu_area))
+abbrev pub GrownAt : List ℕ → ℕ → ℕ → Option ℕ → Type 0
+GrownAt l i n None = Unit {0}
+GrownAt l i n (Some k) = (growing (media_at l i) ≡ true) × ((k ≡ (media_at l i).object.length + n) × (k ≤ (limits_of l).mfu_area))
 
 -- a middle part laid behind the object that a place holds
 pub record CanCommitPart (l objects b : Bytes) (i k : ℕ) : Type 0 where
@@ -233,7 +226,7 @@ pub record WholeUnit (s : Session) (h : Header) (p rows out : Bytes) (i : ℕ) (
   pub own : media_place_for s.state h.packet_id ≡ Own i
   pub next : is_next (media_at s.state i) h.sequence (be 4 p 4) ≡ true
   pub free : (media_at s.state i).held ≡ false
-  pub header : payload_header p ≡ payload x
+  pub header : payload_header p ≡ Some x
   pub row : row_size ≤ length rows
   pub room : unit_bytes p ≤ length out
 

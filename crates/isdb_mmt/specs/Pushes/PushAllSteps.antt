@@ -1,5 +1,5 @@
 -- The steps of the call for many packets: what each of its functions is given and leaves.
-use Rattle.std.specs.Prelude.{◌≡◌, ℕ, ◌+◌, ◌-◌, ◌*◌, ◌<◌, ◌≤◌, Bool, true, false, not, ◌++◌, length, take, ◌≢◌}
+use Rattle.std.specs.Prelude.{◌≡◌, ℕ, ◌+◌, ◌-◌, ◌*◌, ◌<◌, ◌≤◌, Bool, true, false, not, ◌++◌, length, take, ◌≢◌, Result, Ok, Err}
 use Rattle.isdb_tlv.specs.Guards.{◌≤?◌}
 use Rattle.std.specs.Prelude.{if◌then◌else◌}
 use Rattle.isdb_tlv.specs.Cut.{TlvPacket, recording_from}
@@ -13,8 +13,7 @@ use Rattle.isdb_mmt.specs.Pushes.Push.{Input, asks, leaves_of, reply_of}
 use Rattle.isdb_mmt.specs.declared.decoder.records.Answer.{Answer}
 use Rattle.isdb_mmt.specs.Memory.Octets.{Lent}
 use Rattle.isdb_mmt.specs.Theorems.Room.{most_added, SoundWithin}
-use Rattle.isdb_mmt.specs.declared.decoder.many.Turn.{Turn}
-use Rattle.isdb_mmt.specs.declared.decoder.many.Turn.TheVariants.{Taken, Halted}
+use Rattle.isdb_mmt.specs.declared.decoder.many.Halt.{Halt}
 use Rattle.isdb_mmt.specs.declared.decoder.many.Progress.{Progress}
 use Rattle.isdb_mmt.specs.Pushes.PushAll.{Run, Ran, ran, run_of, input_at, progress_after, after_packet, pushed_each, line_size}
 
@@ -90,6 +89,6 @@ pub record TookPacket (known : Bool) (input : Bytes) (most : ℕ) (c c' : Run) :
   pub same : pushed_from input most c ≡ pushed_from input most c'
   pub ahead : length input - c'.progress.at < length input - c.progress.at
 
-abbrev pub Turned : Bool → Bytes → ℕ → Run → Turn → Session → Bytes → Bytes → Bytes → Type 0
-Turned known input most c (Taken y) s' rows' out' lines' = TookPacket known input most c (run_of s' rows' out' lines' y)
-Turned known input most c (Halted h) s' rows' out' lines' = ran (run_of s' rows' out' lines' c.progress) h ≡ pushed_from input most c
+abbrev pub Turned : Bool → Bytes → ℕ → Run → Result Progress Halt → Session → Bytes → Bytes → Bytes → Type 0
+Turned known input most c (Ok y) s' rows' out' lines' = TookPacket known input most c (run_of s' rows' out' lines' y)
+Turned known input most c (Err h) s' rows' out' lines' = ran (run_of s' rows' out' lines' c.progress) h ≡ pushed_from input most c

@@ -1,10 +1,9 @@
 -- MFU records as they are handed out: rows of 36 bytes, with the data of all one behind the other in a second buffer.
-use Rattle.std.specs.Prelude.{ℕ, ◌+◌, ◌*◌, ◌/◌, ◌%◌, Bool, false, List, [], ◌∷◌, ◌++◌, map, length}
+use Rattle.std.specs.Prelude.{ℕ, ◌+◌, ◌*◌, ◌/◌, ◌%◌, Bool, false, List, [], ◌∷◌, ◌++◌, map, length, is_some, unwrap_or}
 use Rattle.isdb_tlv.specs.Guards.{◌=?◌}
 use Rattle.isdb_tlv.specs.Bytes.{be}
 use Rattle.isdb_tlv.specs.Fields.{Field, field, written}
-use Rattle.isdb_mmt.specs.Formats.Maybe.{has_u32, number_u32}
-use Rattle.isdb_mmt.specs.Formats.Mpu.{has_header, header_or}
+use Rattle.isdb_mmt.specs.Formats.Mpu.{header_or}
 use Rattle.isdb_mmt.specs.Decoder.Packet.{Bytes}
 use Rattle.isdb_mmt.specs.Decoder.Objects.{Mfu, Rec}
 use Rattle.isdb_mmt.specs.Memory.Lent.{part, flag_byte, places_from}
@@ -19,10 +18,10 @@ object_for f =
     record {
       mpu_sequence_number = f.mpu;
       rap = f.rap;
-      timed = has_header f.mfu;
+      timed = is_some f.mfu;
       header = header_or f.mfu;
-      item = has_u32 f.item_id;
-      item_id = number_u32 f.item_id;
+      item = is_some f.item_id;
+      item_id = unwrap_or f.item_id 0;
       length = length f.bytes;
     }
 
@@ -62,8 +61,8 @@ row_fields id scrambled o at =
 -- the record of a held object as it would be delivered now: not scrambled, its data at 0
 abbrev pub held_fields : ℕ → HeldObject → List Field
 held_fields id o =
-    record_fields id (record_flags o.rap false (has_header o.mfu) (has_u32 o.item_id)) o.mpu_sequence_number
-    (header_or o.mfu) (number_u32 o.item_id) 0 o.bytes.length
+    record_fields id (record_flags o.rap false (is_some o.mfu) (is_some o.item_id)) o.mpu_sequence_number
+    (header_or o.mfu) (unwrap_or o.item_id 0) 0 o.bytes.length
 
 abbrev pub row_of : Rec → ℕ → Bytes
 row_of r at = written (row_fields r.id r.scrambled (object_for r.mfu) at)

@@ -1,5 +1,5 @@
 -- What a walk over tables starts with, and the counters after it.
-use Rattle.std.specs.Prelude.{◌≡◌, ℕ, ◌+◌, ◌*◌, ◌≤◌, Bool, false, List, map, length, take, drop}
+use Rattle.std.specs.Prelude.{◌≡◌, ℕ, ◌+◌, ◌*◌, ◌≤◌, Bool, false, List, map, length, take, drop, Option, is_some}
 use Rattle.isdb_tlv.specs.Fields.{written}
 use Rattle.isdb_tlv.specs.Si.{sections_of}
 use Rattle.isdb_tlv.specs.declared.si.Section.{Section}
@@ -11,9 +11,10 @@ use Rattle.isdb_mmt.specs.Decoder.Packet.{Bytes, Packet, control}
 use Rattle.isdb_mmt.specs.Decoder.Kept.{with_packet_counts, with_table_counts}
 use Rattle.isdb_mmt.specs.Memory.Lent.{part, over}
 use Rattle.isdb_mmt.specs.Memory.Session.{limits_of, used_of, latest_of, counters_fields}
+use Rattle.isdb_mmt.specs.Memory.View.{given}
 use Rattle.isdb_mmt.specs.Pushes.MediaPush.{with_used}
 use Rattle.isdb_mmt.specs.Pushes.Commit.{put_tables, logged_from, CanStore}
-use Rattle.isdb_mmt.specs.Pushes.TableOutcome.{index_size}
+use Rattle.isdb_mmt.specs.Pushes.TableOutcome.{index_size, recent_length}
 use Rattle.isdb_mmt.specs.declared.decoder.limits.Limits.{Limits}
 use Rattle.isdb_mmt.specs.declared.decoder.counts.Counters.{Counters}
 use Rattle.isdb_mmt.specs.declared.decoder.head.Used.{Used}
@@ -22,10 +23,10 @@ use Rattle.isdb_mmt.specs.declared.decoder.table_outcome.Recent.{Recent}
 use Rattle.isdb_mmt.specs.declared.decoder.walk.WalkState.{WalkState}
 
 -- a table of `n` bytes in the area that starts at `at`
-abbrev pub recent_at : List ℕ → ℕ → Bool → ℕ → Recent
-recent_at t at there n = record { there = there; version = be 1 (part at n t) 1; from = 0; length = n }
+abbrev pub recent_at : List ℕ → ℕ → Bool → ℕ → Option Recent
+recent_at t at there n = given there (record { version = be 1 (part at n t) 1; from = 0; length = n })
 
-abbrev pub start_of : Counters → ℕ → Recent → Recent → Recent → WalkState
+abbrev pub start_of : Counters → ℕ → Option Recent → Option Recent → Option Recent → WalkState
 start_of c used mpt plt tot =
     record {
       used = used;
@@ -45,10 +46,6 @@ start_of c used mpt plt tot =
 abbrev pub counters_with : Counters → WalkState → Counters
 counters_with c g = with_table_counts c g.tables g.crc_errors g.malformed g.version_changes g.message_malformed g.split_errors
 
--- none is there
-abbrev pub no_recent : Recent
-no_recent = record { there = false; version = 0; from = 0; length = 0 }
-
 -- from a session: its kept sections, its PLT and its TOT, with the MPT of a control id
 abbrev pub plt_at : List ℕ → ℕ
 plt_at state = ((limits_of state).sections + (limits_of state).control_ids) * (limits_of state).table_area
@@ -56,21 +53,17 @@ plt_at state = ((limits_of state).sections + (limits_of state).control_ids) * (l
 abbrev pub tot_at : List ℕ → ℕ
 tot_at state = ((limits_of state).sections + (limits_of state).control_ids + 1) * (limits_of state).table_area
 
-abbrev pub walk_start : List ℕ → List ℕ → Counters → Recent → WalkState
+abbrev pub walk_start : List ℕ → List ℕ → Counters → Option Recent → WalkState
 walk_start state t c mpt =
     start_of c (used_of state).sections mpt (recent_at t (plt_at state) (latest_of state).plt (latest_of state).plt_length)
     (recent_at t (tot_at state) (latest_of state).tot (latest_of state).tot_length)
 
--- how long it is, where it is there
-abbrev pub recent_length : Recent → ℕ
-recent_length r = if r.there then r.length else 0
-
 abbrev pub latest_with : WalkState → Latest
 latest_with g =
     record {
-      plt = g.plt.there;
+      plt = is_some g.plt;
       plt_length = recent_length g.plt;
-      tot = g.tot.there;
+      tot = is_some g.tot;
       tot_length = recent_length g.tot;
     }
 

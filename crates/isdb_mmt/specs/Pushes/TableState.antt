@@ -1,7 +1,6 @@
 -- What tables leave, on one record: the MPT of their control id, all else that is kept, the counters, and the longest table that
 -- is kept on the way. The model's folds are its fields.
-use Rattle.std.specs.Prelude.{ℕ, max, List, [], ◌∷◌}
-use Rattle.std.proofs.Math.Option.{Option}
+use Rattle.std.specs.Prelude.{ℕ, max, List, [], ◌∷◌, Option}
 use Rattle.isdb_mmt.specs.declared.decoder.counts.Counters.{Counters}
 use Rattle.isdb_mmt.specs.Decoder.Packet.{Bytes}
 use Rattle.isdb_mmt.specs.Decoder.Kept.{KeptTables, Table, table_counted, table_increments, mpt_after, stored}

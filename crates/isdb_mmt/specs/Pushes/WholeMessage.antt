@@ -1,5 +1,5 @@
 -- A message packet with which a message is whole: the message in two pieces, the walk over its tables, what is asked and left.
-use Rattle.std.specs.Prelude.{◌≡◌, ℕ, zero, suc, ◌+◌, ◌*◌, ◌<◌, ◌≤◌, Bool, true, false, List, [], ◌++◌, length, take, drop, replicate}
+use Rattle.std.specs.Prelude.{◌≡◌, ℕ, zero, suc, ◌+◌, ◌*◌, ◌<◌, ◌≤◌, Bool, true, false, List, [], ◌++◌, length, take, drop, replicate, is_some, None}
 use Rattle.isdb_tlv.specs.Guards.{◌<?◌, ◌=?◌}
 use Rattle.std.specs.Prelude.{if◌then◌else◌}
 use Rattle.isdb_mmt.specs.Memory.Layout.{most_sections, most_control_ids, most_message_area, most_count, table_ids, section_places, section_size, state_size}
@@ -10,12 +10,12 @@ use Rattle.isdb_mmt.specs.Memory.Lent.{part, over}
 use Rattle.isdb_mmt.specs.Memory.Session.{Session, limits_of, used_of}
 use Rattle.isdb_mmt.specs.Memory.Check.{lengths_of, Sound}
 use Rattle.isdb_mmt.specs.Pushes.Push.{most_bytes}
-use Rattle.isdb_mmt.specs.Pushes.Fragments.{none_joined, flags_in, control_with, completes}
+use Rattle.isdb_mmt.specs.Pushes.Fragments.{flags_in, control_with, completes}
 use Rattle.isdb_mmt.specs.Pushes.FragmentPush.{with_reassembly, with_counts, received_fragment}
-use Rattle.isdb_mmt.specs.Pushes.TableOutcome.{index_size}
+use Rattle.isdb_mmt.specs.Pushes.TableOutcome.{index_size, recent_length}
 use Rattle.isdb_mmt.specs.Pushes.Placed.{join_of, placed_cut}
 use Rattle.isdb_mmt.specs.Pushes.PendingTables.{Walked, CanWalk}
-use Rattle.isdb_mmt.specs.Pushes.Start.{recent_at, walk_start, recent_length, latest_with, counters_with, tables_ask, CanGo, CopiesLent}
+use Rattle.isdb_mmt.specs.Pushes.Start.{recent_at, walk_start, latest_with, counters_with, tables_ask, CanGo, CopiesLent}
 use Rattle.isdb_mmt.specs.declared.decoder.limits.Limits.{Limits}
 use Rattle.isdb_mmt.specs.declared.decoder.counts.Counters.{Counters}
 use Rattle.isdb_mmt.specs.declared.decoder.head.Used.{Used}
@@ -90,7 +90,7 @@ abbrev pub used_whole : Used → ℕ → ℕ → Used
 used_whole u k n = record { media_ids = u.media_ids; control_ids = u.control_ids + k; sections = n }
 
 abbrev pub place_whole : ℕ → ℕ → WalkState → Control
-place_whole id n g = control_with id n none_joined g.mpt.there (recent_length g.mpt)
+place_whole id n g = control_with id n None (is_some g.mpt) (recent_length g.mpt)
 
 abbrev pub state_left : ℕ → ℕ → Control → Counters → WalkState → List ℕ → List ℕ → List ℕ
 state_left i k d cs g ix state =

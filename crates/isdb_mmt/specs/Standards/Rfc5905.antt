@@ -1,13 +1,11 @@
 -- RFC 5905: the timestamp of 64 bits (6) and the packet (7.3) as a conforming sender writes them, and what it means to read them right.
-use Rattle.std.specs.Prelude.{◌≡◌, ℕ, ◌+◌, ◌*◌, ◌%◌, ◌^◌, ◌<◌, List, [], ◌∷◌, ◌++◌, length}
-use Rattle.std.proofs.Math.Option.{some}
+use Rattle.std.specs.Prelude.{◌≡◌, ℕ, ◌+◌, ◌*◌, ◌%◌, ◌^◌, ◌<◌, List, [], ◌∷◌, ◌++◌, length, Some}
 use Rattle.isdb_tlv.specs.Bytes.{be}
 use Rattle.isdb_tlv.specs.Fields.{Field, field, bits, packed, written}
 use Rattle.isdb_tlv.specs.Rfc791 as Rfc791
 use Rattle.isdb_tlv.specs.Rfc8200 as Rfc8200
 use Rattle.isdb_tlv.specs.StdB32 as StdB32
 use Rattle.isdb_tlv.specs.declared.ip.Flow.{Flow}
-use Rattle.isdb_tlv.specs.declared.ip.MaybeFlow.TheVariants.{Some as some_flow}
 use Rattle.isdb_mmt.specs.Decoder.Packet.{ntp, to_port, classify}
 use Rattle.isdb_mmt.specs.Formats.Ntp.{ntp_to_unix_of, Exact}
 
@@ -83,13 +81,13 @@ pub record PacketConforming (p : Packet) : Type 0 where
 -- TLV packet that carries it in an IPv4 or an IPv6 datagram, or in a compressed one with its addresses
 pub record PacketRead (p : Packet) (r : List ℕ) : Type 0 where
   pub long : length (packet_sent p) ≡ 48
-  pub transmit : to_port (packet_sent p ++ r) 123 ≡ ntp (some (ticks p.transmit))
+  pub transmit : to_port (packet_sent p ++ r) 123 ≡ ntp (Some (ticks p.transmit))
   pub over_ipv4 : (d : Rfc791.Ipv4) → Rfc791.Conforming d → d.destination_port ≡ 123 → d.payload ≡ packet_sent p ++ r
-      → classify 0x01 (Rfc791.sent d) ≡ ntp (some (ticks p.transmit))
+      → classify 0x01 (Rfc791.sent d) ≡ ntp (Some (ticks p.transmit))
   pub over_ipv6 : (d : Rfc8200.Ipv6) → Rfc8200.Conforming d → d.destination_port ≡ 123 → d.payload ≡ packet_sent p ++ r
-      → classify 0x02 (Rfc8200.sent d) ≡ ntp (some (ticks p.transmit))
-  pub compressed : (d : StdB32.Hcfb) → StdB32.HcfbConforming d → (f : Flow) → StdB32.flow_in d.header ≡ some_flow f → f.dport ≡ 123
-      → d.payload ≡ packet_sent p ++ r → classify 0x03 (StdB32.hcfb_sent d) ≡ ntp (some (ticks p.transmit))
+      → classify 0x02 (Rfc8200.sent d) ≡ ntp (Some (ticks p.transmit))
+  pub compressed : (d : StdB32.Hcfb) → StdB32.HcfbConforming d → (f : Flow) → StdB32.flow_in d.header ≡ Some f → f.dport ≡ 123
+      → d.payload ≡ packet_sent p ++ r → classify 0x03 (StdB32.hcfb_sent d) ≡ ntp (Some (ticks p.transmit))
 
 -- proved in proofs/Rfc5905.antt
 abbrev pub Theorem : Type 0

@@ -1,7 +1,6 @@
 -- ARIB STD-B60: what its tables share, as a conforming sender writes it: descriptor loops (7.4, Table 4-10), locations
 -- (Table 7-9) and sections (7.2.3.2); and what it means to read them right.
-use Rattle.std.specs.Prelude.{◌≡◌, ℕ, ◌+◌, ◌^◌, ◌<◌, ◌&&◌, List, [], ◌∷◌, ◌++◌, map, length, drop}
-use Rattle.std.proofs.Math.Option.{none}
+use Rattle.std.specs.Prelude.{◌≡◌, ℕ, ◌+◌, ◌^◌, ◌<◌, ◌&&◌, List, [], ◌∷◌, ◌++◌, map, length, drop, Ok, Some, None}
 use Rattle.isdb_tlv.specs.Guards.{◌=?◌, ◌≤?◌}
 use Rattle.std.specs.Prelude.{if◌then◌else◌}
 use Rattle.isdb_tlv.specs.Crc.{crc_of}
@@ -12,9 +11,7 @@ use Rattle.isdb_mmt.specs.Formats.Location.{location_of}
 use Rattle.isdb_mmt.specs.Formats.Section.{long_section_of}
 use Rattle.isdb_mmt.specs.declared.location.Location.{Location}
 use Rattle.isdb_mmt.specs.declared.location.Location.TheVariants.{SameFlow, Ipv4, Ipv6, Mpeg2Ts, Mpeg2TsIpv6, Url}
-use Rattle.isdb_mmt.specs.declared.location.Located.TheVariants.{Some as located}
 use Rattle.isdb_mmt.specs.declared.table.section.SectionHeader.{SectionHeader}
-use Rattle.isdb_mmt.specs.declared.table.section.LongSection.TheVariants.{Ok as good}
 
 -- 7.4: the width of a descriptor's length field, in bytes, by its tag: the tags from `first` to `last`
 pub record TagRange : Type 0 where
@@ -67,7 +64,7 @@ descriptor_in s r = record { tag = r.tag; content = part_of s r.body }
 -- the sender's descriptors are found, and nothing breaks
 pub record LoopRead (ds : List Descriptor) : Type 0 where
   pub found : map (descriptor_in (loop_sent ds)) (split_of (loop_sent ds)).found ≡ ds
-  pub whole : (split_of (loop_sent ds)).broke ≡ none
+  pub whole : (split_of (loop_sent ds)).broke ≡ None
 
 -- Table 7-9: MMT_general_location_info
 pub data SentLocation : Type 0 where
@@ -128,7 +125,7 @@ location_seen (url b) = Url (part_at 2 (length b))
 
 -- whatever follows it
 pub record LocationRead (p : SentLocation) (r : List ℕ) : Type 0 where
-  pub location : location_of (location_sent p ++ r) ≡ located (location_seen p) (length (location_sent p))
+  pub location : location_of (location_sent p ++ r) ≡ Some (location_seen p, length (location_sent p))
   pub rest : drop (length (location_sent p)) (location_sent p ++ r) ≡ r
 
 -- 7.2.3.2: the header of a section of the extended form; reserved bits as the sender likes
@@ -185,7 +182,7 @@ header_seen h n =
     }
 
 pub record SectionRead (h : Header) (body : List ℕ) : Type 0 where
-  pub header : long_section_of (section_sent h body) ≡ good (header_seen h (length body))
+  pub header : long_section_of (section_sent h body) ≡ Ok (header_seen h (length body))
   pub content : part_of (section_sent h body) (header_seen h (length body)).body ≡ body
 
 -- proved in proofs/StdB60.antt

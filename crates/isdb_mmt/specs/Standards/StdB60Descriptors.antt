@@ -1,7 +1,6 @@
 -- ARIB STD-B60, 7.4.3: descriptors with their bodies as a conforming sender writes them, the bytes of locations' URLs (Table 7-9), and
 -- what it means to read them right.
-use Rattle.std.specs.Prelude.{◌≡◌, ℕ, ◌^◌, ◌<◌, true, List, [], ◌∷◌, ◌++◌, map, length}
-use Rattle.std.proofs.Math.Option.{Option, none, some}
+use Rattle.std.specs.Prelude.{◌≡◌, ℕ, ◌^◌, ◌<◌, true, List, [], ◌∷◌, ◌++◌, map, length, None, Some, Option}
 use Rattle.isdb_tlv.specs.Guards.{◌≤?◌, ◌=?◌}
 use Rattle.std.specs.Prelude.{if◌then◌else◌}
 use Rattle.isdb_tlv.specs.Fields.{Field, field, bits, packed, written, Fit}
@@ -11,10 +10,6 @@ use Rattle.isdb_mmt.specs.Standards.StdB60Sections.{All}
 use Rattle.isdb_mmt.specs.WholeValues.Steps.{counted}
 use Rattle.isdb_mmt.specs.WholeValues.WholeDescriptors.{WholeLocation, MpuTime, WholeMpu, WholeExtended, Listed, Genre, Value, value_in, WholeDescriptor, loop_in, location_seen as location_stood}
 use Rattle.isdb_mmt.specs.WholeValues.WholeDescriptors.{mpu_timestamp, extended_timestamp, access_control, scrambler, stream_identifier, service_names, service_list_of, short_event_of, content, hevc, broadcaster_name}
-use Rattle.isdb_mmt.specs.declared.maybe.MaybeU16.{MaybeU16}
-use Rattle.isdb_mmt.specs.declared.maybe.MaybeU16.TheVariants.{None as no_u16, Some as some_u16}
-use Rattle.isdb_mmt.specs.declared.maybe.MaybeU32.{MaybeU32}
-use Rattle.isdb_mmt.specs.declared.maybe.MaybeU32.TheVariants.{None as no_u32, Some as some_u32}
 use Rattle.isdb_mmt.specs.declared.timestamp.AccessUnit.{AccessUnit}
 
 -- entries one behind another
@@ -171,12 +166,12 @@ pub record SentExtended : Type 0 where
   pub mpus : List SentMpu
 
 abbrev pub timescale_flag : Option ℕ → ℕ
-timescale_flag none = 0
-timescale_flag (some t) = 1
+timescale_flag None = 0
+timescale_flag (Some t) = 1
 
 abbrev pub timescale_fields : Option ℕ → List Field
-timescale_fields none = []
-timescale_fields (some t) = field 4 t ∷ []
+timescale_fields None = []
+timescale_fields (Some t) = field 4 t ∷ []
 
 abbrev pub flags_fields : SentExtended → List Field
 flags_fields e = field 1 (packed (bits 5 e.reserved ∷ bits 2 (offset_type e.offsets) ∷ bits 1 (timescale_flag e.timescale) ∷ [])) ∷ []
@@ -192,19 +187,19 @@ pub record ExtendedConforming (e : SentExtended) : Type 0 where
   pub offset : Fit (offset_fields e.offsets)
   pub mpus : All (MpuConforming e.offsets) e.mpus
 
-abbrev pub timescale_seen : Option ℕ → MaybeU32
-timescale_seen none = no_u32
-timescale_seen (some t) = some_u32 t
+abbrev pub timescale_seen : Option ℕ → Option ℕ
+timescale_seen None = None
+timescale_seen (Some t) = Some t
 
-abbrev pub offset_seen : PtsOffsets → MaybeU16
-offset_seen unsaid = no_u16
-offset_seen (same d) = some_u16 d
-offset_seen own = no_u16
+abbrev pub offset_seen : PtsOffsets → Option ℕ
+offset_seen unsaid = None
+offset_seen (same d) = Some d
+offset_seen own = None
 
 abbrev pub access_unit_seen : PtsOffsets → SentAccessUnit → AccessUnit
-access_unit_seen unsaid u = record { dts_pts_offset = u.dts_pts_offset; pts_offset = no_u16 }
-access_unit_seen (same d) u = record { dts_pts_offset = u.dts_pts_offset; pts_offset = some_u16 d }
-access_unit_seen own u = record { dts_pts_offset = u.dts_pts_offset; pts_offset = some_u16 u.pts_offset }
+access_unit_seen unsaid u = record { dts_pts_offset = u.dts_pts_offset; pts_offset = None }
+access_unit_seen (same d) u = record { dts_pts_offset = u.dts_pts_offset; pts_offset = Some d }
+access_unit_seen own u = record { dts_pts_offset = u.dts_pts_offset; pts_offset = Some u.pts_offset }
 
 abbrev pub mpu_seen_of : PtsOffsets → SentMpu → WholeMpu
 mpu_seen_of o m =
@@ -315,8 +310,8 @@ place_seen p = record { location = location_seen p; url = location_bytes p }
 -- what is read of each: every value, text and entry
 abbrev pub value_seen : SentBody → Value
 value_seen (mpu_times ts) = mpu_timestamp (map time_seen ts)
-value_seen (ca_system ca) = access_control ca none
-value_seen (ca_system_at ca p private) = access_control ca (some (place_seen p))
+value_seen (ca_system ca) = access_control ca None
+value_seen (ca_system_at ca p private) = access_control ca (Some (place_seen p))
 value_seen (scrambling layer reserved system private) = scrambler layer system
 value_seen (hevc_video x) = hevc x.profile (x.tier =? 1) x.level
 value_seen (services_listed xs) = service_list_of (map listed_seen xs)
@@ -407,19 +402,19 @@ examples =
     -- one PTS offset for each access unit, and a timescale; then without one; then each with its own
     ∷ mpu_times_extended (record {
       reserved = 0;
-      timescale = some 90000;
+      timescale = Some 90000;
       offsets = same 16;
       mpus = mpu_example 7 (unit_example 1 0 ∷ unit_example 2 0 ∷ []) ∷ [];
     })
     ∷ mpu_times_extended (record {
       reserved = 0;
-      timescale = none;
+      timescale = None;
       offsets = same 16;
       mpus = mpu_example 7 [] ∷ mpu_example 8 (unit_example 3 0 ∷ []) ∷ [];
     })
     ∷ mpu_times_extended (record {
       reserved = 0;
-      timescale = none;
+      timescale = None;
       offsets = own;
       mpus = mpu_example 7 (unit_example 1 2 ∷ unit_example 3 4 ∷ []) ∷ [];
     })

@@ -1,7 +1,6 @@
 -- ARIB STD-B60 in ISO/IEC 23008-1, IP and ARIB STD-B32: an MPT in a PA message, in an MMTP packet, in an IP datagram, in a TLV packet,
 -- and the MPT that a push of that packet keeps; a divided object, and the record that pushes hand out.
-use Rattle.std.specs.Prelude.{◌≡◌, ℕ, ◌≤◌, List, [], ◌∷◌, ◌++◌, map, length, drop, slice_index}
-use Rattle.std.proofs.Math.Option.{none, some}
+use Rattle.std.specs.Prelude.{◌≡◌, ℕ, ◌≤◌, List, [], ◌∷◌, ◌++◌, map, length, drop, slice_index, Some, None}
 use Rattle.isdb_tlv.specs.Iso23008.{not_protected, control_message, no_extension, Mmtp, Conforming, sent as mmtp_sent}
 use Rattle.isdb_tlv.specs.StdB32.{compressed_ip, kind_code, Tlv, tlv_sent, TlvConforming, ipv6_id, Hcfb, hcfb_sent}
 use Rattle.isdb_mmt.specs.Formats.Part.{part_of}
@@ -24,7 +23,6 @@ use Rattle.isdb_mmt.specs.Standards.StdB60Objects.{received, object_seen, record
 use Rattle.isdb_mmt.specs.Standards.StdB60Kept.{MptInPa, mpt_in_pa_sent, MptInPaConforming, mpt_witness, mpt_witness_bytes}
 use Rattle.isdb_mmt.specs.declared.decoder.limits.Limits.{Limits}
 use Rattle.isdb_mmt.specs.declared.table.mpt.Mpt.{Mpt}
-use Rattle.isdb_mmt.specs.declared.table.mpt.MaybeMpt.TheVariants.{Some as some_mpt}
 
 -- STD-B60, 6.4.1.1, Table 6-6: a PA message with an MPT is the payload of an MMTP packet of the type of control messages, which the
 -- TLV packet (STD-B32 Part 3, 3.5) of the type `kind` and the data `b` carries
@@ -39,25 +37,25 @@ pub record MptCarried (x : MptInPa) (m : Mmtp) (kind : ℕ) (b : Bytes) : Type 0
 abbrev pub MptFed : Type 0
 MptFed =
     (x : MptInPa) (m : Mmtp) (kind : ℕ) (b : Bytes) → MptCarried x m kind b → (s : State)
-    → (control_of m.packet_id (pushed s (classify kind b))).mpt ≡ some (mpt_sent x.mpt)
+    → (control_of m.packet_id (pushed s (classify kind b))).mpt ≡ Some (mpt_sent x.mpt)
 
 -- the same of a push in lent memory that is not turned down
 abbrev pub MptPushed : Type 0
 MptPushed =
     (x : MptInPa) (m : Mmtp) (i : Input) → MptCarried x m i.kind i.bytes
     → (s s' : Session) (number records bytes : ℕ) (rows out : Bytes) → Pushed s i number records bytes s' rows out → number ≡ 0
-    → (control_of m.packet_id (view s')).mpt ≡ some (mpt_sent x.mpt)
+    → (control_of m.packet_id (view s')).mpt ≡ Some (mpt_sent x.mpt)
 
 -- STD-B32 Part 3, 3.5: the same of the bytes of a whole TLV packet, its type the second and its data from the fifth on
 abbrev pub MptInTlv : Type 0
 MptInTlv =
     (x : MptInPa) (m : Mmtp) (t : Tlv) → TlvConforming t → MptCarried x m (kind_code t.kind) t.content → (s : State)
-    → (control_of m.packet_id (pushed s (classify (slice_index (tlv_sent t) 1) (drop 4 (tlv_sent t))))).mpt ≡ some (mpt_sent x.mpt)
+    → (control_of m.packet_id (pushed s (classify (slice_index (tlv_sent t) 1) (drop 4 (tlv_sent t))))).mpt ≡ Some (mpt_sent x.mpt)
 
 -- STD-B60, Table 7-6: bytes that are read as the sender's MPT, with its package id, descriptors and assets
 pub record ReadAsSent (t : SentMpt) (b : Bytes) : Type 0 where
   pub mpt : Mpt
-  pub parsed : (mpt_of b).mpt ≡ some_mpt mpt
+  pub parsed : (mpt_of b).mpt ≡ Some mpt
   pub table_id : mpt.table_id ≡ t.table_id
   pub version : mpt.version ≡ t.version
   pub mode : mpt.mode ≡ t.mode
@@ -70,7 +68,7 @@ abbrev pub AssetsPushed : Type 0
 AssetsPushed =
     (x : MptInPa) (m : Mmtp) (i : Input) → MptCarried x m i.kind i.bytes
     → (s s' : Session) (number records bytes : ℕ) (rows out : Bytes) → Pushed s i number records bytes s' rows out → number ≡ 0
-    → (kept : Bytes) → (control_of m.packet_id (view s')).mpt ≡ some kept → ReadAsSent x.mpt kept
+    → (kept : Bytes) → (control_of m.packet_id (view s')).mpt ≡ Some kept → ReadAsSent x.mpt kept
 
 -- a witness: the MPT of StdB60Kept in a header-compressed packet, context 1, number 0, header type 61h
 abbrev pub fed_mmtp : Mmtp
@@ -84,7 +82,7 @@ fed_mmtp =
       packet_id = 0x8001;
       delivery_timestamp = 8;
       sequence_number = 1;
-      packet_counter = none;
+      packet_counter = None;
       extension = no_extension;
       payload = control_sent (mpt_in_pa_sent mpt_witness);
     }
@@ -107,7 +105,7 @@ pub record FedWitness : Type 0 where
   pub carried : MptCarried mpt_witness fed_mmtp 0x03 (hcfb_sent fed_hcfb)
   pub bytes : tlv_sent fed_tlv ≡ fed_bytes
   pub kept : (s : State) → (control_of 0x8001 (pushed s (classify 0x03 (drop 4 fed_bytes)))).mpt
-      ≡ some (0x20 ∷ 0x01 ∷ 0x00 ∷ 0x05 ∷ 0xFC ∷ 0x00 ∷ 0x00 ∷ 0x00 ∷ 0x00 ∷ [])
+      ≡ Some (0x20 ∷ 0x01 ∷ 0x00 ∷ 0x05 ∷ 0xFC ∷ 0x00 ∷ 0x00 ∷ 0x00 ∷ 0x00 ∷ [])
 
 -- ---- a divided object, at the level of accepted pushes from an opened session
 
@@ -137,4 +135,4 @@ MptPushedLast =
     (x : MptInPa) (m : Mmtp) (i : Input) → MptCarried x m i.kind i.bytes
     → (l : Limits) (s : Session) → asked l (lengths_of s) ≡ 0 → Lent s
     → (xs : List Input) → AllBytes (xs ++ (i ∷ [])) → AllTaken (opened_session l s) (xs ++ (i ∷ []))
-    → (control_of m.packet_id (view (leaves_all (opened_session l s) (xs ++ (i ∷ []))))).mpt ≡ some (mpt_sent x.mpt)
+    → (control_of m.packet_id (view (leaves_all (opened_session l s) (xs ++ (i ∷ []))))).mpt ≡ Some (mpt_sent x.mpt)

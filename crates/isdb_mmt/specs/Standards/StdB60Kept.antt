@@ -1,6 +1,5 @@
 -- ARIB STD-B60: what the model keeps of tables that a conforming sender puts into messages, whole or divided.
-use Rattle.std.specs.Prelude.{◌≡◌, ℕ, ◌<◌, ◌≤◌, true, List, [], ◌∷◌, ◌++◌, map, length, slice_index}
-use Rattle.std.proofs.Math.Option.{some}
+use Rattle.std.specs.Prelude.{◌≡◌, ℕ, ◌<◌, ◌≤◌, true, List, [], ◌∷◌, ◌++◌, map, length, slice_index, Some}
 use Rattle.isdb_mmt.specs.Decoder.Packet.{Bytes, MessagePacket, message_packet, message}
 use Rattle.isdb_mmt.specs.Decoder.Kept.{table_read, mpt_table, mpt_after_all, stored_all}
 use Rattle.isdb_mmt.specs.Decoder.Model.{State, control_of, pushed}
@@ -60,7 +59,7 @@ MptKept =
     (t : SentMpt) → MptConforming t → IsMptId t.table_id
     → (c : SentContent) → LastMpt t (content_tables c)
     → (id : ℕ) (xs : List MessagePacket) → ContentPushed c id xs
-    → (s : State) → (control_of id (state_after s xs)).mpt ≡ some (mpt_sent t)
+    → (s : State) → (control_of id (state_after s xs)).mpt ≡ Some (mpt_sent t)
 
 -- an undivided PA message with an MPT among its tables; those behind it are no MPTs
 pub record MptInPa : Type 0 where
@@ -94,7 +93,7 @@ pub record MptInPaConforming (x : MptInPa) : Type 0 where
 abbrev pub MptInPaKept : Type 0
 MptInPaKept =
     (x : MptInPa) → MptInPaConforming x → (s : State) (id number : ℕ)
-    → (control_of id (pushed s (message (message_packet id number (control_sent (mpt_in_pa_sent x)))))).mpt ≡ some (mpt_sent x.mpt)
+    → (control_of id (pushed s (message (message_packet id number (control_sent (mpt_in_pa_sent x)))))).mpt ≡ Some (mpt_sent x.mpt)
 
 -- a witness: an MPT without assets, and a PLT behind it
 abbrev pub mpt_witness : MptInPa

@@ -1,6 +1,5 @@
 -- ARIB STD-B60: what the model keeps of sections that a conforming sender puts into messages, MH-EIT, MH-SDT and MH-BIT.
-use Rattle.std.specs.Prelude.{◌≡◌, ℕ, ◌+◌, ◌*◌, ◌^◌, ◌≤◌, true, false, List, [], ◌∷◌}
-use Rattle.std.proofs.Math.Option.{some}
+use Rattle.std.specs.Prelude.{◌≡◌, ℕ, ◌+◌, ◌*◌, ◌^◌, ◌≤◌, true, false, List, [], ◌∷◌, Some}
 use Rattle.isdb_mmt.specs.Decoder.Maps.{find}
 use Rattle.isdb_mmt.specs.Decoder.Packet.{Bytes, MessagePacket}
 use Rattle.isdb_mmt.specs.Decoder.Kept.{Section, other_version, table_read, a_section}
@@ -50,7 +49,7 @@ SectionKept =
     → (c : SentContent) → content_tables c ≡ section_sent h body ∷ []
     → (id : ℕ) (xs : List MessagePacket) → ContentPushed c id xs
     → (s : State) → other_version (find (sent_key h) s.store.kept) h.version ≡ true
-    → find (sent_key h) (state_after s xs).store.kept ≡ some (record { version = h.version; bytes = section_sent h body })
+    → find (sent_key h) (state_after s xs).store.kept ≡ Some (record { version = h.version; bytes = section_sent h body })
 
 -- a witness: an MH-SDT without services, in an undivided M2 section message
 abbrev pub sdt_witness : SentSdt

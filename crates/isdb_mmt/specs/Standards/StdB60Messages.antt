@@ -1,7 +1,6 @@
 -- ARIB STD-B60, 7.2 (Tables 7-1 to 7-4), in the payload of STD-B32 Part 3, Figure 2: control payloads and the messages in them as
 -- a conforming sender writes them, whole or divided, and what it means to read them right.
-use Rattle.std.specs.Prelude.{◌≡◌, ℕ, ◌+◌, ◌%◌, ◌^◌, ◌<◌, ◌≤◌, List, [], ◌∷◌, ◌++◌, map, length, slice_index}
-use Rattle.std.proofs.Math.Option.{Option, none, some}
+use Rattle.std.specs.Prelude.{◌≡◌, ℕ, ◌+◌, ◌%◌, ◌^◌, ◌<◌, ◌≤◌, List, [], ◌∷◌, ◌++◌, map, length, slice_index, Option, None, Some}
 use Rattle.isdb_tlv.specs.Guards.{◌=?◌}
 use Rattle.std.specs.Prelude.{if◌then◌else◌}
 use Rattle.isdb_tlv.specs.Fields.{Field, field, bits, packed, written}
@@ -202,8 +201,8 @@ pub record Joined : Type 0 where
   pub left : Reassembly
 
 abbrev pub also_whole : Option PartialMessage → List PartialMessage → List PartialMessage
-also_whole none l = l
-also_whole (some j) l = j ∷ l
+also_whole None l = l
+also_whole (Some j) l = j ∷ l
 
 abbrev pub joined_by : Reassembly → List MessagePacket → Joined
 joined_by l [] = record { messages = []; tables = []; orphans = 0; oversizes = 0; malformed = 0; left = l }
@@ -228,7 +227,7 @@ joined_whole c n =
       orphans = 0;
       oversizes = 0;
       malformed = 0;
-      left = record { number = some n; partial = none };
+      left = record { number = Some n; partial = None };
     }
 
 -- whatever was being joined
@@ -239,7 +238,7 @@ pub record ControlRead (p : SentControl) : Type 0 where
     aggregated = aggregation_flag p.content.carried =? 1;
   }
   pub message : (id number : ℕ) (l : Reassembly)
-      → message_completed l (message_packet id number (control_sent p)) ≡ some (content_seen p.content)
+      → message_completed l (message_packet id number (control_sent p)) ≡ Some (content_seen p.content)
   pub tables : (id number : ℕ) (l : Reassembly)
       → cut_of_all (message_completed l (message_packet id number (control_sent p))) ≡ all_read_of (content_tables p.content)
   pub given : (id number : ℕ) (l : Reassembly)
@@ -259,7 +258,7 @@ message_seen (ca v t) = record { id = 0x8001; tables = set_of (slice_index t 0 �
 message_seen (m2_short_section v t) = record { id = 0x8002; tables = set_of (slice_index t 0 ∷ []) }
 
 pub record ControlListed (p : SentControl) : Type 0 where
-  pub messages : messages_of (control_sent p) ≡ some (map message_seen (carried_messages p.content.carried))
+  pub messages : messages_of (control_sent p) ≡ Some (map message_seen (carried_messages p.content.carried))
 
 -- a divided content: parts of it in payloads of division index 1, 2 and 3, each behind a header of its own
 pub record SentPart : Type 0 where

@@ -1,23 +1,18 @@
 -- ARIB STD-B60, 6.3.2, Tables 6-1 to 6-3, with ISO/IEC 23008-1: an MPU payload as a conforming sender writes it, and what it
 -- means to read it right.
-use Rattle.std.specs.Prelude.{◌≡◌, ℕ, ◌+◌, ◌^◌, ◌<◌, List, [], ◌∷◌, ◌++◌, map, length, drop, replicate}
-use Rattle.std.proofs.Math.Option.{some}
+use Rattle.isdb_mmt.specs.declared.mpu.MfuHeader.{MfuHeader}
+use Rattle.std.specs.Prelude.{◌≡◌, ℕ, ◌+◌, ◌^◌, ◌<◌, List, [], ◌∷◌, ◌++◌, map, length, drop, replicate, None, Option, Some}
 use Rattle.isdb_tlv.specs.Guards.{◌=?◌}
 use Rattle.isdb_tlv.specs.Fields.{bytes_of, Field, field, bits, packed, written, Fit}
 use Rattle.isdb_tlv.specs.declared.mmtp.Header.{Header}
 use Rattle.isdb_mmt.specs.Formats.Mpu.{payload_header, declared_of, units_of}
 use Rattle.isdb_mmt.specs.Decoder.Packet.{PayloadUnit, payload_units, MpuPacket, media_of}
 use Rattle.isdb_mmt.specs.Standards.StdB60Sections.{All}
-use Rattle.isdb_mmt.specs.declared.maybe.MaybeU32.{MaybeU32}
-use Rattle.isdb_mmt.specs.declared.maybe.MaybeU32.TheVariants.{None as no_u32, Some as some_u32}
 use Rattle.isdb_mmt.specs.declared.mpu.FragmentType.{FragmentType}
 use Rattle.isdb_mmt.specs.declared.mpu.FragmentType.TheVariants.{MpuMetadata, MovieFragmentMetadata, Mfu}
 use Rattle.isdb_mmt.specs.declared.mpu.FragmentationIndicator.{FragmentationIndicator}
 use Rattle.isdb_mmt.specs.declared.mpu.FragmentationIndicator.TheVariants.{Complete, Head, Middle, Last}
 use Rattle.isdb_mmt.specs.declared.mpu.PayloadHeader.{PayloadHeader}
-use Rattle.isdb_mmt.specs.declared.mpu.MaybeHeader.TheVariants.{Some as some_header}
-use Rattle.isdb_mmt.specs.declared.mpu.MaybeMfu.{MaybeMfu}
-use Rattle.isdb_mmt.specs.declared.mpu.MaybeMfu.TheVariants.{None as no_mfu, Some as some_mfu}
 
 -- what stands before a unit's data
 pub data UnitHeader : Type 0 where
@@ -157,20 +152,20 @@ header_seen p =
       mpu_sequence_number = p.mpu_sequence_number;
     }
 
-abbrev pub mfu_seen : UnitHeader → MaybeMfu
+abbrev pub mfu_seen : UnitHeader → Option MfuHeader
 mfu_seen (timed_header movie sample offset priority dependency) =
-    some_mfu (record {
+    Some (record {
       movie_fragment_sequence_number = movie;
       sample_number = sample;
       offset = offset;
       priority = priority;
       dependency_counter = dependency;
     })
-mfu_seen (untimed_header item) = no_mfu
+mfu_seen (untimed_header item) = None
 
-abbrev pub item_seen : UnitHeader → MaybeU32
-item_seen (timed_header movie sample offset priority dependency) = no_u32
-item_seen (untimed_header item) = some_u32 item
+abbrev pub item_seen : UnitHeader → Option ℕ
+item_seen (timed_header movie sample offset priority dependency) = None
+item_seen (untimed_header item) = Some item
 
 abbrev pub unit_seen : Division → SentUnit → PayloadUnit
 unit_seen d u = record { fragment = division_seen d; mfu = mfu_seen u.header; item_id = item_seen u.header; bytes = u.content }
@@ -186,7 +181,7 @@ units_in (aggregated us) = us
 abbrev pub CutInto : SentPayload → List SentUnit → Type 0
 CutInto p us =
     payload_units (header_seen p) (payload_sent p) (units_of (payload_sent p) (header_seen p).timed (header_seen p).aggregated)
-    ≡ some (map (unit_seen p.division) us)
+    ≡ Some (map (unit_seen p.division) us)
 
 abbrev pub UnitsRead : SentPayload → Body → Type 0
 UnitsRead p (mpu_metadata b) = Unit {0}
@@ -202,14 +197,14 @@ media_seen h p behind =
       number = h.sequence;
       rap = h.rap;
       scrambled = h.scramble_info;
-      header = some (header_seen p);
-      units = some (map (unit_seen p.division) (units_in p.body));
+      header = Some (header_seen p);
+      units = Some (map (unit_seen p.division) (units_in p.body));
       raw = body_sent p.body ++ behind;
     }
 
 -- whatever stands behind the declared bytes
 pub record PayloadRead (p : SentPayload) (behind : List ℕ) : Type 0 where
-  pub header : payload_header (payload_sent p ++ behind) ≡ some_header (header_seen p)
+  pub header : payload_header (payload_sent p ++ behind) ≡ Some (header_seen p)
   pub declared : declared_of (payload_sent p ++ behind) ≡ payload_sent p
   pub body : drop 8 (payload_sent p) ≡ body_sent p.body
   pub units : UnitsRead p p.body

@@ -1,7 +1,7 @@
 -- ARIB STD-B60, 6.3.2, Table 6-3: an object that a conforming sender divides over MMTP packets (ISO/IEC 23008-1), and what it
 -- means to join it right.
-use Rattle.std.specs.Prelude.{◌≡◌, ℕ, ◌+◌, ◌%◌, ◌^◌, ◌≤◌, Bool, false, List, [], ◌∷◌, ◌++◌, map, length}
-use Rattle.std.proofs.Math.Option.{Option, none, some}
+use Rattle.isdb_tlv.specs.declared.ip.Flow.{Flow}
+use Rattle.std.specs.Prelude.{◌≡◌, ℕ, ◌+◌, ◌%◌, ◌^◌, ◌≤◌, Bool, false, List, [], ◌∷◌, ◌++◌, map, length, None, Some, Option}
 use Rattle.isdb_tlv.specs.Guards.{◌=?◌}
 use Rattle.std.specs.Prelude.{if◌then◌else◌}
 use Rattle.isdb_tlv.specs.Fields.{bytes_of}
@@ -11,8 +11,6 @@ use Rattle.isdb_tlv.specs.Iso23008.{sent as mmtp_sent}
 use Rattle.isdb_tlv.specs.Rfc791.{Ipv4, Conforming as Ipv4Conforming, flow_of as ipv4_flow, sent as ipv4_sent}
 use Rattle.isdb_tlv.specs.Rfc8200.{Ipv6, Conforming as Ipv6Conforming, flow_of as ipv6_flow, sent as ipv6_sent}
 use Rattle.isdb_tlv.specs.StdB32.{Hcfb, HcfbConforming, flow_in, hcfb_sent}
-use Rattle.isdb_tlv.specs.declared.ip.MaybeFlow.{MaybeFlow}
-use Rattle.isdb_tlv.specs.declared.ip.MaybeFlow.TheVariants.{None as no_flow_of, Some as some_flow}
 use Rattle.isdb_mmt.specs.Decoder.Packet.{Packet, ip_error, ntp, non_mmtp_of, media, message, control, other, mmtp_in}
 use Rattle.isdb_mmt.specs.Decoder.Objects.{Mfu, Asset, Rec}
 use Rattle.isdb_mmt.specs.Decoder.Model.{State, opened, asset_of}
@@ -96,12 +94,12 @@ received m = mmtp_in (mmtp_sent m) (mmtp_of (mmtp_sent m))
 
 -- the last packet number, if any, is the one before
 abbrev pub Before : Option ℕ → ℕ → Type 0
-Before none n = Unit {0}
-Before (some l) n = next_number l ≡ n
+Before None n = Unit {0}
+Before (Some l) n = next_number l ≡ n
 
 -- nothing of the object's packet id is held, and its first packet is the next one
 pub record Awaited (s : State) (o : SentObject) : Type 0 where
-  pub held : (asset_of o.packet_id s).held ≡ none
+  pub held : (asset_of o.packet_id s).held ≡ None
   pub number : Before (asset_of o.packet_id s).number o.number
 
 -- the object with its whole data, and the fields of its first part
@@ -118,7 +116,7 @@ object_seen o =
 -- what is known of a packet id, before `n` packets that deliver one object and after them: nothing is held, lost or dropped,
 -- nothing was malformed
 pub record OneDelivered (n : ℕ) (a b : Asset) : Type 0 where
-  pub held : b.held ≡ none
+  pub held : b.held ≡ None
   pub packets : b.stats.packets ≡ a.stats.packets + n
   pub delivered : b.stats.mfus ≡ a.stats.mfus + 1
   pub lost : b.stats.packets_lost ≡ a.stats.packets_lost
@@ -166,14 +164,14 @@ AmongOthersTheorem = (o : SentObject) → ObjectConforming o → length (object_
     × OneDelivered (length (object_packets o)) (asset_of o.packet_id s) (asset_of o.packet_id (push_all s ps))
 
 -- to a port other than NTP's
-abbrev pub NotNtp : MaybeFlow → Type 0
-NotNtp no_flow_of = Unit {0}
-NotNtp (some_flow f) = f.dport ≡ 123 → ⊥
+abbrev pub NotNtp : Option Flow → Type 0
+NotNtp None = Unit {0}
+NotNtp (Some f) = f.dport ≡ 123 → ⊥
 
 -- bytes that a TLV packet carries, by its kind and data: in IPv4 (01h) or IPv6 (02h) with UDP, or header-compressed (03h)
 pub data Carried : List ℕ → ℕ × List ℕ → Type 0 where
-  by_ipv4 : (d : Ipv4) → Ipv4Conforming d → NotNtp (some_flow (ipv4_flow d)) → Carried d.payload (0x01, ipv4_sent d)
-  by_ipv6 : (d : Ipv6) → Ipv6Conforming d → NotNtp (some_flow (ipv6_flow d)) → Carried d.payload (0x02, ipv6_sent d)
+  by_ipv4 : (d : Ipv4) → Ipv4Conforming d → NotNtp (Some (ipv4_flow d)) → Carried d.payload (0x01, ipv4_sent d)
+  by_ipv6 : (d : Ipv6) → Ipv6Conforming d → NotNtp (Some (ipv6_flow d)) → Carried d.payload (0x02, ipv6_sent d)
   by_hcfb : (p : Hcfb) → HcfbConforming p → NotNtp (flow_in p.header) → Carried p.payload (0x03, hcfb_sent p)
 
 abbrev pub AllCarried : List Mmtp → Feed → Type 0
@@ -216,9 +214,9 @@ example_object =
       number = 0xffffffff;
       timed = 0;
       mpu_sequence_number = 7;
-      first = example_part (example_frame 1 none no_extension) 1 0x01;
-      middles = example_part (example_frame 0 (some 5) no_extension) 2 0x02 ∷ [];
-      final = example_part (example_frame 0 none (multi_type [] (scrambling 0 not_scrambled 0 []))) 3 0x03;
+      first = example_part (example_frame 1 None no_extension) 1 0x01;
+      middles = example_part (example_frame 0 (Some 5) no_extension) 2 0x02 ∷ [];
+      final = example_part (example_frame 0 None (multi_type [] (scrambling 0 not_scrambled 0 []))) 3 0x03;
     }
 
 -- behind the MMTP headers stand payloads of crates/cases/stdin, each a line `units HEX`

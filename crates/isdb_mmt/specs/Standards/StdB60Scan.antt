@@ -1,9 +1,8 @@
 -- ARIB STD-B60, 5: the data of a control packet as a conforming sender writes it, sections of TLV-SI one behind the other, and
 -- what it means to find them.
-use Rattle.std.specs.Prelude.{◌≡◌, ℕ, ◌+◌, ◌^◌, ◌<◌, List, [], ◌∷◌, ◌++◌, map, length, take, drop}
+use Rattle.std.specs.Prelude.{◌≡◌, ℕ, ◌+◌, ◌^◌, ◌<◌, List, [], ◌∷◌, ◌++◌, map, length, take, drop, Some}
 use Rattle.isdb_tlv.specs.Si.{sections_from, sections_of, next_section_of}
 use Rattle.isdb_tlv.specs.declared.si.Section.{Section}
-use Rattle.isdb_tlv.specs.declared.si.MaybeSection.TheVariants.{Some as some_section}
 use Rattle.isdb_mmt.specs.Standards.StdB60.{Header, HeaderConforming, section_sent}
 use Rattle.isdb_mmt.specs.Standards.StdB60Sections.{All}
 
@@ -60,7 +59,7 @@ bytes_in s x = take x.size (drop x.offset s)
 
 -- a section is found where it stands, whatever stands before and behind it, and the search goes on behind it
 pub record SectionFound (a : List ℕ) (x : SentSection) (r : List ℕ) : Type 0 where
-  pub found : next_section_of (a ++ (bytes_sent x ++ r)) (length a) ≡ some_section (section_seen (length a) x)
+  pub found : next_section_of (a ++ (bytes_sent x ++ r)) (length a) ≡ Some (section_seen (length a) x)
   pub bytes : bytes_in (a ++ (bytes_sent x ++ r)) (section_seen (length a) x) ≡ bytes_sent x
   pub rest : sections_from (a ++ (bytes_sent x ++ r)) (length a)
       ≡ section_seen (length a) x ∷ sections_from (a ++ (bytes_sent x ++ r)) (length a + length (bytes_sent x))

@@ -1,6 +1,6 @@
 -- ARIB STD-B60: tables in section form with loops of entries as a conforming sender writes them, MH-EIT (Table 7-18), MH-SDT
 -- (7-23), MH-BIT (7-21) and TLV-NIT (5-1), and what it means to read them right.
-use Rattle.std.specs.Prelude.{◌≡◌, ℕ, ◌+◌, ◌^◌, ◌<◌, Bool, List, [], ◌∷◌, ◌++◌, map, length}
+use Rattle.std.specs.Prelude.{◌≡◌, ℕ, ◌+◌, ◌^◌, ◌<◌, Bool, List, [], ◌∷◌, ◌++◌, map, length, Ok}
 use Rattle.isdb_tlv.specs.Guards.{◌=?◌}
 use Rattle.isdb_tlv.specs.Fields.{Field, field, bits, packed, written, Fit}
 use Rattle.isdb_mmt.specs.Formats.Part.{part_at, part_of}
@@ -10,13 +10,9 @@ use Rattle.isdb_mmt.specs.Formats.Sdt.{sdt_of, services_of}
 use Rattle.isdb_mmt.specs.Formats.Bit.{bit_of, broadcasters_of}
 use Rattle.isdb_mmt.specs.Formats.Nit.{nit_of, streams_of}
 use Rattle.isdb_mmt.specs.declared.table.eit.Event.{Event}
-use Rattle.isdb_mmt.specs.declared.table.eit.EitResult.TheVariants.{Ok as eit_ok}
 use Rattle.isdb_mmt.specs.declared.table.sdt.SdtService.{SdtService}
-use Rattle.isdb_mmt.specs.declared.table.sdt.SdtResult.TheVariants.{Ok as sdt_ok}
 use Rattle.isdb_mmt.specs.declared.table.bit.Broadcaster.{Broadcaster}
-use Rattle.isdb_mmt.specs.declared.table.bit.BitResult.TheVariants.{Ok as bit_ok}
 use Rattle.isdb_mmt.specs.declared.table.nit.NitStream.{NitStream}
-use Rattle.isdb_mmt.specs.declared.table.nit.NitResult.TheVariants.{Ok as nit_ok}
 
 -- an entry of a loop: fields, four bits, a length of 12 bits, and so many bytes of descriptors
 pub record Entry : Type 0 where
@@ -119,13 +115,16 @@ event_value e =
 
 pub record EitRead (t : SentEit) : Type 0 where
   pub section : eit_of (section_sent t.header (eit_body_sent t)) ≡ record {
-    result = eit_ok (header_seen t.header (length (eit_body_sent t))) (record {
-      tlv_stream_id = t.tlv_stream_id;
-      original_network_id = t.original_network_id;
-      segment_last_section_number = t.segment_last;
-      last_table_id = t.last_table_id;
-      events = length t.events;
-    });
+    result = Ok (
+      header_seen t.header (length (eit_body_sent t)),
+      (record {
+        tlv_stream_id = t.tlv_stream_id;
+        original_network_id = t.original_network_id;
+        segment_last_section_number = t.segment_last;
+        last_table_id = t.last_table_id;
+        events = length t.events;
+      }),
+    );
     breaks = 0;
   }
   pub events : map (event_seen (eit_body_sent t)) (events_of (eit_body_sent t)) ≡ map event_value t.events
@@ -216,7 +215,7 @@ service_value e =
 
 pub record SdtRead (t : SentSdt) : Type 0 where
   pub section : sdt_of (section_sent t.header (sdt_body_sent t)) ≡ record {
-    result = sdt_ok (header_seen t.header (length (sdt_body_sent t))) (record { original_network_id = t.original_network_id; services = length t.services });
+    result = Ok (header_seen t.header (length (sdt_body_sent t)), record { original_network_id = t.original_network_id; services = length t.services });
     breaks = 0;
   }
   pub services : map (service_seen (sdt_body_sent t)) (services_of (sdt_body_sent t)) ≡ map service_value t.services
@@ -271,11 +270,14 @@ broadcaster_value e = record { broadcaster_id = e.broadcaster_id; loop = loop_se
 
 pub record BitRead (t : SentBit) : Type 0 where
   pub section : bit_of (section_sent t.header (bit_body_sent t)) ≡ record {
-    result = bit_ok (header_seen t.header (length (bit_body_sent t))) (record {
-      broadcast_view_propriety = t.view_propriety =? 1;
-      descriptors = part_at 2 (length (loop_sent t.descriptors));
-      broadcasters = length t.broadcasters;
-    });
+    result = Ok (
+      header_seen t.header (length (bit_body_sent t)),
+      (record {
+        broadcast_view_propriety = t.view_propriety =? 1;
+        descriptors = part_at 2 (length (loop_sent t.descriptors));
+        broadcasters = length t.broadcasters;
+      }),
+    );
     breaks = 0;
   }
   pub descriptors : part_of (bit_body_sent t) (part_at 2 (length (loop_sent t.descriptors))) ≡ loop_sent t.descriptors
@@ -327,11 +329,14 @@ abbrev pub stream_value : SentStream → ℕ × (ℕ × List ℕ)
 stream_value e = (e.tlv_stream_id, (e.original_network_id, e.loop))
 
 pub record NitRead (t : SentNit) : Type 0 where
-  pub section : nit_of (section_sent t.header (nit_body_sent t)) ≡ nit_ok (header_seen t.header (length (nit_body_sent t))) (record {
-    descriptors = part_at 2 (length t.descriptors);
-    loop_part = part_at (length t.descriptors + 4) (length (nit_streams t));
-    streams = length t.streams;
-  })
+  pub section : nit_of (section_sent t.header (nit_body_sent t)) ≡ Ok (
+    header_seen t.header (length (nit_body_sent t)),
+    (record {
+      descriptors = part_at 2 (length t.descriptors);
+      loop_part = part_at (length t.descriptors + 4) (length (nit_streams t));
+      streams = length t.streams;
+    }),
+  )
   pub descriptors : part_of (nit_body_sent t) (part_at 2 (length t.descriptors)) ≡ t.descriptors
   pub loop : part_of (nit_body_sent t) (part_at (length t.descriptors + 4) (length (nit_streams t))) ≡ nit_streams t
   pub streams : map (stream_seen (nit_streams t)) (streams_of (nit_streams t)) ≡ map stream_value t.streams

@@ -1,7 +1,6 @@
 -- ARIB STD-B60: AMT (Table 5-2), MH-TOT (7-25), MPT (7-6) and PLT (7-11) as a conforming sender writes them, and what it
 -- means to read them right.
-use Rattle.std.specs.Prelude.{◌≡◌, ℕ, ◌+◌, ◌^◌, ◌<◌, Bool, List, [], ◌∷◌, ◌++◌, map, length}
-use Rattle.std.proofs.Math.Option.{some}
+use Rattle.std.specs.Prelude.{◌≡◌, ℕ, ◌+◌, ◌^◌, ◌<◌, Bool, List, [], ◌∷◌, ◌++◌, map, length, Ok, Some}
 use Rattle.isdb_tlv.specs.Guards.{◌=?◌}
 use Rattle.isdb_tlv.specs.Fields.{Field, field, bits, packed, written, Fit}
 use Rattle.isdb_tlv.specs.declared.ip.Address.TheVariants.{V4, V6}
@@ -14,13 +13,9 @@ use Rattle.isdb_mmt.specs.Formats.Mpt.{mpt_of, assets_from, locations_of}
 use Rattle.isdb_mmt.specs.Formats.Plt.{plt_of, packages_of, deliveries_from}
 use Rattle.isdb_mmt.specs.declared.location.Location.{Location}
 use Rattle.isdb_mmt.specs.declared.table.amt.AmtService.{AmtService}
-use Rattle.isdb_mmt.specs.declared.table.amt.AmtResult.TheVariants.{Ok as amt_ok}
-use Rattle.isdb_mmt.specs.declared.table.tot.TotResult.TheVariants.{Ok as tot_ok}
 use Rattle.isdb_mmt.specs.declared.table.mpt.Asset.{Asset}
-use Rattle.isdb_mmt.specs.declared.table.mpt.MaybeMpt.TheVariants.{Some as some_mpt}
 use Rattle.isdb_mmt.specs.declared.table.plt.Package.{Package}
 use Rattle.isdb_mmt.specs.declared.table.plt.IpDelivery.{IpDelivery}
-use Rattle.isdb_mmt.specs.declared.table.plt.MaybePlt.TheVariants.{Some as some_plt}
 
 -- AMT: source and destination of a service, IPv4 or IPv6 in halves
 pub data Flow : Type 0 where
@@ -87,8 +82,8 @@ pub record AmtConforming (t : SentAmt) : Type 0 where
   pub short : length (amt_body_sent t) + 9 < 2 ^ 12
 
 pub record AmtRead (t : SentAmt) : Type 0 where
-  pub section : amt_of (section_sent t.header (amt_body_sent t)) ≡ amt_ok (header_seen t.header (length (amt_body_sent t))) (record { services = length t.services })
-  pub services : services_from (length t.services) (amt_body_sent t) 2 ≡ some (map (λ x. flow_seen x x.flow) t.services)
+  pub section : amt_of (section_sent t.header (amt_body_sent t)) ≡ Ok (header_seen t.header (length (amt_body_sent t)), record { services = length t.services })
+  pub services : services_from (length t.services) (amt_body_sent t) 2 ≡ Some (map (λ x. flow_seen x x.flow) t.services)
 
 -- MH-TOT: a section of the short form with a CRC
 pub record SentTot : Type 0 where
@@ -119,7 +114,7 @@ pub record TotConforming (t : SentTot) : Type 0 where
 
 pub record TotRead (t : SentTot) : Type 0 where
   pub section : tot_of (tot_sent t) ≡ record {
-    result = tot_ok (record { jst = t.jst; descriptors = part_at 10 (length (loop_sent t.descriptors)) });
+    result = Ok (record { jst = t.jst; descriptors = part_at 10 (length (loop_sent t.descriptors)) });
     breaks = 0;
   }
   pub descriptors : part_of (tot_sent t) (part_at 10 (length (loop_sent t.descriptors))) ≡ loop_sent t.descriptors
@@ -246,7 +241,7 @@ mpt_assets_start t = mpt_loop_start t + length (loop_sent t.descriptors) + 1
 
 pub record MptRead (t : SentMpt) : Type 0 where
   pub table : mpt_of (mpt_sent t) ≡ record {
-    mpt = some_mpt (record {
+    mpt = Some (record {
       table_id = t.table_id;
       version = t.version;
       mode = t.mode;
@@ -353,14 +348,14 @@ abbrev pub plt_deliveries_start : SentPlt → ℕ
 plt_deliveries_start t = 6 + length (packages_sent t.packages)
 
 pub record PltRead (t : SentPlt) : Type 0 where
-  pub table : plt_of (plt_sent t) ≡ some_plt (record {
+  pub table : plt_of (plt_sent t) ≡ Some (record {
     version = t.version;
     packages = length t.packages;
     ip_deliveries = length t.deliveries;
     deliveries_start = plt_deliveries_start t;
   })
   pub packages : map (package_seen (plt_sent t)) (packages_of (length t.packages) (plt_sent t) 5) ≡ map package_value t.packages
-  pub deliveries : deliveries_from (length t.deliveries) (plt_sent t) (plt_deliveries_start t) ≡ some (map delivery_value t.deliveries)
+  pub deliveries : deliveries_from (length t.deliveries) (plt_sent t) (plt_deliveries_start t) ≡ Some (map delivery_value t.deliveries)
 
 -- proved in proofs/StdB60Short.antt
 abbrev pub AmtTheorem : Type 0

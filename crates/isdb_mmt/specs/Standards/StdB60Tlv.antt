@@ -1,16 +1,12 @@
 -- ARIB STD-B60, 5.3: TLV-SI descriptors as a conforming sender writes them, network name, service list (Table 5-4) and satellite
 -- delivery system (Table 5-6), and what it means to read them right.
-use Rattle.std.specs.Prelude.{◌≡◌, ℕ, ◌*◌, ◌/◌, ◌%◌, ◌^◌, ◌<◌, List, [], ◌∷◌, ◌++◌, map, length}
-use Rattle.std.proofs.Math.Option.{Option, none, some}
+use Rattle.isdb_mmt.specs.declared.part.Part.{Part}
+use Rattle.std.specs.Prelude.{◌≡◌, ℕ, ◌*◌, ◌/◌, ◌%◌, ◌^◌, ◌<◌, List, [], ◌∷◌, ◌++◌, map, length, None, Some, Option}
 use Rattle.isdb_tlv.specs.Fields.{Field, field, bits, packed, written}
 use Rattle.isdb_mmt.specs.Formats.Part.{part_of}
 use Rattle.isdb_mmt.specs.Formats.Nit.{frequency_of, network_name_of, service_list_of}
 use Rattle.isdb_mmt.specs.Standards.StdB60Sections.{All}
 use Rattle.isdb_mmt.specs.WholeValues.WholeDescriptors.{Listed, services_in, WholeTlv, tlvs_in}
-use Rattle.isdb_mmt.specs.declared.maybe.MaybeU64.{MaybeU64}
-use Rattle.isdb_mmt.specs.declared.maybe.MaybeU64.TheVariants.{None as no_u64, Some as some_u64}
-use Rattle.isdb_mmt.specs.declared.table.nit.MaybePart.{MaybePart}
-use Rattle.isdb_mmt.specs.declared.table.nit.MaybePart.TheVariants.{None as no_part, Some as some_part}
 use Rattle.isdb_mmt.specs.Standards.StdB60Descriptors.{rows_sent, SentListed, listed_sent, ListedConforming, listed_seen}
 
 -- Table 5-6: a satellite delivery system. The frequency counts units of 10 kHz; orbital position and symbol rate are in BCD too, but
@@ -85,29 +81,29 @@ pub record TlvConforming (d : SentTlv) : Type 0 where
   pub short : length (tlv_body d) < 2 ^ 8
 
 -- what each of the three readings gives of a descriptor: its own value, and nothing of the others
-abbrev pub text_in : List ℕ → MaybePart → Option (List ℕ)
-text_in s no_part = none
-text_in s (some_part p) = some (part_of s p)
+abbrev pub text_in : List ℕ → Option Part → Option (List ℕ)
+text_in s None = None
+text_in s (Some p) = Some (part_of s p)
 
-abbrev pub listed_in : List ℕ → MaybePart → Option (List Listed)
-listed_in s no_part = none
-listed_in s (some_part p) = some (services_in (part_of s p))
+abbrev pub listed_in : List ℕ → Option Part → Option (List Listed)
+listed_in s None = None
+listed_in s (Some p) = Some (services_in (part_of s p))
 
 abbrev pub name_seen : SentTlv → Option (List ℕ)
-name_seen (network name) = some name
-name_seen (services xs) = none
-name_seen (satellite x) = none
+name_seen (network name) = Some name
+name_seen (services xs) = None
+name_seen (satellite x) = None
 
 abbrev pub services_seen : SentTlv → Option (List Listed)
-services_seen (network name) = none
-services_seen (services xs) = some (map listed_seen xs)
-services_seen (satellite x) = none
+services_seen (network name) = None
+services_seen (services xs) = Some (map listed_seen xs)
+services_seen (satellite x) = None
 
 -- in kHz
-abbrev pub frequency_seen : SentTlv → MaybeU64
-frequency_seen (network name) = no_u64
-frequency_seen (services xs) = no_u64
-frequency_seen (satellite x) = some_u64 (x.frequency * 10)
+abbrev pub frequency_seen : SentTlv → Option ℕ
+frequency_seen (network name) = None
+frequency_seen (services xs) = None
+frequency_seen (satellite x) = Some (x.frequency * 10)
 
 pub record TlvRead (d : SentTlv) : Type 0 where
   pub name : text_in (tlv_body d) (network_name_of (tlv_tag d) (tlv_body d)) ≡ name_seen d

@@ -1,9 +1,7 @@
 -- Calls on a session, one after the other, and the claim over every list of them from an accepted opening, turned-down ones among
 -- them. What was accepted and what was handed out is read off the answers; what the session says is read off its bytes.
-use Rattle.std.specs.Prelude.{◌≡◌, ℕ, ◌*◌, Bool, true, List, [], ◌∷◌, ◌++◌, ◌≢◌}
-use Rattle.std.proofs.Math.Option.{Option, none, some}
+use Rattle.std.specs.Prelude.{◌≡◌, ℕ, ◌*◌, Bool, true, List, [], ◌∷◌, ◌++◌, ◌≢◌, if◌then◌else◌, None, Some, Option}
 use Rattle.isdb_tlv.specs.Guards.{◌=?◌}
-use Rattle.std.specs.Prelude.{if◌then◌else◌}
 use Rattle.isdb_mmt.specs.Decoder.Packet.{Bytes, Packet}
 use Rattle.isdb_mmt.specs.Decoder.Objects.{Rec}
 use Rattle.isdb_mmt.specs.Decoder.Kept.{Kept, Section}
@@ -20,36 +18,34 @@ use Rattle.isdb_mmt.specs.Memory.Octets.{Octets, Lent}
 use Rattle.isdb_mmt.specs.Pushes.Records.{read_rows}
 use Rattle.isdb_mmt.specs.Pushes.Push.{Input, packet_of, asks, Pushed, Reply, leaves_of, reply_of}
 use Rattle.isdb_mmt.specs.Answers.TableReadingLaws.{AsKept}
-use Rattle.isdb_mmt.specs.Answers.Readings.{media_found, section_found, counters_read, time_read, count_read, next_media_read, next_control_read, next_key_read, media_read, held_read, control_read, section_read, mpt_read, plt_read, tot_read, asset_read, counters_number, time_number, count_number, name_number, media_number, held_number, control_number, table_number, asset_number, TableTold, nothing, these, told_by}
-use Rattle.isdb_mmt.specs.declared.decoder.place.Found.{Found}
-use Rattle.isdb_mmt.specs.declared.decoder.place.Found.TheVariants.{At, Nothing as nowhere}
+use Rattle.isdb_mmt.specs.Answers.Readings.{media_found, section_found, counters_read, time_read, count_read, next_media_read, next_control_read, next_key_read, media_read, held_read, control_read, section_read, mpt_read, plt_read, tot_read, asset_read, answer_number, TableTold, nothing, these, told_by}
 use Rattle.isdb_mmt.specs.declared.decoder.limits.Limits.{Limits}
 use Rattle.isdb_mmt.specs.declared.decoder.media.Media.{Media}
 use Rattle.isdb_mmt.specs.declared.decoder.section.KeptSection.{KeptSection}
 
 -- ---- what a session's bytes say of a media id and of a key, by the place that has its name
 
-abbrev pub dropped_at : Session → Found → ℕ
-dropped_at s nowhere = 0
-dropped_at s (At i) = (media_at s.state i).stats.mfus_dropped
+abbrev pub dropped_at : Session → Option ℕ → ℕ
+dropped_at s None = 0
+dropped_at s (Some i) = (media_at s.state i).stats.mfus_dropped
 
-abbrev pub lost_at : Session → Found → ℕ
-lost_at s nowhere = 0
-lost_at s (At i) = (media_at s.state i).stats.packets_lost
+abbrev pub lost_at : Session → Option ℕ → ℕ
+lost_at s None = 0
+lost_at s (Some i) = (media_at s.state i).stats.packets_lost
 
 abbrev pub object_at : Session → ℕ → Media → Option Bytes
 object_at s i m = given m.held (part (i * (limits_of s.state).mfu_area) m.object.length s.objects)
 
-abbrev pub held_at : Session → Found → Option Bytes
-held_at s nowhere = none
-held_at s (At i) = object_at s i (media_at s.state i)
+abbrev pub held_at : Session → Option ℕ → Option Bytes
+held_at s None = None
+held_at s (Some i) = object_at s i (media_at s.state i)
 
 abbrev pub kept_as : Session → ℕ → KeptSection → Kept
 kept_as s i x = record { version = x.version; bytes = kept_table_at (limits_of s.state) s i x.length }
 
-abbrev pub kept_at : Session → Found → Option Kept
-kept_at s nowhere = none
-kept_at s (At i) = some (kept_as s i (section_at s.state i))
+abbrev pub kept_at : Session → Option ℕ → Option Kept
+kept_at s None = None
+kept_at s (Some i) = Some (kept_as s i (section_at s.state i))
 
 unfoldable pub dropped_in : Session → ℕ → ℕ
 unfolding media_found
@@ -88,20 +84,20 @@ pub data Reading : Type 0 where
 
 -- the number that it answers, 0 where it is not turned down
 unfoldable pub reading_number : Session → Reading → ℕ
-reading_number s counters = counters_number (counters_read s)
-reading_number s time = time_number (time_read s)
-reading_number s (count id) = count_number (count_read s id)
-reading_number s (next_media_of a) = name_number (next_media_read s a)
-reading_number s (next_control_of a) = name_number (next_control_read s a)
-reading_number s (next_key_of a b) = name_number (next_key_read s a b)
-reading_number s (media_of id) = media_number (media_read s id)
-reading_number s (held id) = held_number (held_read s id)
-reading_number s (control_of id) = control_number (control_read s id)
-reading_number s (mpt id) = table_number (mpt_read s id)
-reading_number s plt = table_number (plt_read s)
-reading_number s tot = table_number (tot_read s)
-reading_number s (section k) = table_number (section_read s k)
-reading_number s (asset_of p) = asset_number (asset_read s p)
+reading_number s counters = answer_number (counters_read s)
+reading_number s time = answer_number (time_read s)
+reading_number s (count id) = answer_number (count_read s id)
+reading_number s (next_media_of a) = answer_number (next_media_read s a)
+reading_number s (next_control_of a) = answer_number (next_control_read s a)
+reading_number s (next_key_of a b) = answer_number (next_key_read s a b)
+reading_number s (media_of id) = answer_number (media_read s id)
+reading_number s (held id) = answer_number (held_read s id)
+reading_number s (control_of id) = answer_number (control_read s id)
+reading_number s (mpt id) = answer_number (mpt_read s id)
+reading_number s plt = answer_number (plt_read s)
+reading_number s tot = answer_number (tot_read s)
+reading_number s (section k) = answer_number (section_read s k)
+reading_number s (asset_of p) = answer_number (asset_read s p)
 
 -- a push with its packet's bytes and output buffers of any size, or a reading
 pub data Call : Type 0 where

@@ -1,6 +1,6 @@
 -- Where a table parses, the steps from their starts give the elements of its whole value, one by one and as many as it says; none
 -- is malformed. Of the bytes that each step looks at: `s` is the declared bytes of an MPT or a PLT, the body of a section.
-use Rattle.std.specs.Prelude.{◌≡◌, ℕ, not, List, length}
+use Rattle.std.specs.Prelude.{◌≡◌, ℕ, not, List, length, Ok, Some}
 use Rattle.isdb_mmt.specs.Decoder.Kept.{declared_table, declared_section}
 use Rattle.isdb_mmt.specs.WholeValues.Steps.{at_end, Counts, Ends, AllOf, last_of}
 use Rattle.isdb_mmt.specs.WholeValues.WholeDescriptors.{location_seen, timestamp_seen, timestamps_in, unit_seen, units_in, mpu_seen_of, whole_extended, service_seen as listed_seen, services_in, genre_seen, genres_in, descriptor_seen, loop_in, tlv_seen, tlvs_in}
@@ -18,24 +18,15 @@ use Rattle.isdb_mmt.specs.Formats.Desc.{split_of, counted, descriptor_of}
 use Rattle.isdb_mmt.specs.WholeValues.WholeSections.{behind as end_of, flow_seen, whole_amt, event_seen, whole_eit, service_seen, whole_sdt, broadcaster_seen, whole_bit, stream_seen, whole_nit, whole_tot}
 use Rattle.isdb_mmt.specs.WholeValues.Whole.{whole_asset, asset_seen, whole_mpt, package_seen, delivery_seen, whole_plt}
 use Rattle.isdb_mmt.specs.declared.table.mpt.Asset.{Asset}
-use Rattle.isdb_mmt.specs.declared.table.mpt.AssetStep.TheVariants.{Asset as asset}
 use Rattle.isdb_mmt.specs.declared.table.mpt.Mpt.{Mpt}
-use Rattle.isdb_mmt.specs.declared.table.mpt.MaybeMpt.TheVariants.{Some as some_mpt}
 use Rattle.isdb_mmt.specs.declared.table.plt.Plt.{Plt}
-use Rattle.isdb_mmt.specs.declared.table.plt.MaybePlt.TheVariants.{Some as some_plt}
 use Rattle.isdb_mmt.specs.declared.table.section.SectionHeader.{SectionHeader}
 use Rattle.isdb_mmt.specs.declared.table.amt.Amt.{Amt}
-use Rattle.isdb_mmt.specs.declared.table.amt.AmtResult.TheVariants.{Ok as amt_ok}
 use Rattle.isdb_mmt.specs.declared.table.eit.Eit.{Eit}
-use Rattle.isdb_mmt.specs.declared.table.eit.EitResult.TheVariants.{Ok as eit_ok}
 use Rattle.isdb_mmt.specs.declared.table.sdt.Sdt.{Sdt}
-use Rattle.isdb_mmt.specs.declared.table.sdt.SdtResult.TheVariants.{Ok as sdt_ok}
 use Rattle.isdb_mmt.specs.declared.table.bit.Bit.{Bit}
-use Rattle.isdb_mmt.specs.declared.table.bit.BitResult.TheVariants.{Ok as bit_ok}
 use Rattle.isdb_mmt.specs.declared.table.nit.Nit.{Nit}
-use Rattle.isdb_mmt.specs.declared.table.nit.NitResult.TheVariants.{Ok as nit_ok}
 use Rattle.isdb_mmt.specs.declared.table.tot.Tot.{Tot}
-use Rattle.isdb_mmt.specs.declared.table.tot.TotResult.TheVariants.{Ok as tot_ok}
 use Rattle.isdb_mmt.specs.declared.part.Part.{Part}
 use Rattle.isdb_mmt.specs.declared.timestamp.Extended.{Extended}
 use Rattle.isdb_mmt.specs.declared.timestamp.MpuStep.TheVariants.{Mpu}
@@ -49,10 +40,10 @@ abbrev pub LocationsWalk : List ℕ → Asset → Type 0
 LocationsWalk s a = Counts (location_seen s) a.locations a.locations_start (whole_asset s a).locations
 
 abbrev pub MptTheorem : Type 0
-MptTheorem = (s : List ℕ) (t : Mpt) → (mpt_of s).mpt ≡ some_mpt t → AssetsWalk (declared_table s) t
+MptTheorem = (s : List ℕ) (t : Mpt) → (mpt_of s).mpt ≡ Some t → AssetsWalk (declared_table s) t
 
 abbrev pub AssetTheorem : Type 0
-AssetTheorem = (s : List ℕ) (at next : ℕ) (a : Asset) → asset_at_of s at ≡ asset a next → LocationsWalk s a
+AssetTheorem = (s : List ℕ) (at next : ℕ) (a : Asset) → asset_at_of s at ≡ Some (a, next) → LocationsWalk s a
 
 -- the packages and the deliveries of a PLT
 pub record PltWalks (s : List ℕ) (t : Plt) : Type 0 where
@@ -60,7 +51,7 @@ pub record PltWalks (s : List ℕ) (t : Plt) : Type 0 where
   pub deliveries : Counts (delivery_seen s) t.ip_deliveries t.deliveries_start (whole_plt s t).deliveries
 
 abbrev pub PltTheorem : Type 0
-PltTheorem = (s : List ℕ) (t : Plt) → plt_of s ≡ some_plt t → PltWalks (declared_table s) t
+PltTheorem = (s : List ℕ) (t : Plt) → plt_of s ≡ Some t → PltWalks (declared_table s) t
 
 -- of a section whose body is `s`: the services of an AMT, the events of an EIT, the services of an SDT, the broadcasters of a BIT,
 -- which stand behind its first descriptors, and the streams of a NIT, which stand in a part of their own
@@ -80,19 +71,19 @@ abbrev pub StreamsWalk : List ℕ → Nit → Type 0
 StreamsWalk s t = AllOf (stream_seen (part_of s t.loop_part)) t.streams 0 (whole_nit s t).streams
 
 abbrev pub AmtTheorem : Type 0
-AmtTheorem = (s : List ℕ) (h : SectionHeader) (t : Amt) → amt_of s ≡ amt_ok h t → FlowsWalk (part_of s h.body) t
+AmtTheorem = (s : List ℕ) (h : SectionHeader) (t : Amt) → amt_of s ≡ Ok (h, t) → FlowsWalk (part_of s h.body) t
 
 abbrev pub EitTheorem : Type 0
-EitTheorem = (s : List ℕ) (h : SectionHeader) (t : Eit) → (eit_of s).result ≡ eit_ok h t → EventsWalk (part_of s h.body) t
+EitTheorem = (s : List ℕ) (h : SectionHeader) (t : Eit) → (eit_of s).result ≡ Ok (h, t) → EventsWalk (part_of s h.body) t
 
 abbrev pub SdtTheorem : Type 0
-SdtTheorem = (s : List ℕ) (h : SectionHeader) (t : Sdt) → (sdt_of s).result ≡ sdt_ok h t → ServicesWalk (part_of s h.body) t
+SdtTheorem = (s : List ℕ) (h : SectionHeader) (t : Sdt) → (sdt_of s).result ≡ Ok (h, t) → ServicesWalk (part_of s h.body) t
 
 abbrev pub BitTheorem : Type 0
-BitTheorem = (s : List ℕ) (h : SectionHeader) (t : Bit) → (bit_of s).result ≡ bit_ok h t → BroadcastersWalk (part_of s h.body) t
+BitTheorem = (s : List ℕ) (h : SectionHeader) (t : Bit) → (bit_of s).result ≡ Ok (h, t) → BroadcastersWalk (part_of s h.body) t
 
 abbrev pub NitTheorem : Type 0
-NitTheorem = (s : List ℕ) (h : SectionHeader) (t : Nit) → nit_of s ≡ nit_ok h t → StreamsWalk (part_of s h.body) t
+NitTheorem = (s : List ℕ) (h : SectionHeader) (t : Nit) → nit_of s ≡ Ok (h, t) → StreamsWalk (part_of s h.body) t
 
 -- any bytes as a descriptor loop: its descriptors as many as `decode_all` counts, and behind them the end, or the one that does not
 -- fit where it says that the loop breaks
@@ -125,15 +116,15 @@ UnitsTheorem = (s : List ℕ) (e : Extended) (at q l d n next : ℕ) (units : Pa
 
 -- a TOT has its descriptors alone
 abbrev pub TotTheorem : Type 0
-TotTheorem = (s : List ℕ) (t : Tot) → (tot_of s).result ≡ tot_ok t → LoopWalk (part_of (declared_section s) t.descriptors)
+TotTheorem = (s : List ℕ) (t : Tot) → (tot_of s).result ≡ Ok t → LoopWalk (part_of (declared_section s) t.descriptors)
 
 -- a caller may leave bytes behind the declared ones: the walks and the whole values are the same
 pub record BehindTheorem : Type 0 where
-  pub assets : (s : List ℕ) (t : Mpt) → (mpt_of s).mpt ≡ some_mpt t → AssetsWalk s t
-  pub mpt : (s : List ℕ) (t : Mpt) → (mpt_of s).mpt ≡ some_mpt t → whole_mpt s t ≡ whole_mpt (declared_table s) t
-  pub packages : (s : List ℕ) (t : Plt) → plt_of s ≡ some_plt t → PltWalks s t
-  pub plt : (s : List ℕ) (t : Plt) → plt_of s ≡ some_plt t → whole_plt s t ≡ whole_plt (declared_table s) t
-  pub tot : (s : List ℕ) (t : Tot) → (tot_of s).result ≡ tot_ok t → whole_tot s t ≡ whole_tot (declared_section s) t
+  pub assets : (s : List ℕ) (t : Mpt) → (mpt_of s).mpt ≡ Some t → AssetsWalk s t
+  pub mpt : (s : List ℕ) (t : Mpt) → (mpt_of s).mpt ≡ Some t → whole_mpt s t ≡ whole_mpt (declared_table s) t
+  pub packages : (s : List ℕ) (t : Plt) → plt_of s ≡ Some t → PltWalks s t
+  pub plt : (s : List ℕ) (t : Plt) → plt_of s ≡ Some t → whole_plt s t ≡ whole_plt (declared_table s) t
+  pub tot : (s : List ℕ) (t : Tot) → (tot_of s).result ≡ Ok t → whole_tot s t ≡ whole_tot (declared_section s) t
 
 pub record WalksTheorem : Type 0 where
   pub mpt : MptTheorem

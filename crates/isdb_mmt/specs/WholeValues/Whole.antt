@@ -1,7 +1,6 @@
 -- MPT and PLT as whole values: every field, id, location and descriptor, with their bytes, as a reader of a kept table gets them
 -- by the steps of Mpt and Plt. That the steps give these values is Walks.
-use Rattle.std.specs.Prelude.{ℕ, List, drop}
-use Rattle.std.proofs.Math.Option.{Option, none, some}
+use Rattle.std.specs.Prelude.{ℕ, List, drop, None, Some, Option}
 use Rattle.isdb_mmt.specs.Formats.Part.{part_of}
 use Rattle.isdb_mmt.specs.Decoder.Kept.{declared_table}
 use Rattle.isdb_mmt.specs.WholeValues.Steps.{Stood, malformed, element, Found, counted}
@@ -9,20 +8,10 @@ use Rattle.isdb_mmt.specs.WholeValues.WholeDescriptors.{WholeLocation, whole_loc
 use Rattle.isdb_mmt.specs.Formats.Mpt.{asset_at_of, mpt_of}
 use Rattle.isdb_mmt.specs.Formats.Plt.{package_at_of, delivery_at_of, plt_of}
 use Rattle.isdb_mmt.specs.declared.table.mpt.Asset.{Asset}
-use Rattle.isdb_mmt.specs.declared.table.mpt.AssetStep.{AssetStep}
-use Rattle.isdb_mmt.specs.declared.table.mpt.AssetStep.TheVariants.{Malformed as no_asset, Asset as asset}
 use Rattle.isdb_mmt.specs.declared.table.mpt.Mpt.{Mpt}
-use Rattle.isdb_mmt.specs.declared.table.mpt.MaybeMpt.{MaybeMpt}
-use Rattle.isdb_mmt.specs.declared.table.mpt.MaybeMpt.TheVariants.{None as no_mpt, Some as some_mpt}
 use Rattle.isdb_mmt.specs.declared.table.plt.Package.{Package}
-use Rattle.isdb_mmt.specs.declared.table.plt.PackageStep.{PackageStep}
-use Rattle.isdb_mmt.specs.declared.table.plt.PackageStep.TheVariants.{Malformed as no_package, Package as one_package}
 use Rattle.isdb_mmt.specs.declared.table.plt.IpDelivery.{IpDelivery}
-use Rattle.isdb_mmt.specs.declared.table.plt.DeliveryStep.{DeliveryStep}
-use Rattle.isdb_mmt.specs.declared.table.plt.DeliveryStep.TheVariants.{Malformed as no_delivery, Delivery as delivery}
 use Rattle.isdb_mmt.specs.declared.table.plt.Plt.{Plt}
-use Rattle.isdb_mmt.specs.declared.table.plt.MaybePlt.{MaybePlt}
-use Rattle.isdb_mmt.specs.declared.table.plt.MaybePlt.TheVariants.{None as no_plt, Some as some_plt}
 
 -- MPT: its package id and descriptors; of each asset its id, locations and descriptors
 pub record WholeAsset : Type 0 where
@@ -40,9 +29,9 @@ whole_asset s a =
       descriptors = loop_in (part_of s a.descriptors);
     }
 
-abbrev pub asset_told : List ℕ → AssetStep → Stood WholeAsset
-asset_told s no_asset = malformed
-asset_told s (asset a next) = element (whole_asset s a) next
+abbrev pub asset_told : List ℕ → Option (Asset × ℕ) → Stood WholeAsset
+asset_told s None = malformed
+asset_told s (Some (a, next)) = element (whole_asset s a) next
 
 abbrev pub asset_seen : List ℕ → ℕ → Stood WholeAsset
 asset_seen s at = asset_told s (asset_at_of s at)
@@ -62,9 +51,9 @@ whole_mpt s t =
       assets = (counted (asset_seen s) t.assets t.start).found;
     }
 
-abbrev pub mpt_told : List ℕ → MaybeMpt → Option WholeMpt
-mpt_told s no_mpt = none
-mpt_told s (some_mpt t) = some (whole_mpt s t)
+abbrev pub mpt_told : List ℕ → Option Mpt → Option WholeMpt
+mpt_told s None = None
+mpt_told s (Some t) = Some (whole_mpt s t)
 
 abbrev pub mpt_value : List ℕ → Option WholeMpt
 mpt_value s = mpt_told (declared_table s) (mpt_of s).mpt
@@ -81,16 +70,16 @@ whole_package s p =
       location = whole_location (drop p.location_start s) p.location;
     }
 
-abbrev pub package_told : List ℕ → PackageStep → Stood WholePackage
-package_told s no_package = malformed
-package_told s (one_package p next) = element (whole_package s p) next
+abbrev pub package_told : List ℕ → Option (Package × ℕ) → Stood WholePackage
+package_told s None = malformed
+package_told s (Some (p, next)) = element (whole_package s p) next
 
 abbrev pub package_seen : List ℕ → ℕ → Stood WholePackage
 package_seen s at = package_told s (package_at_of s at)
 
-abbrev pub delivery_told : DeliveryStep → Stood IpDelivery
-delivery_told no_delivery = malformed
-delivery_told (delivery x next) = element x next
+abbrev pub delivery_told : Option (IpDelivery × ℕ) → Stood IpDelivery
+delivery_told None = malformed
+delivery_told (Some (x, next)) = element x next
 
 abbrev pub delivery_seen : List ℕ → ℕ → Stood IpDelivery
 delivery_seen s at = delivery_told (delivery_at_of s at)
@@ -108,9 +97,9 @@ whole_plt s t =
       deliveries = (counted (delivery_seen s) t.ip_deliveries t.deliveries_start).found;
     }
 
-abbrev pub plt_told : List ℕ → MaybePlt → Option WholePlt
-plt_told s no_plt = none
-plt_told s (some_plt t) = some (whole_plt s t)
+abbrev pub plt_told : List ℕ → Option Plt → Option WholePlt
+plt_told s None = None
+plt_told s (Some t) = Some (whole_plt s t)
 
 abbrev pub plt_value : List ℕ → Option WholePlt
 plt_value s = plt_told (declared_table s) (plt_of s)

@@ -1,29 +1,20 @@
 -- Locations and descriptors as whole values: each with its bytes, its texts and its rows. The steps at a place, by which they
 -- are walked, are those of Location, Timestamp, Desc and Nit.
-use Rattle.std.specs.Prelude.{ℕ, ◌+◌, Bool, List, [], length, drop}
-use Rattle.std.proofs.Math.Option.{Option, none, some}
+use Rattle.std.specs.Prelude.{ℕ, ◌+◌, Bool, List, [], length, drop, None, Some, Option}
 use Rattle.isdb_mmt.specs.Formats.Part.{part_of}
 use Rattle.isdb_mmt.specs.WholeValues.Steps.{Stood, at_end, malformed, element, Found, counted, to_end}
 use Rattle.isdb_mmt.specs.Formats.Location.{location_of}
 use Rattle.isdb_mmt.specs.Formats.Timestamp.{timestamp_at, mpu_at, unit_step}
 use Rattle.isdb_mmt.specs.Formats.Desc.{step_at, descriptor_of, service_at, genre_at}
 use Rattle.isdb_mmt.specs.Formats.Nit.{tlv_step_at}
-use Rattle.isdb_mmt.specs.declared.maybe.MaybeU16.{MaybeU16}
-use Rattle.isdb_mmt.specs.declared.maybe.MaybeU32.{MaybeU32}
 use Rattle.isdb_mmt.specs.declared.location.Location.{Location}
 use Rattle.isdb_mmt.specs.declared.location.Location.TheVariants.{SameFlow, Ipv4, Ipv6, Mpeg2Ts, Mpeg2TsIpv6, Url}
-use Rattle.isdb_mmt.specs.declared.location.Located.{Located}
-use Rattle.isdb_mmt.specs.declared.location.Located.TheVariants.{None as not_located, Some as located}
-use Rattle.isdb_mmt.specs.declared.location.MaybeLocation.{MaybeLocation}
-use Rattle.isdb_mmt.specs.declared.location.MaybeLocation.TheVariants.{None as no_location, Some as some_location}
 use Rattle.isdb_mmt.specs.declared.timestamp.TimestampStep.{TimestampStep}
 use Rattle.isdb_mmt.specs.declared.timestamp.TimestampStep.TheVariants.{End as no_timestamp, Timestamp}
 use Rattle.isdb_mmt.specs.declared.timestamp.Extended.{Extended}
 use Rattle.isdb_mmt.specs.declared.timestamp.MpuStep.{MpuStep}
 use Rattle.isdb_mmt.specs.declared.timestamp.MpuStep.TheVariants.{End as no_mpu, Broken as broken_mpu, Mpu}
 use Rattle.isdb_mmt.specs.declared.timestamp.AccessUnit.{AccessUnit}
-use Rattle.isdb_mmt.specs.declared.timestamp.AccessUnitStep.{AccessUnitStep}
-use Rattle.isdb_mmt.specs.declared.timestamp.AccessUnitStep.TheVariants.{End as no_unit, Unit as access_unit}
 use Rattle.isdb_mmt.specs.declared.desc.Language.{Language}
 use Rattle.isdb_mmt.specs.declared.desc.Step.{Step}
 use Rattle.isdb_mmt.specs.declared.desc.Step.TheVariants.{End, Broken, Raw}
@@ -53,9 +44,9 @@ abbrev pub whole_location : List ℕ → Location → WholeLocation
 whole_location s l = record { location = l; url = url_in s l }
 
 -- the location at a place
-abbrev pub location_told : List ℕ → ℕ → Located → Stood WholeLocation
-location_told s at not_located = malformed
-location_told s at (located l taken) = element (whole_location (drop at s) l) (at + taken)
+abbrev pub location_told : List ℕ → ℕ → Option (Location × ℕ) → Stood WholeLocation
+location_told s at None = malformed
+location_told s at (Some (l, taken)) = element (whole_location (drop at s) l) (at + taken)
 
 abbrev pub location_seen : List ℕ → ℕ → Stood WholeLocation
 location_seen s at = location_told s at (location_of (drop at s))
@@ -76,9 +67,9 @@ abbrev pub timestamps_in : List ℕ → List MpuTime
 timestamps_in s = (to_end (timestamp_seen s) (length s) 0).found
 
 -- 7.4.3.35: the access units of an MPU, in bytes of their own, and the MPUs of an extended timestamp
-abbrev pub unit_told : AccessUnitStep → Stood AccessUnit
-unit_told no_unit = at_end
-unit_told (access_unit u next) = element u next
+abbrev pub unit_told : Option (AccessUnit × ℕ) → Stood AccessUnit
+unit_told None = at_end
+unit_told (Some (u, next)) = element u next
 
 abbrev pub unit_seen : List ℕ → Extended → ℕ → Stood AccessUnit
 unit_seen s e at = unit_told (unit_step s e at)
@@ -107,8 +98,8 @@ abbrev pub mpu_seen_of : List ℕ → Extended → ℕ → Stood WholeMpu
 mpu_seen_of s e at = mpu_told s e (mpu_at s e.own_pts_offset at)
 
 pub record WholeExtended : Type 0 where
-  pub timescale : MaybeU32
-  pub default_pts_offset : MaybeU16
+  pub timescale : Option ℕ
+  pub default_pts_offset : Option ℕ
   pub mpus : List WholeMpu
 
 abbrev pub whole_extended : List ℕ → Extended → WholeExtended
@@ -171,9 +162,9 @@ pub data Value : Type 0 where
   other : Value
 
 -- the location of an access control descriptor stands behind the CA system id
-abbrev pub location_in : List ℕ → MaybeLocation → Option WholeLocation
-location_in s no_location = none
-location_in s (some_location l) = some (whole_location (drop 2 s) l)
+abbrev pub location_in : List ℕ → Option Location → Option WholeLocation
+location_in s None = None
+location_in s (Some l) = Some (whole_location (drop 2 s) l)
 
 abbrev pub value_in : List ℕ → Descriptor → Value
 value_in s MpuTimestamp = mpu_timestamp (timestamps_in s)

@@ -1,13 +1,11 @@
 -- The whole values beside the rest: a table that parses has one, kept bytes are cut to what they declare, and the elements are those
 -- of the lists that StdB60 speaks of.
-use Rattle.std.specs.Prelude.{◌≡◌, ℕ, ◌+◌, Bool, true, List, map, length}
-use Rattle.std.proofs.Math.Option.{Option, none, some}
+use Rattle.std.specs.Prelude.{◌≡◌, ℕ, ◌+◌, Bool, true, List, map, length, Option, None, Some, is_some, is_ok}
 use Rattle.isdb_tlv.specs.Guards.{◌=?◌}
 use Rattle.std.specs.Prelude.{if◌then◌else◌}
 use Rattle.isdb_tlv.specs.Si.{nit_actual_id, nit_other_id, amt_id}
 use Rattle.isdb_mmt.specs.Formats.TableIds.{bit_id, sdt_actual_id, sdt_other_id}
 use Rattle.isdb_mmt.specs.Formats.Part.{part_of}
-use Rattle.isdb_mmt.specs.Decoder.Maps.{is_some}
 use Rattle.isdb_mmt.specs.WholeValues.Steps.{Found, counted, to_end}
 use Rattle.isdb_mmt.specs.Formats.Section.{length12}
 use Rattle.isdb_mmt.specs.Formats.Desc.{RawDescriptor, split_of}
@@ -20,7 +18,7 @@ use Rattle.isdb_mmt.specs.Formats.Bit.{broadcasters_of, bit_of}
 use Rattle.isdb_mmt.specs.Formats.Nit.{streams_of, nit_of}
 use Rattle.isdb_mmt.specs.Formats.Tot.{tot_of}
 use Rattle.isdb_mmt.specs.Standards.StdB60.{Descriptor, loop_sent, LoopConforming}
-use Rattle.isdb_mmt.specs.Decoder.Kept.{declared_table, declared_section, body_read, mpt_parses, plt_parses, tot_parses, eit_body_ok, sdt_body_ok, bit_body_ok, nit_body_ok, amt_body_ok}
+use Rattle.isdb_mmt.specs.Decoder.Kept.{declared_table, declared_section, body_read, mpt_parses, plt_parses, tot_parses}
 use Rattle.isdb_mmt.specs.WholeValues.WholeDescriptors.{WholeLocation, location_seen, WholeDescriptor, whole_descriptor, loop_in}
 use Rattle.isdb_mmt.specs.WholeValues.Whole.{whole_asset, asset_seen, mpt_value, whole_package, package_seen, delivery_seen, plt_value}
 use Rattle.isdb_mmt.specs.WholeValues.WholeSections.{described, flow_seen, amt_value, event_seen, eit_value, service_seen, sdt_value, broadcaster_seen, bit_value, whole_stream, streams_in, nit_value, tot_value}
@@ -43,11 +41,11 @@ section_whole id b =
 pub record ValuesTheorem : Type 0 where
   pub mpt : (b : List ℕ) → is_some (mpt_value b) ≡ mpt_parses (mpt_of b).mpt
   pub plt : (b : List ℕ) → is_some (plt_value b) ≡ plt_parses (plt_of b)
-  pub amt : (b : List ℕ) → is_some (amt_value b) ≡ amt_body_ok (amt_of b)
-  pub eit : (b : List ℕ) → is_some (eit_value b) ≡ eit_body_ok (eit_of b).result
-  pub sdt : (b : List ℕ) → is_some (sdt_value b) ≡ sdt_body_ok (sdt_of b).result
-  pub bit : (b : List ℕ) → is_some (bit_value b) ≡ bit_body_ok (bit_of b).result
-  pub nit : (b : List ℕ) → is_some (nit_value b) ≡ nit_body_ok (nit_of b)
+  pub amt : (b : List ℕ) → is_some (amt_value b) ≡ is_ok (amt_of b)
+  pub eit : (b : List ℕ) → is_some (eit_value b) ≡ is_ok (eit_of b).result
+  pub sdt : (b : List ℕ) → is_some (sdt_value b) ≡ is_ok (sdt_of b).result
+  pub bit : (b : List ℕ) → is_some (bit_value b) ≡ is_ok (bit_of b).result
+  pub nit : (b : List ℕ) → is_some (nit_value b) ≡ is_ok (nit_of b)
   pub tot : (b : List ℕ) → is_some (tot_value b) ≡ tot_parses (tot_of b).result
   pub section : (id : ℕ) (b : List ℕ) → section_whole id b ≡ (body_read id b).ok
 
@@ -58,7 +56,7 @@ pub record CutTheorem : Type 0 where
 
 -- a list that is there where the walk is whole
 abbrev pub if_whole : {A : Type 0} → Found A → Option (List A)
-if_whole l = if l.whole then some l.found else none
+if_whole l = if l.whole then Some l.found else None
 
 abbrev pub whole_raw : List ℕ → RawDescriptor → WholeDescriptor
 whole_raw s r = whole_descriptor r.tag (part_of s r.body)

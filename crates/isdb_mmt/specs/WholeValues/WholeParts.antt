@@ -1,6 +1,14 @@
 -- Every part that a table, a step or a descriptor tells lies within the bytes that it counts in: none of an id, a text, a body or
 -- a loop is cut off.
-use Rattle.std.specs.Prelude.{ℕ, ◌≤◌, Bool, List, length, drop}
+use Rattle.isdb_mmt.specs.declared.table.tot.Tot.{Tot}
+use Rattle.isdb_mmt.specs.declared.table.nit.Nit.{Nit}
+use Rattle.isdb_mmt.specs.declared.table.bit.Bit.{Bit}
+use Rattle.isdb_mmt.specs.declared.table.plt.Package.{Package}
+use Rattle.isdb_mmt.specs.declared.table.mpt.Mpt.{Mpt}
+use Rattle.isdb_mmt.specs.declared.table.mpt.Asset.{Asset}
+use Rattle.isdb_mmt.specs.declared.table.section.SectionError.{SectionError}
+use Rattle.isdb_mmt.specs.declared.table.section.SectionHeader.{SectionHeader}
+use Rattle.std.specs.Prelude.{ℕ, ◌≤◌, Bool, List, length, drop, Err, None, Ok, Option, Result, Some}
 use Rattle.isdb_mmt.specs.Formats.Part.{part_of}
 use Rattle.isdb_mmt.specs.Formats.Location.{location_of}
 use Rattle.isdb_mmt.specs.Formats.Timestamp.{mpu_at}
@@ -18,40 +26,22 @@ use Rattle.isdb_mmt.specs.WholeValues.WholeSections.{behind}
 use Rattle.isdb_mmt.specs.declared.part.Part.{Part}
 use Rattle.isdb_mmt.specs.declared.location.Location.{Location}
 use Rattle.isdb_mmt.specs.declared.location.Location.TheVariants.{SameFlow, Ipv4, Ipv6, Mpeg2Ts, Mpeg2TsIpv6, Url}
-use Rattle.isdb_mmt.specs.declared.location.Located.{Located}
-use Rattle.isdb_mmt.specs.declared.location.Located.TheVariants.{None as not_located, Some as located}
-use Rattle.isdb_mmt.specs.declared.location.MaybeLocation.{MaybeLocation}
-use Rattle.isdb_mmt.specs.declared.location.MaybeLocation.TheVariants.{None as no_location, Some as some_location}
 use Rattle.isdb_mmt.specs.declared.timestamp.MpuStep.{MpuStep}
 use Rattle.isdb_mmt.specs.declared.timestamp.MpuStep.TheVariants.{End as no_mpu, Broken as broken_mpu, Mpu}
 use Rattle.isdb_mmt.specs.declared.desc.Step.{Step}
 use Rattle.isdb_mmt.specs.declared.desc.Step.TheVariants.{End, Broken, Raw}
 use Rattle.isdb_mmt.specs.declared.desc.Descriptor.{Descriptor}
 use Rattle.isdb_mmt.specs.declared.desc.Descriptor.TheVariants.{MpuTimestamp, ExtendedTimestamp, AccessControl, Scrambler, StreamIdentifier, Service, ServiceList, ShortEvent, Content, Hevc, BroadcasterName, Other}
-use Rattle.isdb_mmt.specs.declared.table.section.LongSection.{LongSection}
-use Rattle.isdb_mmt.specs.declared.table.section.LongSection.TheVariants.{Ok as good, Err as bad}
-use Rattle.isdb_mmt.specs.declared.table.mpt.AssetStep.{AssetStep}
-use Rattle.isdb_mmt.specs.declared.table.mpt.AssetStep.TheVariants.{Malformed as no_asset, Asset as asset}
-use Rattle.isdb_mmt.specs.declared.table.mpt.MaybeMpt.{MaybeMpt}
-use Rattle.isdb_mmt.specs.declared.table.mpt.MaybeMpt.TheVariants.{None as no_mpt, Some as some_mpt}
-use Rattle.isdb_mmt.specs.declared.table.plt.PackageStep.{PackageStep}
-use Rattle.isdb_mmt.specs.declared.table.plt.PackageStep.TheVariants.{Malformed as no_package, Package as one_package}
 use Rattle.isdb_mmt.specs.declared.table.eit.EventStep.{EventStep}
 use Rattle.isdb_mmt.specs.declared.table.eit.EventStep.TheVariants.{End as no_event, Malformed as bad_event, Event as event}
 use Rattle.isdb_mmt.specs.declared.table.sdt.SdtStep.{SdtStep}
 use Rattle.isdb_mmt.specs.declared.table.sdt.SdtStep.TheVariants.{End as no_service, Malformed as bad_service, Service as service}
 use Rattle.isdb_mmt.specs.declared.table.bit.BroadcasterStep.{BroadcasterStep}
 use Rattle.isdb_mmt.specs.declared.table.bit.BroadcasterStep.TheVariants.{End as no_broadcaster, Malformed as bad_broadcaster, Broadcaster as broadcaster}
-use Rattle.isdb_mmt.specs.declared.table.bit.BitResult.{BitResult}
-use Rattle.isdb_mmt.specs.declared.table.bit.BitResult.TheVariants.{Ok as bit_ok, Err as bit_err}
 use Rattle.isdb_mmt.specs.declared.table.nit.StreamStep.{StreamStep}
 use Rattle.isdb_mmt.specs.declared.table.nit.StreamStep.TheVariants.{End as no_stream, Malformed as bad_stream, Stream as stream}
 use Rattle.isdb_mmt.specs.declared.table.nit.TlvStep.{TlvStep}
 use Rattle.isdb_mmt.specs.declared.table.nit.TlvStep.TheVariants.{End as no_tlv, Descriptor as tlv}
-use Rattle.isdb_mmt.specs.declared.table.nit.NitResult.{NitResult}
-use Rattle.isdb_mmt.specs.declared.table.nit.NitResult.TheVariants.{Ok as nit_ok, Err as nit_err}
-use Rattle.isdb_mmt.specs.declared.table.tot.TotResult.{TotResult}
-use Rattle.isdb_mmt.specs.declared.table.tot.TotResult.TheVariants.{Ok as tot_ok, Err as tot_err}
 
 abbrev pub Lies : List ℕ → Part → Type 0
 Lies s p = behind p ≤ length s
@@ -65,13 +55,13 @@ UrlLies s (Mpeg2Ts n t pid) = Unit {0}
 UrlLies s (Mpeg2TsIpv6 port pid) = Unit {0}
 UrlLies s (Url p) = Lies s p
 
-abbrev pub LocatedLies : List ℕ → Located → Type 0
-LocatedLies s not_located = Unit {0}
-LocatedLies s (located l taken) = UrlLies s l
+abbrev pub LocatedLies : List ℕ → Option (Location × ℕ) → Type 0
+LocatedLies s None = Unit {0}
+LocatedLies s (Some (l, taken)) = UrlLies s l
 
-abbrev pub LocationLies : List ℕ → MaybeLocation → Type 0
-LocationLies s no_location = Unit {0}
-LocationLies s (some_location l) = UrlLies s l
+abbrev pub LocationLies : List ℕ → Option Location → Type 0
+LocationLies s None = Unit {0}
+LocationLies s (Some l) = UrlLies s l
 
 -- a descriptor's body, its texts, an MPU's access units, a TLV-SI descriptor's body
 abbrev pub RawLies : List ℕ → Step → Type 0
@@ -103,22 +93,22 @@ TlvLies s no_tlv = Unit {0}
 TlvLies s (tlv tag body next) = Lies s body
 
 -- MPT and PLT
-abbrev pub MptLies : List ℕ → MaybeMpt → Type 0
-MptLies s no_mpt = Unit {0}
-MptLies s (some_mpt t) = Lies s t.package_id × Lies s t.descriptors
+abbrev pub MptLies : List ℕ → Option Mpt → Type 0
+MptLies s None = Unit {0}
+MptLies s (Some t) = Lies s t.package_id × Lies s t.descriptors
 
-abbrev pub AssetLies : List ℕ → AssetStep → Type 0
-AssetLies s no_asset = Unit {0}
-AssetLies s (asset a next) = Lies s a.asset_id × Lies s a.descriptors
+abbrev pub AssetLies : List ℕ → Option (Asset × ℕ) → Type 0
+AssetLies s None = Unit {0}
+AssetLies s (Some (a, next)) = Lies s a.asset_id × Lies s a.descriptors
 
-abbrev pub PackageLies : List ℕ → PackageStep → Type 0
-PackageLies s no_package = Unit {0}
-PackageLies s (one_package p next) = Lies s p.package_id × UrlLies (drop p.location_start s) p.location
+abbrev pub PackageLies : List ℕ → Option (Package × ℕ) → Type 0
+PackageLies s None = Unit {0}
+PackageLies s (Some (p, next)) = Lies s p.package_id × UrlLies (drop p.location_start s) p.location
 
 -- sections, and what stands in their bodies
-abbrev pub BodyLies : List ℕ → LongSection → Type 0
-BodyLies s (bad e) = Unit {0}
-BodyLies s (good h) = Lies s h.body
+abbrev pub BodyLies : List ℕ → Result SectionHeader SectionError → Type 0
+BodyLies s (Err e) = Unit {0}
+BodyLies s (Ok h) = Lies s h.body
 
 abbrev pub EventLies : List ℕ → EventStep → Type 0
 EventLies s no_event = Unit {0}
@@ -140,17 +130,17 @@ StreamLies s no_stream = Unit {0}
 StreamLies s bad_stream = Unit {0}
 StreamLies s (stream x next) = Lies s x.descriptors
 
-abbrev pub BitLies : List ℕ → BitResult → Type 0
-BitLies s (bit_err e) = Unit {0}
-BitLies s (bit_ok h t) = Lies (part_of s h.body) t.descriptors
+abbrev pub BitLies : List ℕ → Result (SectionHeader × Bit) SectionError → Type 0
+BitLies s (Err e) = Unit {0}
+BitLies s (Ok (h, t)) = Lies (part_of s h.body) t.descriptors
 
-abbrev pub NitLies : List ℕ → NitResult → Type 0
-NitLies s (nit_err e) = Unit {0}
-NitLies s (nit_ok h t) = Lies (part_of s h.body) t.descriptors × Lies (part_of s h.body) t.loop_part
+abbrev pub NitLies : List ℕ → Result (SectionHeader × Nit) SectionError → Type 0
+NitLies s (Err e) = Unit {0}
+NitLies s (Ok (h, t)) = Lies (part_of s h.body) t.descriptors × Lies (part_of s h.body) t.loop_part
 
-abbrev pub TotLies : List ℕ → TotResult → Type 0
-TotLies s (tot_err e) = Unit {0}
-TotLies s (tot_ok t) = Lies s t.descriptors
+abbrev pub TotLies : List ℕ → Result Tot SectionError → Type 0
+TotLies s (Err e) = Unit {0}
+TotLies s (Ok t) = Lies s t.descriptors
 
 pub record PartsTheorem : Type 0 where
   pub locations : (s : List ℕ) → LocatedLies s (location_of s)

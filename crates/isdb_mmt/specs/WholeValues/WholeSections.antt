@@ -1,7 +1,7 @@
 -- The tables of sections as whole values: every field and descriptor, with their bytes, as a reader of a kept section gets them by
 -- the steps of Amt, Eit, Sdt, Bit and Nit. That the steps give these values is Walks.
-use Rattle.std.specs.Prelude.{ℕ, ◌+◌, List, length}
-use Rattle.std.proofs.Math.Option.{Option, none, some}
+use Rattle.isdb_mmt.specs.declared.table.section.SectionError.{SectionError}
+use Rattle.std.specs.Prelude.{ℕ, ◌+◌, List, length, Err, None, Ok, Result, Some, Option}
 use Rattle.isdb_mmt.specs.Formats.Part.{part_of}
 use Rattle.isdb_mmt.specs.Decoder.Kept.{declared_section}
 use Rattle.isdb_mmt.specs.WholeValues.Steps.{Stood, at_end, malformed, element, Found, counted, to_end}
@@ -16,37 +16,23 @@ use Rattle.isdb_mmt.specs.declared.part.Part.{Part}
 use Rattle.isdb_mmt.specs.declared.table.section.SectionHeader.{SectionHeader}
 use Rattle.isdb_mmt.specs.declared.table.amt.Amt.{Amt}
 use Rattle.isdb_mmt.specs.declared.table.amt.AmtService.{AmtService}
-use Rattle.isdb_mmt.specs.declared.table.amt.AmtStep.{AmtStep}
-use Rattle.isdb_mmt.specs.declared.table.amt.AmtStep.TheVariants.{Malformed as no_flow_of, Service as flow}
-use Rattle.isdb_mmt.specs.declared.table.amt.AmtResult.{AmtResult}
-use Rattle.isdb_mmt.specs.declared.table.amt.AmtResult.TheVariants.{Ok as amt_ok, Err as amt_err}
 use Rattle.isdb_mmt.specs.declared.table.eit.Eit.{Eit}
 use Rattle.isdb_mmt.specs.declared.table.eit.Event.{Event}
 use Rattle.isdb_mmt.specs.declared.table.eit.EventStep.{EventStep}
 use Rattle.isdb_mmt.specs.declared.table.eit.EventStep.TheVariants.{End as no_event, Malformed as bad_event, Event as event}
-use Rattle.isdb_mmt.specs.declared.table.eit.EitResult.{EitResult}
-use Rattle.isdb_mmt.specs.declared.table.eit.EitResult.TheVariants.{Ok as eit_ok, Err as eit_err}
 use Rattle.isdb_mmt.specs.declared.table.sdt.Sdt.{Sdt}
 use Rattle.isdb_mmt.specs.declared.table.sdt.SdtService.{SdtService}
 use Rattle.isdb_mmt.specs.declared.table.sdt.SdtStep.{SdtStep}
 use Rattle.isdb_mmt.specs.declared.table.sdt.SdtStep.TheVariants.{End as no_service, Malformed as bad_service, Service as service}
-use Rattle.isdb_mmt.specs.declared.table.sdt.SdtResult.{SdtResult}
-use Rattle.isdb_mmt.specs.declared.table.sdt.SdtResult.TheVariants.{Ok as sdt_ok, Err as sdt_err}
 use Rattle.isdb_mmt.specs.declared.table.bit.Bit.{Bit}
 use Rattle.isdb_mmt.specs.declared.table.bit.Broadcaster.{Broadcaster}
 use Rattle.isdb_mmt.specs.declared.table.bit.BroadcasterStep.{BroadcasterStep}
 use Rattle.isdb_mmt.specs.declared.table.bit.BroadcasterStep.TheVariants.{End as no_broadcaster, Malformed as bad_broadcaster, Broadcaster as broadcaster}
-use Rattle.isdb_mmt.specs.declared.table.bit.BitResult.{BitResult}
-use Rattle.isdb_mmt.specs.declared.table.bit.BitResult.TheVariants.{Ok as bit_ok, Err as bit_err}
 use Rattle.isdb_mmt.specs.declared.table.nit.Nit.{Nit}
 use Rattle.isdb_mmt.specs.declared.table.nit.NitStream.{NitStream}
 use Rattle.isdb_mmt.specs.declared.table.nit.StreamStep.{StreamStep}
 use Rattle.isdb_mmt.specs.declared.table.nit.StreamStep.TheVariants.{End as no_stream, Malformed as bad_stream, Stream as stream}
-use Rattle.isdb_mmt.specs.declared.table.nit.NitResult.{NitResult}
-use Rattle.isdb_mmt.specs.declared.table.nit.NitResult.TheVariants.{Ok as nit_ok, Err as nit_err}
 use Rattle.isdb_mmt.specs.declared.table.tot.Tot.{Tot}
-use Rattle.isdb_mmt.specs.declared.table.tot.TotResult.{TotResult}
-use Rattle.isdb_mmt.specs.declared.table.tot.TotResult.TheVariants.{Ok as tot_ok, Err as tot_err}
 
 -- something with the descriptors that stand in a part of `s`
 pub record Described (A : Type 0) : Type 0 where
@@ -66,12 +52,12 @@ pub record InSection (A : Type 0) : Type 0 where
   pub table : A
 
 abbrev pub in_section : {A T : Type 0} → (List ℕ → T → A) → List ℕ → SectionHeader → T → Option (InSection A)
-in_section f s h t = some (record { header = h; table = f (part_of s h.body) t })
+in_section f s h t = Some (record { header = h; table = f (part_of s h.body) t })
 
 -- AMT
-abbrev pub flow_told : AmtStep → Stood AmtService
-flow_told no_flow_of = malformed
-flow_told (flow x next) = element x next
+abbrev pub flow_told : Option (AmtService × ℕ) → Stood AmtService
+flow_told None = malformed
+flow_told (Some (x, next)) = element x next
 
 abbrev pub flow_seen : List ℕ → ℕ → Stood AmtService
 flow_seen s at = flow_told (service_at s at)
@@ -79,9 +65,9 @@ flow_seen s at = flow_told (service_at s at)
 abbrev pub whole_amt : List ℕ → Amt → List AmtService
 whole_amt s t = (counted (flow_seen s) t.services 2).found
 
-abbrev pub amt_told : List ℕ → AmtResult → Option (InSection (List AmtService))
-amt_told s (amt_err e) = none
-amt_told s (amt_ok h t) = in_section whole_amt s h t
+abbrev pub amt_told : List ℕ → Result (SectionHeader × Amt) SectionError → Option (InSection (List AmtService))
+amt_told s (Err e) = None
+amt_told s (Ok (h, t)) = in_section whole_amt s h t
 
 abbrev pub amt_value : List ℕ → Option (InSection (List AmtService))
 amt_value s = amt_told s (amt_of s)
@@ -102,9 +88,9 @@ pub record WholeEit : Type 0 where
 abbrev pub whole_eit : List ℕ → Eit → WholeEit
 whole_eit s t = record { eit = t; events = (to_end (event_seen s) (length s) 6).found }
 
-abbrev pub eit_told : List ℕ → EitResult → Option (InSection WholeEit)
-eit_told s (eit_err e) = none
-eit_told s (eit_ok h t) = in_section whole_eit s h t
+abbrev pub eit_told : List ℕ → Result (SectionHeader × Eit) SectionError → Option (InSection WholeEit)
+eit_told s (Err e) = None
+eit_told s (Ok (h, t)) = in_section whole_eit s h t
 
 abbrev pub eit_value : List ℕ → Option (InSection WholeEit)
 eit_value s = eit_told s (eit_of s).result
@@ -125,9 +111,9 @@ pub record WholeSdt : Type 0 where
 abbrev pub whole_sdt : List ℕ → Sdt → WholeSdt
 whole_sdt s t = record { sdt = t; services = (to_end (service_seen s) (length s) 3).found }
 
-abbrev pub sdt_told : List ℕ → SdtResult → Option (InSection WholeSdt)
-sdt_told s (sdt_err e) = none
-sdt_told s (sdt_ok h t) = in_section whole_sdt s h t
+abbrev pub sdt_told : List ℕ → Result (SectionHeader × Sdt) SectionError → Option (InSection WholeSdt)
+sdt_told s (Err e) = None
+sdt_told s (Ok (h, t)) = in_section whole_sdt s h t
 
 abbrev pub sdt_value : List ℕ → Option (InSection WholeSdt)
 sdt_value s = sdt_told s (sdt_of s).result
@@ -152,9 +138,9 @@ whole_bit s t =
       broadcasters = (to_end (broadcaster_seen s) (length s) (behind t.descriptors)).found;
     }
 
-abbrev pub bit_told : List ℕ → BitResult → Option (InSection WholeBit)
-bit_told s (bit_err e) = none
-bit_told s (bit_ok h t) = in_section whole_bit s h t
+abbrev pub bit_told : List ℕ → Result (SectionHeader × Bit) SectionError → Option (InSection WholeBit)
+bit_told s (Err e) = None
+bit_told s (Ok (h, t)) = in_section whole_bit s h t
 
 abbrev pub bit_value : List ℕ → Option (InSection WholeBit)
 bit_value s = bit_told s (bit_of s).result
@@ -191,9 +177,9 @@ whole_nit s t =
       streams = streams_in (part_of s t.loop_part);
     }
 
-abbrev pub nit_told : List ℕ → NitResult → Option (InSection WholeNit)
-nit_told s (nit_err e) = none
-nit_told s (nit_ok h t) = in_section whole_nit s h t
+abbrev pub nit_told : List ℕ → Result (SectionHeader × Nit) SectionError → Option (InSection WholeNit)
+nit_told s (Err e) = None
+nit_told s (Ok (h, t)) = in_section whole_nit s h t
 
 abbrev pub nit_value : List ℕ → Option (InSection WholeNit)
 nit_value s = nit_told s (nit_of s)
@@ -202,9 +188,9 @@ nit_value s = nit_told s (nit_of s)
 abbrev pub whole_tot : List ℕ → Tot → Described Tot
 whole_tot s t = described s t.descriptors t
 
-abbrev pub tot_told : List ℕ → TotResult → Option (Described Tot)
-tot_told s (tot_err e) = none
-tot_told s (tot_ok t) = some (whole_tot s t)
+abbrev pub tot_told : List ℕ → Result Tot SectionError → Option (Described Tot)
+tot_told s (Err e) = None
+tot_told s (Ok t) = Some (whole_tot s t)
 
 abbrev pub tot_value : List ℕ → Option (Described Tot)
 tot_value s = tot_told (declared_section s) (tot_of s).result

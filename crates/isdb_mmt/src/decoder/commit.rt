@@ -62,27 +62,32 @@ pub(crate) fn store_sections(
     requires { CanStore tables.old ix.now log.now used area (a.now ++ b.now) }
     ensures { tables.new ≡ put_tables area 0 (logged_from used 0 ix.now log.now) (a.now ++ b.now) tables.old }
 {
-    let mut i = 0;
-    while i < used {
+    for i in 0..used {
         store_one(tables, ix, log, i, area, a, b);
-        i += 1;
     }
 }
 
 // An MPT, a PLT or a TOT that is logged, to area i.
-pub(crate) fn store_recent(tables: &mut [u8], r: Recent, i: usize, area: usize, a: &[u8], b: &[u8])
+pub(crate) fn store_recent(
+    tables: &mut [u8],
+    r: Option<Recent>,
+    i: usize,
+    area: usize,
+    a: &[u8],
+    b: &[u8],
+)
     requires { CanStoreRecent tables.old r i area (a.now ++ b.now) }
     ensures { tables.new ≡ put_recent (i * area) r (a.now ++ b.now) tables.old }
 {
-    if !r.there {
+    let Some(x) = r else {
         return;
-    }
-    if r.from == 0 {
+    };
+    if x.from == 0 {
         return;
     }
     let p = Part {
-        start: (r.from - 1) as usize,
-        length: r.length as usize,
+        start: (x.from - 1) as usize,
+        length: x.length as usize,
     };
     put_part(tables, i * area, a, b, p);
 }

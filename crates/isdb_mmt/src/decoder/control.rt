@@ -10,6 +10,7 @@ use crate::decoder::layout::{CONTROL_PLACES, CONTROL_SIZE};
 use crate::decoder::place::flag;
 use isdb_tlv::bytes;
 
+// Flags beside their numbers and no Option: so they stand in the lent state.
 #[derive(Clone, Copy)]
 pub(crate) struct Control {
     pub packet_id: u32,

@@ -9,7 +9,6 @@ ghost use Rattle.isdb_mmt.specs.Pushes.Counted.{Countable, StateCountable};
 use crate::decoder::counts::Counters;
 use crate::decoder::head::Time;
 use crate::decoder::{counts, head};
-use crate::maybe::MaybeU64;
 
 // One packet more, with what is counted of it beside tables.
 pub(crate) fn packet_counted(c: Counters, ip: u64, non: u64, time: u64) -> Counters
@@ -21,14 +20,7 @@ pub(crate) fn packet_counted(c: Counters, ip: u64, non: u64, time: u64) -> Count
         ip_errors: c.ip_errors + ip,
         non_mmtp: c.non_mmtp + non,
         ntp: c.ntp + time,
-        tables: c.tables,
-        crc_errors: c.crc_errors,
-        malformed: c.malformed,
-        version_changes: c.version_changes,
-        orphan_fragments: c.orphan_fragments,
-        oversize: c.oversize,
-        message_malformed: c.message_malformed,
-        split_errors: c.split_errors,
+        ..c
     }
 }
 
@@ -40,13 +32,13 @@ pub(crate) fn count_packet(state: &mut [u8], ip: u64, non: u64)
     head::store_counters(state, packet_counted(c, ip, non, 0));
 }
 
-fn store_seen(state: &mut [u8], t: MaybeU64)
+fn store_seen(state: &mut [u8], t: Option<u64>)
     requires { StateCountable state.old 0 0 1 }
     ensures { state.new ≡ with_time (time_given t) state.old }
 {
     match t {
-        MaybeU64::None => (),
-        MaybeU64::Some(timestamp) => head::store_time(
+        None => (),
+        Some(timestamp) => head::store_time(
             state,
             Time {
                 seen: true,
@@ -57,7 +49,7 @@ fn store_seen(state: &mut [u8], t: MaybeU64)
 }
 
 // An NTP packet: its transmit timestamp, where it is there.
-pub(crate) fn push_time(state: &mut [u8], t: MaybeU64)
+pub(crate) fn push_time(state: &mut [u8], t: Option<u64>)
     requires { StateCountable state.old 0 0 1 }
     ensures { state.new ≡ with_counters (packet_counted (counters_of state.old) 0 0 1) (with_time (time_given t) state.old) }
 {

@@ -1,46 +1,42 @@
 // Packet ids and keys of a session in ascending order, and what is known of a packet id.
-ghost use Rattle.std.specs.Prelude.{◌≡◌, ◌+◌, ◌*◌, ◌<◌, ◌≤◌, length};
+ghost use Rattle.std.specs.Prelude.{◌≡◌, ◌+◌, ◌*◌, ◌<◌, ◌≤◌, length, None};
 ghost use Rattle.isdb_tlv.specs.Guards.{◌<?◌};
 ghost use Rattle.std.specs.Prelude.{if◌then◌else◌};
 ghost use Rattle.isdb_mmt.specs.Memory.Lent.{names_from, found_from};
 ghost use Rattle.isdb_mmt.specs.Memory.Layout.{most_media_ids, most_mfu_area, media_places, media_size, control_places, control_size};
 ghost use Rattle.isdb_mmt.specs.Memory.Session.{used_of};
 ghost use Rattle.isdb_mmt.specs.Memory.Check.{PlacesThere};
-ghost use Rattle.isdb_mmt.specs.Memory.Opening.{lent};
+ghost use Rattle.isdb_mmt.specs.Memory.Lending.{lent_by};
 ghost use Rattle.isdb_mmt.specs.Memory.View.{header_given};
-ghost use Rattle.isdb_mmt.specs.Answers.Readings.{lesser, least_from, name_told, next_media_read, next_control_read, next_key_read, u32_if, range_if, media_state_of, media_read, held_object_of, held_at, held_read, control_state_of, control_read};
-ghost use Rattle.isdb_mmt.specs.declared.maybe.MaybeU32.TheVariants.{None as no_u32};
+ghost use Rattle.isdb_mmt.specs.Answers.Readings.{lesser, least_from, next_media_read, next_control_read, next_key_read, u32_if, media_state_of, media_read, held_object_of, held_at, held_read, control_state_of, control_read};
 
 use crate::decoder::control::Control;
 use crate::decoder::limits::Limits;
 use crate::decoder::media::Media;
-use crate::decoder::place::Found;
-use crate::decoder::readings::{
-    ControlReading, ControlState, HeldObject, HeldReading, MaybeRange, MediaReading, MediaState,
-    MpuRange, NameReading,
-};
-use crate::decoder::{control, head, layout, media, place, readings};
-use crate::maybe::MaybeU32;
-use crate::mpu::{MaybeMfu, MfuHeader};
+use crate::decoder::readings::{ControlState, Held, HeldObject, MediaState, MpuRange};
+use crate::decoder::refusal::Refusal;
+use crate::decoder::session::Session;
+use crate::decoder::{control, head, layout, media, place};
+use crate::mpu::MfuHeader;
 use crate::part::Part;
 use isdb_tlv::bytes;
 
-fn lesser_of(x: MaybeU32, y: u32) -> MaybeU32
+fn lesser_of(x: Option<u32>, y: u32) -> Option<u32>
     ensures { result ≡ lesser x y }
 {
     match x {
-        MaybeU32::None => MaybeU32::Some(y),
-        MaybeU32::Some(z) => {
+        None => Some(y),
+        Some(z) => {
             if y < z {
-                return MaybeU32::Some(y);
+                return Some(y);
             }
-            MaybeU32::Some(z)
+            Some(z)
         }
     }
 }
 
 // The least so far with one more name: those below first and above last do not count.
-fn least_with(x: MaybeU32, first: u32, last: u32, y: u32) -> MaybeU32
+fn least_with(x: Option<u32>, first: u32, last: u32, y: u32) -> Option<u32>
     ensures { result ≡ (if y <? first then x else if last <? y then x else lesser x y) }
 {
     if y < first {
@@ -53,108 +49,26 @@ fn least_with(x: MaybeU32, first: u32, last: u32, y: u32) -> MaybeU32
 }
 
 // The least name from first to last, of n places from at on.
-pub(crate) fn least(s: &[u8], at: usize, size: usize, n: usize, first: u32, last: u32) -> MaybeU32
+pub(crate) fn least(
+    s: &[u8],
+    at: usize,
+    size: usize,
+    n: usize,
+    first: u32,
+    last: u32,
+) -> Option<u32>
     requires { at + n * size ≤ length s.now }
-    ensures { result ≡ least_from no_u32 first last (names_from n size at s.now) }
+    ensures { result ≡ least_from None first last (names_from n size at s.now) }
 {
-    let mut x = MaybeU32::None;
-    let mut i = 0;
-    let mut p = at;
-    while i < n {
-        x = least_with(x, first, last, bytes::get_u32(s, p));
-        p += size;
-        i += 1;
+    let mut x = None;
+    for i in 0..n {
+        x = least_with(x, first, last, bytes::get_u32(s, at + i * size));
     }
     x
 }
 
-fn name_told(x: MaybeU32) -> NameReading
-    ensures { result ≡ name_told x }
-{
-    match x {
-        MaybeU32::None => NameReading::Nothing,
-        MaybeU32::Some(y) => NameReading::Name(y),
-    }
-}
-
-// The least media packet id from a number on.
-pub fn next_media(
-    state: &[u8],
-    others: &[u64; 256],
-    objects: &[u8],
-    messages: &[u8],
-    tables: &[u8],
-    from: u32,
-) -> NameReading
-    ensures { result ≡ next_media_read (lent state.now others.now objects.now messages.now tables.now) from }
-{
-    if !readings::is_session(state, others, objects, messages, tables) {
-        return NameReading::Refused(5);
-    }
-    let u = head::load_used(state);
-    name_told(least(
-        state,
-        layout::MEDIA_PLACES,
-        layout::MEDIA_SIZE,
-        u.media_ids as usize,
-        from,
-        4294967295,
-    ))
-}
-
-// The least packet id of control messages from a number on.
-pub fn next_control(
-    state: &[u8],
-    others: &[u64; 256],
-    objects: &[u8],
-    messages: &[u8],
-    tables: &[u8],
-    from: u32,
-) -> NameReading
-    ensures { result ≡ next_control_read (lent state.now others.now objects.now messages.now tables.now) from }
-{
-    if !readings::is_session(state, others, objects, messages, tables) {
-        return NameReading::Refused(5);
-    }
-    let u = head::load_used(state);
-    name_told(least(
-        state,
-        layout::CONTROL_PLACES,
-        layout::CONTROL_SIZE,
-        u.control_ids as usize,
-        from,
-        4294967295,
-    ))
-}
-
-// The least key of a kept table from first to last: table id, table id extension and section number.
-pub fn next_key(
-    state: &[u8],
-    others: &[u64; 256],
-    objects: &[u8],
-    messages: &[u8],
-    tables: &[u8],
-    first: u32,
-    last: u32,
-) -> NameReading
-    ensures { result ≡ next_key_read (lent state.now others.now objects.now messages.now tables.now) first last }
-{
-    if !readings::is_session(state, others, objects, messages, tables) {
-        return NameReading::Refused(5);
-    }
-    let u = head::load_used(state);
-    name_told(least(
-        state,
-        layout::SECTION_PLACES,
-        layout::SECTION_SIZE,
-        u.sections as usize,
-        first,
-        last,
-    ))
-}
-
 // Which place a packet id has.
-fn find_media(state: &[u8], id: u32) -> Found
+fn find_media(state: &[u8], id: u32) -> Option<usize>
     requires { PlacesThere state.now }
     ensures { result ≡ found_from 0 (names_from (used_of state.now).media_ids media_size media_places state.now) id }
 {
@@ -168,7 +82,7 @@ fn find_media(state: &[u8], id: u32) -> Found
     )
 }
 
-pub(crate) fn find_control(state: &[u8], id: u32) -> Found
+pub(crate) fn find_control(state: &[u8], id: u32) -> Option<usize>
     requires { PlacesThere state.now }
     ensures { result ≡ found_from 0 (names_from (used_of state.now).control_ids control_size control_places state.now) id }
 {
@@ -182,31 +96,22 @@ pub(crate) fn find_control(state: &[u8], id: u32) -> Found
     )
 }
 
-fn u32_if(there: bool, x: u32) -> MaybeU32
+fn u32_if(there: bool, x: u32) -> Option<u32>
     ensures { result ≡ u32_if there x }
 {
     if there {
-        return MaybeU32::Some(x);
+        return Some(x);
     }
-    MaybeU32::None
+    None
 }
 
-fn range_if(there: bool, first: u32, last: u32) -> MaybeRange
-    ensures { result ≡ range_if there first last }
-{
-    if there {
-        return MaybeRange::Some(MpuRange { first, last });
-    }
-    MaybeRange::None
-}
-
-fn header_if(there: bool, h: MfuHeader) -> MaybeMfu
+fn header_if(there: bool, h: MfuHeader) -> Option<MfuHeader>
     ensures { result ≡ header_given there h }
 {
     if there {
-        return MaybeMfu::Some(h);
+        return Some(h);
     }
-    MaybeMfu::None
+    None
 }
 
 fn media_state(m: Media) -> MediaState
@@ -217,28 +122,11 @@ fn media_state(m: Media) -> MediaState
     MediaState {
         stats,
         sequence: u32_if(m.seen, m.sequence),
-        mpu_range: range_if(m.mpu_seen, m.first_mpu, m.mpu),
+        mpu_range: m.mpu_seen.then_some(MpuRange {
+            first: m.first_mpu,
+            last: m.mpu,
+        }),
         held: u32_if(m.held, o.length),
-    }
-}
-
-// What is known of a media packet id.
-pub fn media(
-    state: &[u8],
-    others: &[u64; 256],
-    objects: &[u8],
-    messages: &[u8],
-    tables: &[u8],
-    id: u32,
-) -> MediaReading
-    ensures { result ≡ media_read (lent state.now others.now objects.now messages.now tables.now) id }
-{
-    if !readings::is_session(state, others, objects, messages, tables) {
-        return MediaReading::Refused(5);
-    }
-    match find_media(state, id) {
-        Found::At(i) => MediaReading::Media(media_state(media::load_media(state, i))),
-        Found::Nothing => MediaReading::Nothing,
     }
 }
 
@@ -261,34 +149,14 @@ fn held_object(l: Limits, i: usize, m: Media) -> HeldObject
     }
 }
 
-fn held_at(l: Limits, i: usize, m: Media) -> HeldReading
+fn held_at(l: Limits, i: usize, m: Media) -> Held
     requires { (i < most_media_ids) × (l.mfu_area ≤ most_mfu_area) }
     ensures { result ≡ held_at l i m }
 {
     if m.held {
-        return HeldReading::Object(held_object(l, i, m));
+        return Held::Object(held_object(l, i, m));
     }
-    HeldReading::Nothing
-}
-
-// The object that a media packet id holds.
-pub fn held(
-    state: &[u8],
-    others: &[u64; 256],
-    objects: &[u8],
-    messages: &[u8],
-    tables: &[u8],
-    id: u32,
-) -> HeldReading
-    ensures { result ≡ held_read (lent state.now others.now objects.now messages.now tables.now) id }
-{
-    if !readings::is_session(state, others, objects, messages, tables) {
-        return HeldReading::Refused(5);
-    }
-    match find_media(state, id) {
-        Found::At(i) => held_at(head::load_limits(state), i, media::load_media(state, i)),
-        Found::Nothing => HeldReading::NoId,
-    }
+    Held::NoObject
 }
 
 fn control_state(c: Control) -> ControlState
@@ -300,22 +168,90 @@ fn control_state(c: Control) -> ControlState
     }
 }
 
-// What is known of a packet id of control messages.
-pub fn control(
-    state: &[u8],
-    others: &[u64; 256],
-    objects: &[u8],
-    messages: &[u8],
-    tables: &[u8],
-    id: u32,
-) -> ControlReading
-    ensures { result ≡ control_read (lent state.now others.now objects.now messages.now tables.now) id }
-{
-    if !readings::is_session(state, others, objects, messages, tables) {
-        return ControlReading::Refused(5);
+#[tactic(auto, unfolding(crate::specs::Memory::Lending::session_asked, crate::specs::Answers::Readings::media_found, crate::specs::Answers::Readings::control_found, crate::specs::Answers::Readings::next_media_read, crate::specs::Answers::Readings::next_control_read, crate::specs::Answers::Readings::next_key_read, crate::specs::Answers::Readings::media_read, crate::specs::Answers::Readings::held_read, crate::specs::Answers::Readings::control_read))]
+impl<'a> Session<'a> {
+    // The least media packet id from a number on.
+    pub fn next_media(self, from: u32) -> Result<Option<u32>, Refusal>
+        ensures { result ≡ next_media_read (lent_by self.entry) from }
+    {
+        self.is_session()?;
+        let u = head::load_used(self.state);
+        Ok(least(
+            self.state,
+            layout::MEDIA_PLACES,
+            layout::MEDIA_SIZE,
+            u.media_ids as usize,
+            from,
+            4294967295,
+        ))
     }
-    match find_control(state, id) {
-        Found::At(i) => ControlReading::Control(control_state(control::load_control(state, i))),
-        Found::Nothing => ControlReading::Nothing,
+
+    // The least packet id of control messages from a number on.
+    pub fn next_control(self, from: u32) -> Result<Option<u32>, Refusal>
+        ensures { result ≡ next_control_read (lent_by self.entry) from }
+    {
+        self.is_session()?;
+        let u = head::load_used(self.state);
+        Ok(least(
+            self.state,
+            layout::CONTROL_PLACES,
+            layout::CONTROL_SIZE,
+            u.control_ids as usize,
+            from,
+            4294967295,
+        ))
+    }
+
+    // The least key of a kept table from first to last: table id, table id extension and section number.
+    pub fn next_key(self, first: u32, last: u32) -> Result<Option<u32>, Refusal>
+        ensures { result ≡ next_key_read (lent_by self.entry) first last }
+    {
+        self.is_session()?;
+        let u = head::load_used(self.state);
+        Ok(least(
+            self.state,
+            layout::SECTION_PLACES,
+            layout::SECTION_SIZE,
+            u.sections as usize,
+            first,
+            last,
+        ))
+    }
+
+    // What is known of a media packet id.
+    pub fn media(self, id: u32) -> Result<Option<MediaState>, Refusal>
+        ensures { result ≡ media_read (lent_by self.entry) id }
+    {
+        self.is_session()?;
+        match find_media(self.state, id) {
+            Some(i) => Ok(Some(media_state(media::load_media(self.state, i)))),
+            None => Ok(None),
+        }
+    }
+
+    // The object that a media packet id holds.
+    pub fn held(self, id: u32) -> Result<Held, Refusal>
+        ensures { result ≡ held_read (lent_by self.entry) id }
+    {
+        self.is_session()?;
+        match find_media(self.state, id) {
+            Some(i) => Ok(held_at(
+                head::load_limits(self.state),
+                i,
+                media::load_media(self.state, i),
+            )),
+            None => Ok(Held::NoId),
+        }
+    }
+
+    // What is known of a packet id of control messages.
+    pub fn control(self, id: u32) -> Result<Option<ControlState>, Refusal>
+        ensures { result ≡ control_read (lent_by self.entry) id }
+    {
+        self.is_session()?;
+        match find_control(self.state, id) {
+            Some(i) => Ok(Some(control_state(control::load_control(self.state, i)))),
+            None => Ok(None),
+        }
     }
 }

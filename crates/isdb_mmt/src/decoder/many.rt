@@ -45,13 +45,6 @@ pub struct Pushes {
     pub halt: Halt,
 }
 
-// What a turn leads to: a packet more, or the end.
-#[derive(Clone, Copy)]
-pub(crate) enum Turn {
-    Taken(Progress),
-    Halted(Halt),
-}
-
 const LINE_SIZE: usize = 16;
 
 // So much input has room in counts up to 2^52.
@@ -146,7 +139,7 @@ fn push_next(
     a
 }
 
-// One turn: what stands at the place reached is a packet, which is pushed, or it ends the call.
+// One turn: what stands at the place reached is a packet, which is pushed, or it ends the call. Answers the progress behind the packet.
 fn take_turn(
     state: &mut [u8],
     others: &mut [u64],
@@ -160,7 +153,7 @@ fn take_turn(
     lines: &mut [u8],
     x: Progress,
     known: bool,
-) -> Turn
+) -> Result<Progress, Halt>
     requires { AtTurn known input.now (run_of (lent state.old others.old objects.old messages.old tables.old) rows.old out.old lines.old x) }
     ensures { Turned known input.now most (run_of (lent state.old others.old objects.old messages.old tables.old) rows.old out.old lines.old x) result (lent state.new others.new objects.new messages.new tables.new) rows.new out.new lines.new }
 {
@@ -172,7 +165,7 @@ fn take_turn(
             next,
         } => {
             if no_line(lines, x) {
-                return Turn::Halted(Halt::Full);
+                return Err(Halt::Full);
             }
             let b = bytes::part(input, start, length);
             place::octets(b);
@@ -180,13 +173,13 @@ fn take_turn(
                 state, others, objects, messages, tables, kind, b, rows, out, lines, x, known,
             );
             if a.number != 0 {
-                return Turn::Halted(Halt::Refused(a.number));
+                return Err(Halt::Refused(a.number));
             }
-            Turn::Taken(progress_after(x, next, a))
+            Ok(progress_after(x, next, a))
         }
-        Cut::End => Turn::Halted(Halt::End),
-        Cut::Short => Turn::Halted(Halt::Short),
-        Cut::Bad => Turn::Halted(Halt::Bad),
+        Cut::End => Err(Halt::End),
+        Cut::Short => Err(Halt::Short),
+        Cut::Bad => Err(Halt::Bad),
     }
 }
 
@@ -217,8 +210,8 @@ fn push_each(
         match take_turn(
             state, others, objects, messages, tables, input, most, rows, out, lines, x, known,
         ) {
-            Turn::Taken(y) => x = y,
-            Turn::Halted(halt) => return Pushes { progress: x, halt },
+            Ok(y) => x = y,
+            Err(halt) => return Pushes { progress: x, halt },
         }
     }
 }

@@ -14,6 +14,7 @@ use crate::mpu::MfuHeader;
 use isdb_tlv::bytes;
 
 // What is known of a held object beside its bytes: fields of its first unit, 0 where absent, and its length so far.
+// Flags beside their numbers and no Option: so they stand in the lent state.
 #[derive(Clone, Copy)]
 pub(crate) struct Object {
     pub mpu_sequence_number: u32,
@@ -26,6 +27,7 @@ pub(crate) struct Object {
     pub length: u32,
 }
 
+// Flags beside their numbers and no Option: so they stand in the lent state.
 #[derive(Clone, Copy)]
 pub(crate) struct Media {
     pub packet_id: u32,
@@ -149,11 +151,9 @@ fn put_media(p: &mut [u8], m: Media)
     requires { media_size ≤ length p.old }
     ensures { p.new ≡ over 0 (written (media_fields m)) p.old }
 {
-    let object = m.object;
-    let stats = m.stats;
     put_numbers(p, m);
-    put_object(p, object);
-    counts::put_stats(p, stats);
+    put_object(p, m.object);
+    counts::put_stats(p, m.stats);
 }
 
 // To the end of the state: of a part whose length the compiler knows it would store each field byte by byte.

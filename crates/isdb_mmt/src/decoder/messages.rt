@@ -4,7 +4,7 @@ ghost use Rattle.std.specs.Prelude.{◌≡◌, ◌+◌, ◌*◌, ◌<◌, ◌≤
 ghost use Rattle.isdb_mmt.specs.Memory.Layout.{most_control_ids, state_size};
 ghost use Rattle.isdb_mmt.specs.Memory.Check.{PlacesThere};
 ghost use Rattle.isdb_mmt.specs.Pushes.Leaves.{control_place_for};
-ghost use Rattle.isdb_mmt.specs.Pushes.Fragments.{in_sequence, grown_length, continued as continued_as, fragment_outcome, flags_in, joined_with, none_joined, joined_still, joined_by, control_with, laid_by, area_by, completes, counted_with, fragment_counted, CanCount};
+ghost use Rattle.isdb_mmt.specs.Pushes.Fragments.{in_sequence, grown_length, continued as continued_as, fragment_outcome, flags_in, joined_with, joined_still, joined_by, control_with, laid_by, area_by, completes, counted_with, fragment_counted, CanCount};
 ghost use Rattle.isdb_mmt.specs.Pushes.FragmentPush.{blank_place, place_in, PlaceForThere, length_if, normal_latest, with_more, with_reassembly, with_counts, place_next, state_next, CanStoreReassembly, CanJoinAt, JoinedAt, received_fragment, CanReceive, CanJoin};
 ghost use Rattle.isdb_mmt.specs.Decoder.Packet.{message_packet, message};
 ghost use Rattle.isdb_mmt.specs.Memory.Opening.{lent};
@@ -16,7 +16,6 @@ use crate::decoder::head::{Latest, Used};
 use crate::decoder::layout::{CONTROL_PLACES, CONTROL_SIZE};
 use crate::decoder::place::PlaceFor;
 use crate::decoder::{control, counts, head, place, reassembler};
-use crate::message;
 use crate::message::{Division, Fragment};
 use isdb_tlv::bytes;
 
@@ -39,10 +38,9 @@ pub(crate) enum FragmentOutcome {
     Whole,
 }
 
-// A message that is being joined, as a place holds it.
+// A message that is being joined.
 #[derive(Clone, Copy)]
 pub(crate) struct Joined {
-    pub joining: bool,
     pub long_length: bool,
     pub aggregated: bool,
     pub length: u32,
@@ -93,10 +91,11 @@ fn continued(ends: bool, c: Control, n: u32, b: &[u8]) -> FragmentOutcome
     FragmentOutcome::Grown
 }
 
+#[tactic(auto, using(isdb_tlv::proofs::Fields::be_one))]
 pub(crate) fn flags_in(b: &[u8]) -> Fragment
     ensures { result ≡ flags_in b.now }
 {
-    message::fragment_of(bytes::get_u8(b, 0))
+    Fragment::from(bytes::get_u8(b, 0))
 }
 
 pub(crate) fn fragment_outcome(c: Control, n: u32, b: &[u8]) -> FragmentOutcome
@@ -107,8 +106,7 @@ pub(crate) fn fragment_outcome(c: Control, n: u32, b: &[u8]) -> FragmentOutcome
         return FragmentOutcome::Short;
     }
     let x = flags_in(b);
-    let d = x.division;
-    match d {
+    match x.division {
         Division::Undivided => FragmentOutcome::Undivided,
         Division::First => FragmentOutcome::First,
         Division::Middle => continued(false, c, n, b),
@@ -116,35 +114,23 @@ pub(crate) fn fragment_outcome(c: Control, n: u32, b: &[u8]) -> FragmentOutcome
     }
 }
 
-pub(crate) fn none_joined() -> Joined
-    ensures { result ≡ none_joined }
-{
-    Joined {
-        joining: false,
-        long_length: false,
-        aggregated: false,
-        length: 0,
-    }
-}
-
 fn joined_with(long_length: bool, aggregated: bool, length: u32) -> Joined
     ensures { result ≡ joined_with long_length aggregated length }
 {
     Joined {
-        joining: true,
         long_length,
         aggregated,
         length,
     }
 }
 
-fn joined_still(c: Control) -> Joined
+fn joined_still(c: Control) -> Option<Joined>
     ensures { result ≡ joined_still c }
 {
     if c.joining {
-        return joined_with(c.long_length, c.aggregated, c.length);
+        return Some(joined_with(c.long_length, c.aggregated, c.length));
     }
-    none_joined()
+    None
 }
 
 // The longest message that a fragment joins.
@@ -164,36 +150,43 @@ pub(crate) fn area_by(f: FragmentOutcome, c: Control, b: &[u8]) -> u64
 }
 
 // What is joined after a fragment, which needs an area of so many bytes.
-pub(crate) fn joined_by(f: FragmentOutcome, c: Control, b: &[u8], area: u32) -> Joined
+#[tactic(auto, using(crate::proofs::Fragments::first_joined, crate::proofs::Fragments::grown_joined), unfolding(crate::specs::Pushes::Fragments::joined_by))]
+pub(crate) fn joined_by(f: FragmentOutcome, c: Control, b: &[u8], area: u32) -> Option<Joined>
     requires { area ≡ area_by f c b.now }
     ensures { result ≡ joined_by f c b.now }
 {
     match f {
         FragmentOutcome::Short => joined_still(c),
-        FragmentOutcome::Undivided => none_joined(),
+        FragmentOutcome::Undivided => None,
         FragmentOutcome::First => {
             let x = flags_in(b);
-            joined_with(x.long_length, x.aggregated, area)
+            Some(joined_with(x.long_length, x.aggregated, area))
         }
-        FragmentOutcome::Orphan => none_joined(),
-        FragmentOutcome::Oversize => none_joined(),
-        FragmentOutcome::Grown => joined_with(c.long_length, c.aggregated, area),
-        FragmentOutcome::Whole => none_joined(),
+        FragmentOutcome::Orphan => None,
+        FragmentOutcome::Oversize => None,
+        FragmentOutcome::Grown => Some(joined_with(c.long_length, c.aggregated, area)),
+        FragmentOutcome::Whole => None,
     }
 }
 
 // The place after a packet, with the MPT that is kept then.
-pub(crate) fn control_with(id: u32, n: u32, j: Joined, mpt: bool, mpt_length: u32) -> Control
+pub(crate) fn control_with(
+    id: u32,
+    n: u32,
+    j: Option<Joined>,
+    mpt: bool,
+    mpt_length: u32,
+) -> Control
     ensures { result ≡ control_with id n j mpt mpt_length }
 {
     Control {
         packet_id: id,
         seen: true,
         sequence: n,
-        joining: j.joining,
-        long_length: j.long_length,
-        aggregated: j.aggregated,
-        length: j.length,
+        joining: j.is_some(),
+        long_length: j.is_some_and(|x| x.long_length),
+        aggregated: j.is_some_and(|x| x.aggregated),
+        length: j.map_or(0, |x| x.length),
         mpt,
         mpt_length,
     }
@@ -234,17 +227,10 @@ fn counted_with(c: Counters, orphans: u64, oversizes: u64, bad: u64) -> Counters
 {
     Counters {
         tlv_packets: c.tlv_packets + 1,
-        ip_errors: c.ip_errors,
-        non_mmtp: c.non_mmtp,
-        ntp: c.ntp,
-        tables: c.tables,
-        crc_errors: c.crc_errors,
-        malformed: c.malformed,
-        version_changes: c.version_changes,
         orphan_fragments: c.orphan_fragments + orphans,
         oversize: c.oversize + oversizes,
         message_malformed: c.message_malformed + bad,
-        split_errors: c.split_errors,
+        ..c
     }
 }
 
@@ -351,10 +337,9 @@ fn normal_latest(x: Latest) -> Latest
     ensures { result ≡ normal_latest x }
 {
     Latest {
-        plt: x.plt,
         plt_length: length_if(x.plt, x.plt_length),
-        tot: x.tot,
         tot_length: length_if(x.tot, x.tot_length),
+        ..x
     }
 }
 
@@ -363,9 +348,8 @@ fn with_more(k: u32, u: Used) -> Used
     ensures { result ≡ with_more k u }
 {
     Used {
-        media_ids: u.media_ids,
         control_ids: u.control_ids + k,
-        sections: u.sections,
+        ..u
     }
 }
 
@@ -447,11 +431,10 @@ pub(crate) fn push_fragment(
     requires { CanJoin (lent state.old others.now objects.now messages.old tables.now) (message_packet id n b.now) y }
     ensures { QuietPushed (lent state.old others.now objects.now messages.old tables.now) (message (message_packet id n b.now)) result (lent state.new others.now objects.now messages.new tables.now) }
 {
-    let t = y.place_for;
     let c = y.place;
     let f = y.outcome;
     place::octets(state);
-    match t {
+    match y.place_for {
         PlaceFor::Own(i) => join_at(state, messages, i, 0, id as u32, n, b, c, f),
         PlaceFor::Free(i) => join_at(state, messages, i, 1, id as u32, n, b, c, f),
         PlaceFor::NoneFree => 8,

@@ -1,22 +1,18 @@
 // Places of one size, one behind the other, each with a name of 4 bytes at its start: a packet id or a section's key. And
 // areas, of which each place has one.
 ghost use Rattle.std.specs.Prelude.{◌≡◌, ◌+◌, ◌*◌, ◌<◌, ◌≤◌, min, length};
+ghost use Rattle.std.specs.Slice.Iter.{chunks_exact_rest, chunks_exact_size};
 ghost use Rattle.isdb_tlv.specs.Bytes.{be, put_be};
 ghost use Rattle.isdb_mmt.specs.Memory.Lent.{part, over, flag as flag_at, names_from, among, distinct, cell_of, among_marked, found_from, place_for_name};
 ghost use Rattle.isdb_mmt.specs.Memory.Octets.{Octets};
 
 use isdb_tlv::bytes;
+use std::slice::ChunksExact;
 
 pub(crate) fn flag(p: &[u8], at: usize) -> bool
     ensures { result ≡ flag_at p.now at }
 {
     bytes::get_u8(p, at) != 0
-}
-
-#[derive(Clone, Copy)]
-pub(crate) enum Found {
-    At(usize),
-    Nothing,
 }
 
 // Where a name has its place, or takes the next free one, or that none is free.
@@ -27,21 +23,21 @@ pub(crate) enum PlaceFor {
     NoneFree,
 }
 
+// The n places from at on, one after the other.
+pub(crate) fn places(s: &[u8], at: usize, size: usize, n: usize) -> ChunksExact<'_, u8>
+    requires { (0 < size) × (at + n * size ≤ length s.now) }
+    ensures { (chunks_exact_rest result ≡ part at (n * size) s.now) × (chunks_exact_size result ≡ size) }
+{
+    let end = at + n * size;
+    s[at..end].chunks_exact(size)
+}
+
 // The first of n places from at on that has the name x.
-pub(crate) fn find(s: &[u8], at: usize, size: usize, n: usize, x: u32) -> Found
+pub(crate) fn find(s: &[u8], at: usize, size: usize, n: usize, x: u32) -> Option<usize>
     requires { (4 ≤ size) × (at + n * size ≤ length s.now) }
     ensures { result ≡ found_from 0 (names_from n size at s.now) x }
 {
-    let mut i = 0;
-    let mut p = at;
-    while i < n {
-        if word(s, p) == x {
-            return Found::At(i);
-        }
-        p += size;
-        i += 1;
-    }
-    Found::Nothing
+    places(s, at, size, n).position(|p| word(p, 0) == x)
 }
 
 pub(crate) fn place_for(
@@ -56,8 +52,8 @@ pub(crate) fn place_for(
     ensures { result ≡ place_for_name (names_from n size at s.now) limit x }
 {
     match find(s, at, size, n, x) {
-        Found::At(i) => PlaceFor::Own(i),
-        Found::Nothing => {
+        Some(i) => PlaceFor::Own(i),
+        None => {
             if n < limit {
                 return PlaceFor::Free(n);
             }
@@ -92,21 +88,15 @@ pub(crate) fn put_long(s: &mut [u8], p: usize, v: u64)
     bytes::put_u64(&mut s[p..end], 0, v);
 }
 
-fn wide(x: u8) -> u64
-    ensures { (result ≡ x) × (result < 256) }
-{
-    x as u64
-}
-
 // The number in 8 bytes that are there: a balanced sum, which the compiler makes one load of wherever it stands.
 pub(crate) fn long(s: &[u8], p: usize) -> u64
     requires { p + 8 ≤ length s.now }
     ensures { result ≡ be 8 s.now p }
 {
-    ((wide(s[p]) * 72057594037927936 + wide(s[p + 1]) * 281474976710656)
-        + (wide(s[p + 2]) * 1099511627776 + wide(s[p + 3]) * 4294967296))
-        + ((wide(s[p + 4]) * 16777216 + wide(s[p + 5]) * 65536)
-            + (wide(s[p + 6]) * 256 + wide(s[p + 7])))
+    ((u64::from(s[p]) * 72057594037927936 + u64::from(s[p + 1]) * 281474976710656)
+        + (u64::from(s[p + 2]) * 1099511627776 + u64::from(s[p + 3]) * 4294967296))
+        + ((u64::from(s[p + 4]) * 16777216 + u64::from(s[p + 5]) * 65536)
+            + (u64::from(s[p + 6]) * 256 + u64::from(s[p + 7])))
 }
 
 // Whether x is one of n names.
@@ -114,16 +104,7 @@ fn has_name(s: &[u8], at: usize, size: usize, n: usize, x: u32) -> bool
     requires { (4 ≤ size) × (at + n * size ≤ length s.now) }
     ensures { result ≡ among x (names_from n size at s.now) }
 {
-    let mut i = 0;
-    let mut p = at;
-    while i < n {
-        if word(s, p) == x {
-            return true;
-        }
-        p += size;
-        i += 1;
-    }
-    false
+    places(s, at, size, n).any(|p| word(p, 0) == x)
 }
 
 // An unmarked name is none of them.
@@ -131,10 +112,7 @@ fn is_among(s: &[u8], at: usize, size: usize, n: usize, x: u32, mark: u64) -> bo
     requires { (4 ≤ size) × (at + n * size ≤ length s.now) }
     ensures { result ≡ among_marked mark x (names_from n size at s.now) }
 {
-    if mark == 0 {
-        return false;
-    }
-    has_name(s, at, size, n, x)
+    mark != 0 && has_name(s, at, size, n, x)
 }
 
 // Whether no name stands twice. A name is compared with the earlier ones only where its cell is marked; marks that are there
@@ -143,10 +121,8 @@ fn no_name_twice(s: &[u8], at: usize, size: usize, n: usize, marks: &mut [u64]) 
     requires { (4 ≤ size) × ((at + n * size ≤ length s.now) × (length marks.old ≡ 512)) }
     ensures { result ≡ distinct (names_from n size at s.now) }
 {
-    let mut i = 0;
-    let mut p = at;
-    while i < n {
-        let x = word(s, p);
+    for i in 0..n {
+        let x = word(s, at + i * size);
         let c = cell(x);
         let k = (c / 64) as usize;
         let b = (c % 64) as u8;
@@ -155,8 +131,6 @@ fn no_name_twice(s: &[u8], at: usize, size: usize, n: usize, marks: &mut [u64]) 
             return false;
         }
         marks[k] = bytes::with_bit(w, b);
-        p += size;
-        i += 1;
     }
     true
 }
@@ -175,17 +149,13 @@ fn few_apart(s: &[u8], at: usize, size: usize, n: usize) -> bool
     ensures { result ≡ distinct (names_from n size at s.now) }
 {
     let mut marks = 0u64;
-    let mut i = 0;
-    let mut p = at;
-    while i < n {
-        let x = word(s, p);
+    for i in 0..n {
+        let x = word(s, at + i * size);
         let b = (cell(x) % 64) as u8;
         if is_among(s, at, size, i, x, (marks >> b) % 2) {
             return false;
         }
         marks = bytes::with_bit(marks, b);
-        p += size;
-        i += 1;
     }
     true
 }
@@ -195,13 +165,11 @@ pub(crate) fn names_apart(s: &[u8], at: usize, size: usize, n: usize) -> bool
     requires { (4 ≤ size) × (at + n * size ≤ length s.now) }
     ensures { result ≡ distinct (names_from n size at s.now) }
 {
-    if n < 2 {
-        return true;
+    match n {
+        0 | 1 => true,
+        2..=16 => few_apart(s, at, size, n),
+        _ => marked_apart(s, at, size, n),
     }
-    if n <= 16 {
-        return few_apart(s, at, size, n);
-    }
-    marked_apart(s, at, size, n)
 }
 
 // The n bytes from the start of area i.
@@ -212,29 +180,8 @@ pub(crate) fn in_area(s: &[u8], i: usize, area: usize, n: usize) -> &[u8]
     bytes::part(s, i * area, n)
 }
 
-// Some bytes, from a place on, one after the other.
-fn put_each(s: &mut [u8], at: usize, b: &[u8])
-    requires { at + length b.now ≤ length s.old }
-    ensures { s.new ≡ over at b.now s.old }
-{
-    let mut k = 0;
-    while k < b.len() {
-        s[at + k] = b[k];
-        k += 1;
-    }
-}
-
 // So many bytes are copied at once.
 const BLOCK: usize = 4096;
-
-fn in_block(n: usize) -> usize
-    ensures { result ≡ min n 4096 }
-{
-    if n < BLOCK {
-        return n;
-    }
-    BLOCK
-}
 
 // By way of an array that nothing else shares. The compiler knows then that neither copy overlaps, makes them one call of memmove, and
 // leaves the array out; of a copy from slice to slice it does not know that.
@@ -243,9 +190,11 @@ fn put_block(s: &mut [u8], at: usize, b: &[u8])
     ensures { s.new ≡ over at b.now s.old }
 {
     let n = b.len();
-    let mut block = [0u8; 4096];
-    put_each(&mut block, 0, b);
-    put_each(s, at, bytes::part(&block, 0, n));
+    let end = at + n;
+    let mut block = [0u8; BLOCK];
+    let part = &mut block[..n];
+    part.copy_from_slice(b);
+    s[at..end].copy_from_slice(part);
 }
 
 // Some bytes, from a place on.
@@ -253,11 +202,10 @@ pub(crate) fn put_bytes(s: &mut [u8], at: usize, b: &[u8])
     requires { at + length b.now ≤ length s.old }
     ensures { s.new ≡ over at b.now s.old }
 {
-    let mut k = 0;
-    while k < b.len() {
-        let n = in_block(b.len() - k);
-        put_block(s, at + k, bytes::part(b, k, n));
-        k += n;
+    let mut to = at;
+    for p in b.chunks(BLOCK) {
+        put_block(s, to, p);
+        to += p.len();
     }
 }
 

@@ -21,14 +21,13 @@ use crate::decoder::layout::{
     COUNTERS, HELD, MEDIA_PLACES, MEDIA_SIZE, OBJECT, OBJECT_LENGTH, STATS, USED,
 };
 use crate::decoder::media::Object;
-use crate::decoder::place::{Found, flag};
+use crate::decoder::place::flag;
 use crate::decoder::records::ROW_SIZE;
 use crate::decoder::{place, records, take};
-use crate::maybe::MaybeU32;
 use crate::mpu;
-use crate::mpu::{MaybeHeader, MfuHeader, PayloadHeader};
+use crate::mpu::{MfuHeader, PayloadHeader};
 use isdb_tlv::bytes;
-use isdb_tlv::mmtp::{FecType, Header, MaybeControl, PayloadType};
+use isdb_tlv::mmtp::{FecType, Header, PayloadType};
 
 // Whether the packet was taken, with one record and so many bytes of data handed out, or with none.
 #[derive(Clone, Copy)]
@@ -101,21 +100,17 @@ fn is_next(p: &[u8], n: u32, mpu: u32) -> bool
 }
 
 // Its place, where it is.
-fn next_place(s: &[u8], id: u16, n: u32, mpu: u32) -> Found
+fn next_place(s: &[u8], id: u16, n: u32, mpu: u32) -> Option<usize>
     requires { PlacesThere s.now }
     ensures { NextAt s.now id n mpu result }
 {
     let ids = place::word(s, USED);
-    match place::find(s, MEDIA_PLACES, MEDIA_SIZE, ids as usize, id as u32) {
-        Found::Nothing => Found::Nothing,
-        Found::At(i) => {
-            let at = MEDIA_PLACES + MEDIA_SIZE * i;
-            if is_next(bytes::part(s, at, MEDIA_SIZE), n, mpu) {
-                return Found::At(i);
-            }
-            Found::Nothing
-        }
+    let i = place::find(s, MEDIA_PLACES, MEDIA_SIZE, ids as usize, id as u32)?;
+    let at = MEDIA_PLACES + MEDIA_SIZE * i;
+    if is_next(bytes::part(s, at, MEDIA_SIZE), n, mpu) {
+        return Some(i);
     }
+    None
 }
 
 // Whether a place holds an object of timed units.
@@ -132,29 +127,29 @@ fn grows(p: &[u8]) -> bool
 }
 
 // How long the object of place i is with n bytes more, where they have room in its area.
-fn grown_length(s: &[u8], i: usize, n: usize) -> MaybeU32
+fn grown_length(s: &[u8], i: usize, n: usize) -> Option<u32>
     requires { CanGrow s.now i n }
     ensures { GrownAt s.now i n result }
 {
     let p = bytes::part(s, MEDIA_PLACES + MEDIA_SIZE * i, MEDIA_SIZE);
     if !grows(p) {
-        return MaybeU32::None;
+        return None;
     }
     let k = bytes::get_u32(p, OBJECT_LENGTH) as u64 + n as u64;
     if place::long(s, 24) < k {
-        return MaybeU32::None;
+        return None;
     }
-    MaybeU32::Some(k as u32)
+    Some(k as u32)
 }
 
 // The header of a payload for place i, where it holds no object.
-fn unit_header(s: &[u8], i: usize, b: &[u8]) -> MaybeHeader
+fn unit_header(s: &[u8], i: usize, b: &[u8]) -> Option<PayloadHeader>
     requires { i < most_media_ids }
     ensures { FreeHeader s.now i b.now result }
 {
     let p = bytes::part(s, MEDIA_PLACES + MEDIA_SIZE * i, MEDIA_SIZE);
     if flag(p, HELD) {
-        return MaybeHeader::None;
+        return None;
     }
     mpu::parse_header(b)
 }
@@ -243,10 +238,10 @@ fn push_part(
 {
     let n = bytes::get_u16(b, 0) as usize - 20;
     match next_place(state, h.packet_id, h.sequence, bytes::get_u32(b, 4)) {
-        Found::Nothing => Plain::No,
-        Found::At(i) => match grown_length(state, i, n) {
-            MaybeU32::None => Plain::No,
-            MaybeU32::Some(k) => {
+        None => Plain::No,
+        Some(i) => match grown_length(state, i, n) {
+            None => Plain::No,
+            Some(k) => {
                 commit_part(state, objects, b, i, h.sequence, k);
                 Plain::Grown
             }
@@ -331,10 +326,10 @@ fn push_unit(
         return Plain::No;
     }
     match next_place(state, h.packet_id, h.sequence, bytes::get_u32(p, 4)) {
-        Found::Nothing => Plain::No,
-        Found::At(i) => match unit_header(state, i, p) {
-            MaybeHeader::None => Plain::No,
-            MaybeHeader::Some(x) => {
+        None => Plain::No,
+        Some(i) => match unit_header(state, i, p) {
+            None => Plain::No,
+            Some(x) => {
                 commit_unit(
                     state, others, objects, messages, tables, h, p, i, x, rows, out,
                 );
@@ -356,7 +351,7 @@ fn header_in(b: &[u8]) -> Header
         packet_id: bytes::get_u16(b, 5),
         sequence: bytes::get_u32(b, 11),
         scramble_info: false,
-        scramble_control: MaybeControl::None,
+        scramble_control: None,
     }
 }
 

@@ -6,7 +6,7 @@ ghost use Rattle.isdb_mmt.specs.Pushes.Start.{signal_of, CopiesLent, CanLeave, S
 use crate::decoder::counts::Counters;
 use crate::decoder::head::Used;
 use crate::decoder::walk::WalkState;
-use crate::decoder::{clear_counts, commit, counted, counts, head, start, walk};
+use crate::decoder::{commit, counted, counts, head, start, walk};
 use isdb_tlv::bytes;
 
 // What the sections leave.
@@ -36,11 +36,10 @@ fn leave(
         bytes::part(b, 0, 0),
         b,
     );
-    start::copy_counts(others, mine);
+    others.copy_from_slice(mine);
     let v = Used {
-        media_ids: u.media_ids,
-        control_ids: u.control_ids,
         sections: used as u32,
+        ..u
     };
     commit::store_state(state, ix, v, start::counters_with(c, g));
 }
@@ -61,9 +60,9 @@ fn push_on(
 {
     let c = counted::packet_counted(counts::counters_of(state), 0, 0, 0);
     start::load_index(ix, state);
-    clear_counts(log);
-    start::copy_counts(mine, others);
-    let first = start::walk_start(state, tables, c, start::no_recent());
+    log.fill(0);
+    mine.copy_from_slice(others);
+    let first = start::walk_start(state, tables, c, None);
     let g = walk::sections(ix, log, mine, first, b);
     let n = start::tables_ask(head::load_limits(state), g);
     if n != 0 {

@@ -10,7 +10,7 @@ ghost use Rattle.isdb_mmt.specs.Memory.Layout.{most_media_ids, media_places, med
 ghost use Rattle.isdb_mmt.specs.Memory.Lent.{part, over};
 ghost use Rattle.isdb_mmt.specs.Memory.Session.{media_fields};
 ghost use Rattle.isdb_mmt.specs.Memory.Opening.{lent};
-ghost use Rattle.isdb_mmt.specs.Pushes.MediaEffect.{unit_object, with_length};
+ghost use Rattle.isdb_mmt.specs.Pushes.MediaEffect.{unit_object, object_or, with_length};
 ghost use Rattle.isdb_mmt.specs.Pushes.MediaPlace.{start_of};
 ghost use Rattle.isdb_mmt.specs.Pushes.MediaPush.{one_more_of, with_used, with_packets, media_place_for, MediaPushed};
 ghost use Rattle.isdb_mmt.specs.Pushes.MediaCommit.{CanTakePlace, blank, place_in, index_of, passes_on, fits_number, number_of, Small, answer_of, OnePut, CanAppend, units_data, CanEnd, CanPass, passed_unit, CanTake, CanCommit, Committed, CanStore, state_after, CanCommitAll, CommittedAll, CanPushMedia};
@@ -24,10 +24,9 @@ use crate::decoder::place::PlaceFor;
 use crate::decoder::reassembler::{MediaEffect, MediaOutcome};
 use crate::decoder::records::{Answer, ROW_SIZE};
 use crate::decoder::{head, media, place, reassembler, records};
-use crate::maybe::MaybeU32;
-use crate::mpu::{FragmentationIndicator, MaybeHeader, MaybeMfu, PayloadHeader, Unit, UnitStep};
+use crate::mpu;
+use crate::mpu::{FragmentationIndicator, PayloadHeader, Unit, UnitStep};
 use crate::part::Part;
-use crate::{maybe, mpu};
 use isdb_tlv::bytes;
 use isdb_tlv::mmtp::Header;
 
@@ -36,7 +35,7 @@ fn media_place_for(s: &[u8], l: Limits, id: u16) -> PlaceFor
     requires { CanTakePlace s.now l }
     ensures { result ≡ media_place_for s.now id }
 {
-    let u = head::media_used(s);
+    let u = head::load_used(s);
     place::place_for(
         s,
         MEDIA_PLACES,
@@ -98,12 +97,12 @@ fn index_of(place_for: PlaceFor) -> usize
 }
 
 // Whether a payload is passed on, scrambled as it is.
-fn passes_on(pass: bool, scrambled: bool, h: MaybeHeader) -> bool
+fn passes_on(pass: bool, scrambled: bool, h: Option<PayloadHeader>) -> bool
     ensures { result ≡ passes_on pass scrambled h }
 {
     match h {
-        MaybeHeader::None => false,
-        MaybeHeader::Some(x) => {
+        None => false,
+        Some(x) => {
             if pass {
                 return scrambled;
             }
@@ -178,7 +177,7 @@ fn answer_of(
     let t = r.units;
     let k = r.header;
     let passed = passes_on(l.pass_scrambled, scrambled, k);
-    let records = maybe::flag(passed) + t.records;
+    let records = u64::from(passed) + t.records;
     let bytes = passed_bytes(passed, n) + t.bytes;
     let number = number_of(
         place_for, l.mfu_area, t.longest, rows, given, records, bytes,
@@ -214,8 +213,7 @@ fn one_more(u: Used) -> Used
 {
     Used {
         media_ids: u.media_ids + 1,
-        control_ids: u.control_ids,
-        sections: u.sections,
+        ..u
     }
 }
 
@@ -247,8 +245,7 @@ fn append_units(s: &mut [u8], from: usize, q: &[u8], timed: bool, aggregated: bo
             UnitStep::End => return,
             UnitStep::Malformed => return,
             UnitStep::Unit(u, next) => {
-                let p = u.data;
-                let b = p.of(q);
+                let b = u.data.of(q);
                 place::put_in_area(s, 0, 0, k, b);
                 k += b.len();
                 at = next;
@@ -269,20 +266,17 @@ fn end_object(
     out: &mut [u8],
 )
     requires { CanEnd at p t q.now objects.now rows.old out.old }
-    ensures { OnePut h.packet_id false (with_length t.bytes (start_of p h.sequence).object) (part at p.object.length objects.now) (part_of q.now t.last) rows.old out.old rows.new out.new }
+    ensures { OnePut h.packet_id false (with_length t.bytes (object_or (start_of p h.sequence).object)) (part at p.object.length objects.now) (part_of q.now t.last) rows.old out.old rows.new out.new }
 {
     let s = reassembler::start_of(p, h.sequence);
-    let held = p.object;
-    let o = s.object;
-    let last = t.last;
     records::put_record(
         rows,
         out,
         h.packet_id,
         false,
-        reassembler::with_length(t.bytes as u32, o),
-        bytes::part(objects, at, held.length as usize),
-        last.of(q),
+        reassembler::with_length(t.bytes as u32, reassembler::object_or(s.object)),
+        bytes::part(objects, at, p.object.length as usize),
+        t.last.of(q),
     );
 }
 
@@ -293,8 +287,8 @@ fn pass_on(mpu: u32, h: Header, b: &[u8], rows: &mut [u8], out: &mut [u8])
 {
     let n = b.len() - 8;
     let u = Unit {
-        mfu: MaybeMfu::None,
-        item_id: MaybeU32::None,
+        mfu: None,
+        item_id: None,
         data: Part {
             start: 8,
             length: n,
@@ -334,13 +328,17 @@ fn commit_units(
             records::give_units(q, x, h.packet_id, h.rap, rows, out);
         }
         FragmentationIndicator::Head => {
-            let d = t.last;
-            place::put_in_area(objects, 0, 0, at, d.of(q));
+            place::put_in_area(objects, 0, 0, at, t.last.of(q));
         }
         FragmentationIndicator::Middle => {
-            if t.held {
-                let o = p.object;
-                append_units(objects, at + o.length as usize, q, x.timed, x.aggregated);
+            if t.object.is_some() {
+                append_units(
+                    objects,
+                    at + p.object.length as usize,
+                    q,
+                    x.timed,
+                    x.aggregated,
+                );
             }
         }
         FragmentationIndicator::Last => {
@@ -368,8 +366,8 @@ fn commit(
 {
     let k = r.header;
     match k {
-        MaybeHeader::None => {}
-        MaybeHeader::Some(x) => {
+        None => {}
+        Some(x) => {
             if r.taken {
                 commit_units(x, objects, at, p, r, h, b, rows, out);
                 return;
@@ -399,16 +397,14 @@ fn commit_all(
 {
     let at = index_of(place_for) * l.mfu_area as usize;
     commit(objects, at, l.pass_scrambled, p, r, h, b, rows, out);
-    let k = r.header;
-    let t = r.units;
     let m = reassembler::place_after(
         h.packet_id as u32,
         p,
         h.sequence,
         h.scramble_info,
-        k,
+        r.header,
         r.bad,
-        t,
+        r.units,
     );
     store_place(state, place_for, m);
 }
@@ -428,7 +424,7 @@ pub(crate) fn push_media(
     requires { CanPushMedia (lent state.old others.now objects.old messages.now tables.now) b.now }
     ensures { MediaPushed (lent state.old others.now objects.old messages.now tables.now) rows.old out.old (media_of h b.now) result.number result.records result.bytes (lent state.new others.now objects.new messages.now tables.now) rows.new out.new }
 {
-    let l = head::media_limits(state);
+    let l = head::load_limits(state);
     let place_for = media_place_for(state, l, h.packet_id);
     let p = place_in(state, place_for);
     let r = reassembler::media_outcome(p, h.sequence, h.scramble_info, h.rap, b);

@@ -14,7 +14,7 @@ use crate::decoder::limits::Limits;
 use crate::decoder::messages::{FragmentOutcome, ReceivedFragment};
 use crate::decoder::place::PlaceFor;
 use crate::decoder::walk::WalkState;
-use crate::decoder::{clear_counts, commit, counts, head, messages, place, start, walk};
+use crate::decoder::{commit, counts, head, messages, place, start, walk};
 use isdb_tlv::bytes;
 
 // Whether a message is whole with its last fragment.
@@ -83,8 +83,8 @@ fn walk_whole(
 {
     let l = head::load_limits(state);
     start::load_index(ix, state);
-    clear_counts(log);
-    start::copy_counts(mine, others);
+    log.fill(0);
+    mine.copy_from_slice(others);
     let k = l.sections as usize + i;
     let mpt = start::recent_in(tables, k, l.table_area as usize, c.mpt, c.mpt_length);
     let g = start::walk_start(state, tables, cs, mpt);
@@ -170,10 +170,10 @@ fn whole_at(
     }
     let mpt = g.mpt;
     let length = start::recent_length(mpt);
-    let d = messages::control_with(id as u32, n, messages::none_joined(), mpt.there, length);
+    let d = messages::control_with(id as u32, n, None, mpt.is_some(), length);
     let a = before_by(joined, i, l.message_area as usize, c, last);
     commit::store_areas(tables, ix, log, g, l, i, a, bytes::rest(b, 2));
-    start::copy_counts(others, mine);
+    others.copy_from_slice(mine);
     leave_state(state, ix, i, k, d, cs, g);
     0
 }
@@ -219,8 +219,7 @@ fn push_whole(
     requires { CanPushWhole (lent state.old others.old objects.now joined.now tables.old) (message_packet id n b.now) y }
     ensures { QuietPushed (lent state.old others.old objects.now joined.now tables.old) (message (message_packet id n b.now)) result (lent state.new others.new objects.now joined.now tables.new) }
 {
-    let t = y.place_for;
-    match t {
+    match y.place_for {
         PlaceFor::Own(i) => whole_in(state, others, objects, joined, tables, id, n, b, y, i, 0),
         PlaceFor::Free(i) => whole_in(state, others, objects, joined, tables, id, n, b, y, i, 1),
         PlaceFor::NoneFree => 8,
@@ -242,8 +241,7 @@ pub(crate) fn push_message(
     ensures { QuietPushed (lent state.old others.old objects.now joined.old tables.old) (message (message_packet id n b.now)) result (lent state.new others.new objects.now joined.new tables.new) }
 {
     let y = messages::receive(state, id, n, b);
-    let f = y.outcome;
-    if messages::makes_whole(f) {
+    if messages::makes_whole(y.outcome) {
         return push_whole(state, others, objects, joined, tables, id, n, b, y);
     }
     messages::push_fragment(state, others, objects, joined, tables, id, n, b, y)

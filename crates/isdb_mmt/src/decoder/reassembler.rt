@@ -3,37 +3,26 @@ ghost use Rattle.std.specs.Prelude.{◌≡◌, ◌+◌, ◌<◌, max, ◌&&◌, 
 ghost use Rattle.isdb_mmt.specs.Formats.Mpu.{units_of};
 ghost use Rattle.isdb_mmt.specs.Memory.Layout.{most_count};
 ghost use Rattle.isdb_mmt.specs.Pushes.MediaPush.{no_object};
-ghost use Rattle.isdb_mmt.specs.Pushes.MediaEffect.{unit_object, with_length, complete_unit, head_unit, dropped_unit, grown_to, grown_unit, with_unit, units_effect, Ready, Light};
+ghost use Rattle.isdb_mmt.specs.Pushes.MediaEffect.{unit_object, object_or, with_length, complete_unit, head_unit, dropped_unit, grown_to, grown_unit, with_unit, units_effect, Ready, Light};
 ghost use Rattle.isdb_mmt.specs.Pushes.MediaPlace.{gap_after, gap_in, lost_in, header_if, item_if, normal_object, begun, start_of, new_in, jump_in, seen_mpu, last_mpu, first_mpu_of, completes_in, adds_of, summed, place_after_of, StatsWithin};
 ghost use Rattle.isdb_mmt.specs.Pushes.MediaOutcome.{outcome_with, units_outcome, media_outcome, CanReadUnits};
 
 use crate::decoder::counts::AssetStats;
 use crate::decoder::media::{Media, Object};
-use crate::maybe::flag;
 use crate::mpu;
-use crate::mpu::{
-    FragmentType, FragmentationIndicator, MaybeHeader, MaybeMfu, MfuHeader, PayloadHeader, Unit,
-    UnitStep,
-};
+use crate::mpu::{FragmentType, FragmentationIndicator, MfuHeader, PayloadHeader, Unit, UnitStep};
 use crate::part::Part;
 
 // What the units do: the object held after them, how many are dropped, the records and data given out, the longest object held
 // on the way, and the data of the last unit.
 #[derive(Clone, Copy)]
 pub(crate) struct MediaEffect {
-    pub held: bool,
-    pub object: Object,
+    pub object: Option<Object>,
     pub drops: u64,
     pub records: u64,
     pub bytes: u64,
     pub longest: u64,
     pub last: Part,
-}
-
-#[derive(Clone, Copy)]
-pub(crate) enum UnitsEffect {
-    Malformed,
-    Units(MediaEffect),
 }
 
 fn larger(a: u64, b: u64) -> u64
@@ -48,7 +37,7 @@ fn larger(a: u64, b: u64) -> u64
 pub(crate) fn no_object() -> Object
     ensures { result ≡ no_object }
 {
-    let header = MaybeMfu::None.or_zero();
+    let header = mpu::NO_HEADER;
     Object {
         mpu_sequence_number: 0,
         rap: false,
@@ -66,42 +55,39 @@ pub(crate) fn unit_object(mpu: u32, rap: bool, u: Unit, n: u32) -> Object
 {
     let m = u.mfu;
     let i = u.item_id;
-    let header = m.or_zero();
+    let header = m.unwrap_or(mpu::NO_HEADER);
     Object {
         mpu_sequence_number: mpu,
         rap,
         timed: m.is_some(),
         header,
         item: i.is_some(),
-        item_id: i.or_zero(),
+        item_id: i.unwrap_or(0),
         length: n,
     }
+}
+
+// The object that is held, the empty one where none is.
+pub(crate) fn object_or(o: Option<Object>) -> Object
+    ensures { result ≡ object_or o }
+{
+    o.unwrap_or(no_object())
 }
 
 pub(crate) fn with_length(n: u32, o: Object) -> Object
     ensures { result ≡ with_length n o }
 {
-    let header = o.header;
-    Object {
-        mpu_sequence_number: o.mpu_sequence_number,
-        rap: o.rap,
-        timed: o.timed,
-        header,
-        item: o.item,
-        item_id: o.item_id,
-        length: n,
-    }
+    Object { length: n, ..o }
 }
 
+#[tactic(auto, unfolding(crate::specs::Pushes::MediaEffect::complete_unit))]
 fn complete_unit(t: MediaEffect, p: Part, n: u64) -> MediaEffect
     requires { (t.drops < 4294967296) × ((t.records < 4294967296) × ((t.bytes < 1099511627776) × (n < 4294967296))) }
     ensures { result ≡ complete_unit t p n }
 {
-    let object = no_object();
     MediaEffect {
-        held: false,
-        object,
-        drops: t.drops + flag(t.held),
+        object: None,
+        drops: t.drops + u64::from(t.object.is_some()),
         records: t.records + 1,
         bytes: t.bytes + n,
         longest: t.longest,
@@ -109,46 +95,41 @@ fn complete_unit(t: MediaEffect, p: Part, n: u64) -> MediaEffect
     }
 }
 
+#[tactic(auto, unfolding(crate::specs::Pushes::MediaEffect::head_unit))]
 fn head_unit(t: MediaEffect, o: Object, p: Part, n: u64) -> MediaEffect
     requires { t.drops < 4294967296 }
     ensures { result ≡ head_unit t o p n }
 {
     MediaEffect {
-        held: true,
-        object: o,
-        drops: t.drops + flag(t.held),
-        records: t.records,
-        bytes: t.bytes,
+        object: Some(o),
+        drops: t.drops + u64::from(t.object.is_some()),
         longest: larger(t.longest, n),
         last: p,
+        ..t
     }
 }
 
+#[tactic(auto, unfolding(crate::specs::Pushes::MediaEffect::dropped_unit))]
 fn dropped_unit(t: MediaEffect, p: Part) -> MediaEffect
     requires { t.drops < 4294967296 }
     ensures { result ≡ dropped_unit t p }
 {
-    let object = no_object();
     MediaEffect {
-        held: false,
-        object,
+        object: None,
         drops: t.drops + 1,
-        records: t.records,
-        bytes: t.bytes,
-        longest: t.longest,
         last: p,
+        ..t
     }
 }
 
-fn grown_to(ends: bool, t: MediaEffect, p: Part, n: u64) -> MediaEffect
+#[tactic(auto, unfolding(crate::specs::Pushes::MediaEffect::grown_to))]
+fn grown_to(ends: bool, o: Object, t: MediaEffect, p: Part, n: u64) -> MediaEffect
     requires { (t.records < 4294967296) × ((t.bytes < 1099511627776) × (n < 4294967296)) }
-    ensures { result ≡ grown_to ends t p n }
+    ensures { result ≡ grown_to ends o t p n }
 {
     if ends {
-        let object = no_object();
         return MediaEffect {
-            held: false,
-            object,
+            object: None,
             drops: t.drops,
             records: t.records + 1,
             bytes: t.bytes + n,
@@ -156,33 +137,28 @@ fn grown_to(ends: bool, t: MediaEffect, p: Part, n: u64) -> MediaEffect
             last: p,
         };
     }
-    let o = t.object;
-    let object = with_length(n as u32, o);
     MediaEffect {
-        held: true,
-        object,
-        drops: t.drops,
-        records: t.records,
-        bytes: t.bytes,
+        object: Some(with_length(n as u32, o)),
         longest: larger(t.longest, n),
         last: p,
+        ..t
     }
 }
 
 // An object has at most 16,777,216 bytes.
 const MOST_OBJECT: u64 = 16777216;
 
+#[tactic(auto, unfolding(crate::specs::Pushes::MediaEffect::grown_unit))]
 fn grown_unit(ends: bool, t: MediaEffect, p: Part, n: u64) -> MediaEffect
     requires { (t.drops < 4294967296) × ((t.records < 4294967296) × ((t.bytes < 1099511627776) × (n < 4294967296))) }
     ensures { result ≡ grown_unit ends t p n }
 {
-    if !t.held {
+    let Some(o) = t.object else {
         return t;
-    }
-    let o = t.object;
+    };
     let whole = o.length as u64 + n;
     if whole <= MOST_OBJECT {
-        return grown_to(ends, t, p, whole);
+        return grown_to(ends, o, t, p, whole);
     }
     dropped_unit(t, p)
 }
@@ -215,7 +191,7 @@ pub(crate) fn units_effect(
     mpu: u32,
     rap: bool,
     start: MediaEffect,
-) -> UnitsEffect
+) -> Option<MediaEffect>
     requires { Ready q.now start }
     ensures { result ≡ units_effect f mpu rap q.now start (units_of q.now timed aggregated) }
 {
@@ -223,11 +199,10 @@ pub(crate) fn units_effect(
     let mut t = start;
     loop {
         match mpu::next_unit(q, timed, aggregated, at) {
-            UnitStep::End => return UnitsEffect::Units(t),
-            UnitStep::Malformed => return UnitsEffect::Malformed,
+            UnitStep::End => return Some(t),
+            UnitStep::Malformed => return None,
             UnitStep::Unit(u, next) => {
-                let p = u.data;
-                let n = p.of(q).len();
+                let n = u.data.of(q).len();
                 t = step(f, mpu, rap, t, u, n as u64);
                 at = next;
             }
@@ -266,7 +241,7 @@ fn header_if(there: bool, h: MfuHeader) -> MfuHeader
     if there {
         return h;
     }
-    MaybeMfu::None.or_zero()
+    mpu::NO_HEADER
 }
 
 fn item_if(there: bool, x: u32) -> u32
@@ -281,29 +256,23 @@ fn item_if(there: bool, x: u32) -> u32
 fn normal_object(o: Object) -> Object
     ensures { result ≡ normal_object o }
 {
-    let h = o.header;
-    let header = header_if(o.timed, h);
+    let header = header_if(o.timed, o.header);
     Object {
-        mpu_sequence_number: o.mpu_sequence_number,
-        rap: o.rap,
-        timed: o.timed,
         header,
-        item: o.item,
         item_id: item_if(o.item, o.item_id),
-        length: o.length,
+        ..o
     }
 }
 
-fn begin(held: bool, o: Object, drops: u64) -> MediaEffect
-    ensures { result ≡ begun held o drops }
+fn begin(object: Option<Object>, drops: u64) -> MediaEffect
+    ensures { result ≡ begun object drops }
 {
     let last = Part {
         start: 0,
         length: 0,
     };
     MediaEffect {
-        held,
-        object: o,
+        object,
         drops,
         records: 0,
         bytes: 0,
@@ -313,25 +282,25 @@ fn begin(held: bool, o: Object, drops: u64) -> MediaEffect
 }
 
 // Before the units: a gap drops the held object.
+#[tactic(auto, unfolding(crate::specs::Pushes::MediaPlace::start_of))]
 pub(crate) fn start_of(p: Media, n: u32) -> MediaEffect
     ensures { result ≡ start_of p n }
 {
     if !p.held {
-        return begin(false, no_object(), 0);
+        return begin(None, 0);
     }
     if gap_in(p, n) {
-        return begin(false, no_object(), 1);
+        return begin(None, 1);
     }
-    let o = p.object;
-    begin(true, normal_object(o), 0)
+    begin(Some(normal_object(p.object)), 0)
 }
 
-fn new_in(p: Media, h: MaybeHeader) -> bool
+fn new_in(p: Media, h: Option<PayloadHeader>) -> bool
     ensures { result ≡ new_in p h }
 {
     match h {
-        MaybeHeader::None => false,
-        MaybeHeader::Some(x) => {
+        None => false,
+        Some(x) => {
             if p.mpu_seen {
                 return x.mpu_sequence_number != p.mpu;
             }
@@ -340,12 +309,12 @@ fn new_in(p: Media, h: MaybeHeader) -> bool
     }
 }
 
-fn jump_in(p: Media, h: MaybeHeader) -> bool
+fn jump_in(p: Media, h: Option<PayloadHeader>) -> bool
     ensures { result ≡ jump_in p h }
 {
     match h {
-        MaybeHeader::None => false,
-        MaybeHeader::Some(x) => {
+        None => false,
+        Some(x) => {
             if !p.mpu_seen {
                 return false;
             }
@@ -357,30 +326,30 @@ fn jump_in(p: Media, h: MaybeHeader) -> bool
     }
 }
 
-fn seen_mpu(p: Media, h: MaybeHeader) -> bool
+fn seen_mpu(p: Media, h: Option<PayloadHeader>) -> bool
     ensures { result ≡ seen_mpu p h }
 {
     match h {
-        MaybeHeader::None => p.mpu_seen,
-        MaybeHeader::Some(x) => true,
+        None => p.mpu_seen,
+        Some(x) => true,
     }
 }
 
-fn last_mpu(p: Media, h: MaybeHeader) -> u32
+fn last_mpu(p: Media, h: Option<PayloadHeader>) -> u32
     ensures { result ≡ last_mpu p h }
 {
     match h {
-        MaybeHeader::None => item_if(p.mpu_seen, p.mpu),
-        MaybeHeader::Some(x) => x.mpu_sequence_number,
+        None => item_if(p.mpu_seen, p.mpu),
+        Some(x) => x.mpu_sequence_number,
     }
 }
 
-fn first_mpu(p: Media, h: MaybeHeader) -> u32
+fn first_mpu(p: Media, h: Option<PayloadHeader>) -> u32
     ensures { result ≡ first_mpu_of p h }
 {
     match h {
-        MaybeHeader::None => item_if(p.mpu_seen, p.first_mpu),
-        MaybeHeader::Some(x) => {
+        None => item_if(p.mpu_seen, p.first_mpu),
+        Some(x) => {
             if p.mpu_seen {
                 return p.first_mpu;
             }
@@ -389,15 +358,12 @@ fn first_mpu(p: Media, h: MaybeHeader) -> u32
     }
 }
 
-fn completes_in(h: MaybeHeader) -> bool
+fn completes_in(h: Option<PayloadHeader>) -> bool
     ensures { result ≡ completes_in h }
 {
     match h {
-        MaybeHeader::None => false,
-        MaybeHeader::Some(x) => {
-            let f = x.fragmentation;
-            f.completes()
-        }
+        None => false,
+        Some(x) => { x.fragmentation.completes() }
     }
 }
 
@@ -416,11 +382,16 @@ fn both(a: bool, b: bool) -> bool
 pub(crate) struct MediaOutcome {
     pub bad: bool,
     pub taken: bool,
-    pub header: MaybeHeader,
+    pub header: Option<PayloadHeader>,
     pub units: MediaEffect,
 }
 
-fn outcome_with(bad: bool, taken: bool, header: MaybeHeader, units: MediaEffect) -> MediaOutcome
+fn outcome_with(
+    bad: bool,
+    taken: bool,
+    header: Option<PayloadHeader>,
+    units: MediaEffect,
+) -> MediaOutcome
     ensures { result ≡ outcome_with bad taken header units }
 {
     MediaOutcome {
@@ -435,26 +406,24 @@ fn units_outcome(t: MediaEffect, h: PayloadHeader, rap: bool, b: &[u8]) -> Media
     requires { Ready b.now t }
     ensures { result ≡ units_outcome t h rap b.now h.fragment_type }
 {
-    let k = h.fragment_type;
-    let f = h.fragmentation;
-    match k {
+    match h.fragment_type {
         FragmentType::Mfu => {
             match units_effect(
                 mpu::declared(b),
                 h.timed,
                 h.aggregated,
-                f,
+                h.fragmentation,
                 h.mpu_sequence_number,
                 rap,
                 t,
             ) {
-                UnitsEffect::Malformed => outcome_with(true, false, MaybeHeader::Some(h), t),
-                UnitsEffect::Units(r) => outcome_with(false, true, MaybeHeader::Some(h), r),
+                None => outcome_with(true, false, Some(h), t),
+                Some(r) => outcome_with(false, true, Some(h), r),
             }
         }
-        FragmentType::MpuMetadata => outcome_with(false, false, MaybeHeader::Some(h), t),
-        FragmentType::MovieFragmentMetadata => outcome_with(false, false, MaybeHeader::Some(h), t),
-        FragmentType::Reserved(c) => outcome_with(false, false, MaybeHeader::Some(h), t),
+        FragmentType::MpuMetadata => outcome_with(false, false, Some(h), t),
+        FragmentType::MovieFragmentMetadata => outcome_with(false, false, Some(h), t),
+        FragmentType::Reserved(c) => outcome_with(false, false, Some(h), t),
     }
 }
 
@@ -464,10 +433,10 @@ pub(crate) fn media_outcome(p: Media, n: u32, scrambled: bool, rap: bool, b: &[u
 {
     let t = start_of(p, n);
     match mpu::parse_header(b) {
-        MaybeHeader::None => outcome_with(true, false, MaybeHeader::None, t),
-        MaybeHeader::Some(h) => {
+        None => outcome_with(true, false, None, t),
+        Some(h) => {
             if scrambled {
-                return outcome_with(false, false, MaybeHeader::Some(h), t);
+                return outcome_with(false, false, Some(h), t);
             }
             units_outcome(t, h, rap, b)
         }
@@ -479,7 +448,7 @@ fn adds_of(
     p: Media,
     n: u32,
     scrambled: bool,
-    h: MaybeHeader,
+    h: Option<PayloadHeader>,
     bad: bool,
     t: MediaEffect,
 ) -> AssetStats
@@ -488,13 +457,13 @@ fn adds_of(
     AssetStats {
         packets: 1,
         packets_lost: lost_in(p, n) as u64,
-        scrambled_packets: flag(scrambled),
+        scrambled_packets: u64::from(scrambled),
         mfus: t.records,
-        scrambled_mfus: flag(both(scrambled, completes_in(h))),
+        scrambled_mfus: u64::from(both(scrambled, completes_in(h))),
         mfus_dropped: t.drops,
-        mpus: flag(new_in(p, h)),
-        mpu_sequence_jumps: flag(jump_in(p, h)),
-        malformed: flag(bad),
+        mpus: u64::from(new_in(p, h)),
+        mpu_sequence_jumps: u64::from(jump_in(p, h)),
+        malformed: u64::from(bad),
     }
 }
 
@@ -521,16 +490,14 @@ pub(crate) fn place_after(
     p: Media,
     n: u32,
     scrambled: bool,
-    h: MaybeHeader,
+    h: Option<PayloadHeader>,
     bad: bool,
     t: MediaEffect,
 ) -> Media
     requires { StatsWithin most_count p.stats × ((t.records < 4294967296) × (t.drops < 4294967296)) }
     ensures { result ≡ place_after_of id p n scrambled h bad t }
 {
-    let object = t.object;
-    let s = p.stats;
-    let stats = add_stats(s, adds_of(p, n, scrambled, h, bad, t));
+    let stats = add_stats(p.stats, adds_of(p, n, scrambled, h, bad, t));
     Media {
         packet_id: id,
         seen: true,
@@ -538,8 +505,8 @@ pub(crate) fn place_after(
         mpu_seen: seen_mpu(p, h),
         mpu: last_mpu(p, h),
         first_mpu: first_mpu(p, h),
-        held: t.held,
-        object,
+        held: t.object.is_some(),
+        object: object_or(t.object),
         stats,
     }
 }

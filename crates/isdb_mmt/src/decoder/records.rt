@@ -9,7 +9,6 @@ ghost use Rattle.isdb_mmt.specs.Pushes.MediaCommit.{refused as refused_as, accep
 use crate::decoder::media::Object;
 use crate::decoder::readings::HeldObject;
 use crate::decoder::{place, reassembler};
-use crate::maybe::flag;
 use crate::mpu;
 use crate::mpu::{MfuHeader, PayloadHeader, UnitStep};
 use isdb_tlv::bytes;
@@ -47,7 +46,7 @@ pub(crate) fn accepted(records: u64, bytes: u64) -> Answer
 fn row_flags(rap: bool, scrambled: bool, timed: bool, item: bool) -> u64
     ensures { result ≡ record_flags rap scrambled timed item }
 {
-    flag(rap) + 2 * flag(scrambled) + 4 * flag(timed) + 8 * flag(item)
+    u64::from(rap) + 2 * u64::from(scrambled) + 4 * u64::from(timed) + 8 * u64::from(item)
 }
 
 fn put_fields(
@@ -118,8 +117,8 @@ pub fn held_row(row: &mut [u8; 36], id: u32, o: HeldObject)
         id as u64,
         flags,
         o.mpu_sequence_number,
-        m.or_zero(),
-        i.or_zero(),
+        m.unwrap_or(mpu::NO_HEADER),
+        i.unwrap_or(0),
         0,
         b.length as u64,
     );

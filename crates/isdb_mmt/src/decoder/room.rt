@@ -5,7 +5,7 @@ ghost use Rattle.isdb_mmt.specs.Memory.Lent.{places_from, every};
 ghost use Rattle.isdb_mmt.specs.Memory.Session.{media_place_of};
 ghost use Rattle.isdb_mmt.specs.Memory.Check.{roomy_count, stats_at_most, counts_at_most, PlacesThere};
 
-use crate::decoder::{check, head, layout};
+use crate::decoder::{check, head, layout, place};
 
 // 2^52.
 const ROOMY_COUNT: u64 = 4503599627370496;
@@ -21,29 +21,15 @@ fn all_media_have_room(s: &[u8], n: usize) -> bool
     requires { (n ≤ most_media_ids) × (state_size ≤ length s.now) }
     ensures { result ≡ every (stats_at_most roomy_count) (map media_place_of (places_from n media_size media_places s.now)) }
 {
-    let mut i = 0;
-    let mut at = layout::MEDIA_PLACES;
-    while i < n {
-        let end = at + layout::MEDIA_SIZE;
-        if !media_has_room(&s[at..end]) {
-            return false;
-        }
-        at = end;
-        i += 1;
-    }
-    true
+    place::places(s, layout::MEDIA_PLACES, layout::MEDIA_SIZE, n).all(|p| media_has_room(p))
 }
 
+#[tactic(auto, using(crate::proofs::RoomTest::counters_room), unfolding(crate::specs::Memory::Check::counts_at_most, crate::specs::Memory::Check::media_in))]
 pub(crate) fn has_room(s: &[u8], others: &[u64]) -> bool
     requires { PlacesThere s.now }
     ensures { result ≡ counts_at_most roomy_count s.now others.now }
 {
-    if !check::each_count_fits(s, layout::COUNTERS, 12, ROOMY_COUNT) {
-        return false;
-    }
-    let u = head::load_used(s);
-    if !all_media_have_room(s, u.media_ids as usize) {
-        return false;
-    }
-    check::each_fits(others, ROOMY_COUNT)
+    check::each_count_fits(s, layout::COUNTERS, 12, ROOMY_COUNT)
+        && all_media_have_room(s, head::load_used(s).media_ids as usize)
+        && check::each_fits(others, ROOMY_COUNT)
 }

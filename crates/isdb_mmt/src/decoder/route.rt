@@ -4,8 +4,7 @@ ghost use Rattle.std.specs.Prelude.{◌≡◌};
 ghost use Rattle.isdb_tlv.specs.Tlv.{packet_type};
 ghost use Rattle.isdb_mmt.specs.Pushes.Route.{flow_route, ip_route, route_of, time_in};
 
-use crate::maybe::MaybeU64;
-use isdb_tlv::ip::{IpResult, MaybeFlow};
+use isdb_tlv::ip::{Datagram, Flow, IpError};
 use isdb_tlv::tlv::PacketType;
 use isdb_tlv::{bytes, ip};
 
@@ -25,12 +24,12 @@ pub(crate) enum Route {
 }
 
 // A datagram without addresses has no port.
-fn flow_route(at: usize, flow: MaybeFlow) -> Route
+fn flow_route(at: usize, flow: Option<Flow>) -> Route
     ensures { result ≡ flow_route at flow }
 {
     match flow {
-        MaybeFlow::None => Route::Mmtp(at),
-        MaybeFlow::Some(f) => {
+        None => Route::Mmtp(at),
+        Some(f) => {
             if f.dport == 123 {
                 return Route::Time(at);
             }
@@ -39,22 +38,19 @@ fn flow_route(at: usize, flow: MaybeFlow) -> Route
     }
 }
 
-fn ip_route(x: IpResult) -> Route
+fn ip_route(x: Result<Datagram, IpError>) -> Route
     ensures { result ≡ ip_route x }
 {
     match x {
-        IpResult::Err(e) => Route::IpError,
-        IpResult::Ok(d) => {
-            let flow = d.flow;
-            flow_route(d.start, flow)
-        }
+        Err(e) => Route::IpError,
+        Ok(d) => { flow_route(d.start, d.flow) }
     }
 }
 
 pub(crate) fn find_route(kind: u8, b: &[u8]) -> Route
     ensures { result ≡ route_of b.now (packet_type kind) }
 {
-    match PacketType::from_byte(kind) {
+    match PacketType::from(kind) {
         PacketType::Ipv4 => ip_route(ip::ipv4(b)),
         PacketType::Ipv6 => ip_route(ip::ipv6(b)),
         PacketType::Compressed => ip_route(ip::compressed(b)),
@@ -65,11 +61,11 @@ pub(crate) fn find_route(kind: u8, b: &[u8]) -> Route
 }
 
 // The transmit timestamp of an NTP packet (RFC 5905, 7.3), where it is there.
-pub(crate) fn time_in(p: &[u8]) -> MaybeU64
+pub(crate) fn time_in(p: &[u8]) -> Option<u64>
     ensures { result ≡ time_in p.now }
 {
     if p.len() < 48 {
-        return MaybeU64::None;
+        return None;
     }
-    MaybeU64::Some(bytes::get_u64(p, 40))
+    Some(bytes::get_u64(p, 40))
 }

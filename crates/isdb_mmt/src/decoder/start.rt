@@ -2,8 +2,8 @@
 ghost use Rattle.std.specs.Prelude.{◌≡◌, ◌+◌, ◌*◌, ◌≤◌, length};
 ghost use Rattle.isdb_mmt.specs.Memory.Lent.{part};
 ghost use Rattle.isdb_mmt.specs.Memory.Layout.{section_places, state_size};
-ghost use Rattle.isdb_mmt.specs.Pushes.TableOutcome.{index_size};
-ghost use Rattle.isdb_mmt.specs.Pushes.Start.{recent_at, start_of, counters_with, no_recent, walk_start, recent_length, latest_with, tables_ask, CanGo};
+ghost use Rattle.isdb_mmt.specs.Pushes.TableOutcome.{index_size, recent_length};
+ghost use Rattle.isdb_mmt.specs.Pushes.Start.{recent_at, start_of, counters_with, walk_start, latest_with, tables_ask, CanGo};
 
 use crate::decoder::counts::Counters;
 use crate::decoder::head::Latest;
@@ -21,36 +21,32 @@ pub(crate) fn load_index(ix: &mut [u8], state: &[u8])
     requires { (length ix.old ≡ index_size) × (state_size ≤ length state.now) }
     ensures { ix.new ≡ part section_places index_size state.now }
 {
-    place::put_bytes(ix, 0, bytes::part(state, SECTION_PLACES, INDEX_SIZE));
-}
-
-// One list of counts over another of its length.
-pub(crate) fn copy_counts(to: &mut [u64], from: &[u64])
-    requires { length to.old ≡ length from.now }
-    ensures { to.new ≡ from.now }
-{
-    let mut k = 0;
-    while k < from.len() {
-        to[k] = from[k];
-        k += 1;
-    }
+    ix.copy_from_slice(bytes::part(state, SECTION_PLACES, INDEX_SIZE));
 }
 
 // The MPT, the PLT or the TOT that lies in area i, where there is one.
-pub(crate) fn recent_in(tables: &[u8], i: usize, area: usize, there: bool, n: u32) -> Recent
+pub(crate) fn recent_in(tables: &[u8], i: usize, area: usize, there: bool, n: u32) -> Option<Recent>
     requires { (i + 1) * area ≤ length tables.now }
     ensures { result ≡ recent_at tables.now (i * area) there n }
 {
+    if !there {
+        return None;
+    }
     let b = place::in_area(tables, i, area, n as usize);
-    Recent {
-        there,
+    Some(Recent {
         version: bytes::get_u8(b, 1),
         from: 0,
         length: n,
-    }
+    })
 }
 
-pub(crate) fn start_of(c: Counters, used: usize, mpt: Recent, plt: Recent, tot: Recent) -> WalkState
+pub(crate) fn start_of(
+    c: Counters,
+    used: usize,
+    mpt: Option<Recent>,
+    plt: Option<Recent>,
+    tot: Option<Recent>,
+) -> WalkState
     ensures { result ≡ start_of c used mpt plt tot }
 {
     WalkState {
@@ -74,34 +70,18 @@ pub(crate) fn counters_with(c: Counters, g: WalkState) -> Counters
     ensures { result ≡ counters_with c g }
 {
     Counters {
-        tlv_packets: c.tlv_packets,
-        ip_errors: c.ip_errors,
-        non_mmtp: c.non_mmtp,
-        ntp: c.ntp,
         tables: g.tables,
         crc_errors: g.crc_errors,
         malformed: g.malformed,
         version_changes: g.version_changes,
-        orphan_fragments: c.orphan_fragments,
-        oversize: c.oversize,
         message_malformed: g.message_malformed,
         split_errors: g.split_errors,
-    }
-}
-
-pub(crate) fn no_recent() -> Recent
-    ensures { result ≡ no_recent }
-{
-    Recent {
-        there: false,
-        version: 0,
-        from: 0,
-        length: 0,
+        ..c
     }
 }
 
 // What a walk starts with in a session, with these counters and the MPT of a control id.
-pub(crate) fn walk_start(state: &[u8], tables: &[u8], c: Counters, mpt: Recent) -> WalkState
+pub(crate) fn walk_start(state: &[u8], tables: &[u8], c: Counters, mpt: Option<Recent>) -> WalkState
     requires { CanGo state.now tables.now }
     ensures { result ≡ walk_start state.now tables.now c mpt }
 {
@@ -132,13 +112,10 @@ pub(crate) fn tables_ask(l: Limits, g: WalkState) -> u8
 }
 
 // How long a table is, where it is there.
-pub(crate) fn recent_length(r: Recent) -> u32
+pub(crate) fn recent_length(r: Option<Recent>) -> u32
     ensures { result ≡ recent_length r }
 {
-    if r.there {
-        return r.length;
-    }
-    0
+    r.map_or(0, |x| x.length)
 }
 
 pub(crate) fn latest_with(g: WalkState) -> Latest
@@ -147,9 +124,9 @@ pub(crate) fn latest_with(g: WalkState) -> Latest
     let plt = g.plt;
     let tot = g.tot;
     Latest {
-        plt: plt.there,
+        plt: plt.is_some(),
         plt_length: recent_length(plt),
-        tot: tot.there,
+        tot: tot.is_some(),
         tot_length: recent_length(tot),
     }
 }

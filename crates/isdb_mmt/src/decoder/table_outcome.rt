@@ -1,13 +1,8 @@
 // What is decided of a table, against an index of the kept sections. Nothing is written, and a section's CRC is read once.
-ghost use Rattle.std.specs.Prelude.{◌≡◌, ◌*◌, ◌<◌, ◌≤◌, ◌++◌, length};
+ghost use Rattle.std.specs.Prelude.{◌≡◌, ◌*◌, ◌<◌, ◌≤◌, ◌++◌, length, is_ok};
 ghost use Rattle.isdb_mmt.specs.Decoder.Maps.{one};
 ghost use Rattle.isdb_mmt.specs.Memory.Layout.{most_sections, most_table_area};
-ghost use Rattle.isdb_mmt.specs.Decoder.Kept.{key_of, bit_body_ok, sdt_body_ok, nit_body_ok, amt_body_ok, eit_body_ok, section_of, table_read, table_by_id, mpt_parses, plt_parses, tot_parses, tot_crc_bad, declared_table, declared_section};
-ghost use Rattle.isdb_mmt.specs.Formats.Bit.{bit_body};
-ghost use Rattle.isdb_mmt.specs.Formats.Sdt.{sdt_body};
-ghost use Rattle.isdb_mmt.specs.Formats.Nit.{nit_body};
-ghost use Rattle.isdb_mmt.specs.Formats.Amt.{amt_body};
-ghost use Rattle.isdb_mmt.specs.Formats.Eit.{eit_body};
+ghost use Rattle.isdb_mmt.specs.Decoder.Kept.{key_of, section_of, table_read, table_by_id, mpt_parses, plt_parses, tot_parses, tot_crc_bad, declared_table, declared_section};
 ghost use Rattle.isdb_mmt.specs.Formats.Mpt.{mpt_of};
 ghost use Rattle.isdb_mmt.specs.Formats.Plt.{plt_of};
 ghost use Rattle.isdb_mmt.specs.Formats.Tot.{tot_of};
@@ -15,17 +10,8 @@ ghost use Rattle.isdb_mmt.specs.Pushes.TableOutcome.{index_size, index_of, body_
 
 use crate::decoder::layout::SECTION_SIZE;
 use crate::decoder::place;
-use crate::decoder::place::Found;
 use crate::decoder::section::{KeptSection, section_at};
-use crate::table::amt::AmtResult;
-use crate::table::bit::BitResult;
-use crate::table::eit::EitResult;
-use crate::table::mpt::MaybeMpt;
-use crate::table::nit::NitResult;
-use crate::table::plt::MaybePlt;
-use crate::table::sdt::SdtResult;
-use crate::table::section::{LongSection, SectionError, SectionHeader};
-use crate::table::tot::TotResult;
+use crate::table::section::{Parsed, SectionError, SectionHeader};
 use crate::table::{amt, bit, eit, mpt, nit, plt, sdt, section, tot};
 use isdb_tlv::bytes;
 
@@ -36,11 +22,10 @@ pub(crate) struct BodyRead {
     pub breaks: usize,
 }
 
-// The MPT, the PLT or the TOT that is kept: whether there is one, its version, where it lies (0: in its area, else one more than
-// its place in the message) and its length.
+// An MPT, a PLT or a TOT that is kept: its version, where it lies (0: in its area, else one more than its place in the message)
+// and its length.
 #[derive(Clone, Copy)]
 pub(crate) struct Recent {
-    pub there: bool,
     pub version: u8,
     pub from: u64,
     pub length: u32,
@@ -76,69 +61,23 @@ fn key_of(t: &[u8]) -> u32
         + bytes::get_u8(t, 6) as u32
 }
 
-fn bit_body(h: SectionHeader, b: &[u8]) -> BodyRead
-    ensures { result ≡ body_read (bit_body_ok (bit_body h b.now).result) (bit_body h b.now).breaks }
+// Whether a body parses, and how many descriptor loops break on the way.
+fn told<T: Copy>(p: Parsed<T>) -> BodyRead
+    ensures { result ≡ body_read (is_ok p.result) p.breaks }
 {
-    let p = bit::read(h, b);
-    let breaks = p.breaks;
-    let q = p.result;
-    match q {
-        BitResult::Ok(k, x) => BodyRead { ok: true, breaks },
-        BitResult::Err(e) => BodyRead { ok: false, breaks },
+    BodyRead {
+        ok: p.result.is_ok(),
+        breaks: p.breaks,
     }
 }
 
-fn sdt_body(h: SectionHeader, b: &[u8]) -> BodyRead
-    ensures { result ≡ body_read (sdt_body_ok (sdt_body h b.now).result) (sdt_body h b.now).breaks }
+// The same of a body whose descriptor loops do not count as broken.
+fn unbroken<T: Copy>(r: Result<T, SectionError>) -> BodyRead
+    ensures { result ≡ body_read (is_ok r) 0 }
 {
-    let p = sdt::read(h, b);
-    let breaks = p.breaks;
-    let q = p.result;
-    match q {
-        SdtResult::Ok(k, x) => BodyRead { ok: true, breaks },
-        SdtResult::Err(e) => BodyRead { ok: false, breaks },
-    }
-}
-
-fn eit_body(h: SectionHeader, b: &[u8]) -> BodyRead
-    ensures { result ≡ body_read (eit_body_ok (eit_body h b.now).result) (eit_body h b.now).breaks }
-{
-    let p = eit::read(h, b);
-    let breaks = p.breaks;
-    let q = p.result;
-    match q {
-        EitResult::Ok(k, x) => BodyRead { ok: true, breaks },
-        EitResult::Err(e) => BodyRead { ok: false, breaks },
-    }
-}
-
-fn nit_body(h: SectionHeader, b: &[u8]) -> BodyRead
-    ensures { result ≡ body_read (nit_body_ok (nit_body h b.now)) 0 }
-{
-    match nit::read(h, b) {
-        NitResult::Ok(k, x) => BodyRead {
-            ok: true,
-            breaks: 0,
-        },
-        NitResult::Err(e) => BodyRead {
-            ok: false,
-            breaks: 0,
-        },
-    }
-}
-
-fn amt_body(h: SectionHeader, b: &[u8]) -> BodyRead
-    ensures { result ≡ body_read (amt_body_ok (amt_body h b.now)) 0 }
-{
-    match amt::read(h, b) {
-        AmtResult::Ok(k, x) => BodyRead {
-            ok: true,
-            breaks: 0,
-        },
-        AmtResult::Err(e) => BodyRead {
-            ok: false,
-            breaks: 0,
-        },
+    BodyRead {
+        ok: r.is_ok(),
+        breaks: 0,
     }
 }
 
@@ -147,13 +86,13 @@ pub(crate) fn body_read(id: u8, h: SectionHeader, b: &[u8]) -> BodyRead
     ensures { result ≡ body_from id h b.now }
 {
     match id {
-        0x9D => bit_body(h, b),
-        0x9F => sdt_body(h, b),
-        0xA0 => sdt_body(h, b),
-        0x40 => nit_body(h, b),
-        0x41 => nit_body(h, b),
-        0xFE => amt_body(h, b),
-        _ => eit_body(h, b),
+        0x9D => told(bit::read(h, b)),
+        0x9F => told(sdt::read(h, b)),
+        0xA0 => told(sdt::read(h, b)),
+        0x40 => unbroken(nit::read(h, b)),
+        0x41 => unbroken(nit::read(h, b)),
+        0xFE => unbroken(amt::read(h, b)),
+        _ => told(eit::read(h, b)),
     }
 }
 
@@ -251,14 +190,14 @@ fn version_outcome(ix: &[u8], used: usize, t: &[u8], h: SectionHeader, b: &[u8])
 {
     let key = key_of(t);
     match place::find(ix, 0, SECTION_SIZE, used, key) {
-        Found::At(i) => {
+        Some(i) => {
             let k = section_at(ix, SECTION_SIZE * i);
             if k.version == h.version {
                 return same();
             }
             body_outcome(t, h, b, 1, i, key)
         }
-        Found::Nothing => body_outcome(t, h, b, 0, used, key),
+        None => body_outcome(t, h, b, 0, used, key),
     }
 }
 
@@ -268,11 +207,8 @@ pub(crate) fn section_outcome(ix: &[u8], used: usize, t: &[u8]) -> TableOutcome
     ensures { result ≡ section_outcome (index_of used ix.now) (section_of t.now) }
 {
     match section::long_section(t) {
-        LongSection::Ok(h) => {
-            let body = h.body;
-            version_outcome(ix, used, t, h, body.of(t))
-        }
-        LongSection::Err(e) => match e {
+        Ok(h) => { version_outcome(ix, used, t, h, h.body.of(t)) }
+        Err(e) => match e {
             SectionError::Crc => crc_bad(),
             SectionError::Truncated => bad(),
             SectionError::Malformed => bad(),
@@ -291,33 +227,26 @@ fn long_outcome(ix: &[u8], used: usize, t: &[u8]) -> TableOutcome
 }
 
 // 1 for a kept table of another version.
-fn change(r: Recent, v: u8) -> u64
+fn change(r: Option<Recent>, v: u8) -> u64
     ensures { result ≡ one (changes_to r v) }
 {
-    if !r.there {
-        return 0;
-    }
-    if r.version == v {
-        return 0;
-    }
-    1
+    u64::from(r.is_some_and(|x| x.version != v))
 }
 
-fn mpt_outcome(m: Recent, t: &[u8]) -> TableOutcome
+fn mpt_outcome(m: Option<Recent>, t: &[u8]) -> TableOutcome
     ensures { result ≡ mpt_outcome m (mpt_parses (mpt_of t.now).mpt) (mpt_of t.now).breaks (declared_table t.now) }
 {
     let x = mpt::parse(t);
     let breaks = x.breaks as u64;
-    let q = x.mpt;
-    match q {
-        MaybeMpt::None => TableOutcome {
+    match x.mpt {
+        None => TableOutcome {
             crc_errors: 0,
             malformed: 1,
             version_changes: 0,
             breaks,
             act: TableAction::Nothing,
         },
-        MaybeMpt::Some(y) => {
+        Some(y) => {
             let d = bytes::part(t, 0, bytes::get_u16(t, 2) as usize + 4);
             let v = bytes::get_u8(d, 1);
             TableOutcome {
@@ -331,12 +260,12 @@ fn mpt_outcome(m: Recent, t: &[u8]) -> TableOutcome
     }
 }
 
-fn plt_outcome(p: Recent, t: &[u8]) -> TableOutcome
+fn plt_outcome(p: Option<Recent>, t: &[u8]) -> TableOutcome
     ensures { result ≡ plt_outcome p (plt_parses (plt_of t.now)) (declared_table t.now) }
 {
     match plt::parse(t) {
-        MaybePlt::None => bad(),
-        MaybePlt::Some(y) => {
+        None => bad(),
+        Some(y) => {
             let d = bytes::part(t, 0, bytes::get_u16(t, 2) as usize + 4);
             let v = bytes::get_u8(d, 1);
             TableOutcome {
@@ -368,9 +297,8 @@ fn tot_outcome(t: &[u8]) -> TableOutcome
 {
     let x = tot::parse(t);
     let breaks = x.breaks as u64;
-    let q = x.result;
-    match q {
-        TotResult::Ok(y) => {
+    match x.result {
+        Ok(y) => {
             let d = bytes::part(t, 0, bytes::get_u12(t, 1) as usize + 3);
             TableOutcome {
                 crc_errors: 0,
@@ -380,7 +308,7 @@ fn tot_outcome(t: &[u8]) -> TableOutcome
                 act: TableAction::Tot(d.len() as u32),
             }
         }
-        TotResult::Err(e) => match e {
+        Err(e) => match e {
             SectionError::Crc => failed(1, 0, breaks),
             SectionError::Truncated => failed(0, 1, breaks),
             SectionError::Malformed => failed(0, 1, breaks),
@@ -388,7 +316,14 @@ fn tot_outcome(t: &[u8]) -> TableOutcome
     }
 }
 
-fn by_id(ix: &[u8], used: usize, m: Recent, p: Recent, id: u8, t: &[u8]) -> TableOutcome
+fn by_id(
+    ix: &[u8],
+    used: usize,
+    m: Option<Recent>,
+    p: Option<Recent>,
+    id: u8,
+    t: &[u8],
+) -> TableOutcome
     requires { (used ≤ most_sections) × (length ix.now ≡ index_size) }
     ensures { result ≡ table_outcome (index_of used ix.now) m p (table_by_id id t.now) }
 {
@@ -423,7 +358,13 @@ fn by_id(ix: &[u8], used: usize, m: Recent, p: Recent, id: u8, t: &[u8]) -> Tabl
 }
 
 // What is decided of a table of a message.
-pub(crate) fn outcome_of(ix: &[u8], used: usize, m: Recent, p: Recent, t: &[u8]) -> TableOutcome
+pub(crate) fn outcome_of(
+    ix: &[u8],
+    used: usize,
+    m: Option<Recent>,
+    p: Option<Recent>,
+    t: &[u8],
+) -> TableOutcome
     requires { (used ≤ most_sections) × (length ix.now ≡ index_size) }
     ensures { result ≡ table_outcome (index_of used ix.now) m p (table_read t.now) }
 {
@@ -438,8 +379,8 @@ fn gathered(
     assembled: &mut [u8],
     ix: &[u8],
     used: usize,
-    m: Recent,
-    p: Recent,
+    m: Option<Recent>,
+    p: Option<Recent>,
     a: &[u8],
     b: &[u8],
 ) -> TableOutcome
@@ -453,7 +394,14 @@ fn gathered(
 }
 
 // The same, with what it is gathered in: few tables lie across two pieces, and only for them is it cleared.
-fn across(ix: &[u8], used: usize, m: Recent, p: Recent, a: &[u8], b: &[u8]) -> TableOutcome
+fn across(
+    ix: &[u8],
+    used: usize,
+    m: Option<Recent>,
+    p: Option<Recent>,
+    a: &[u8],
+    b: &[u8],
+) -> TableOutcome
     requires { CanDecide ix.now used a.now b.now }
     ensures { result ≡ table_outcome (index_of used ix.now) m p (table_read (a.now ++ b.now)) }
 {
@@ -465,8 +413,8 @@ fn across(ix: &[u8], used: usize, m: Recent, p: Recent, a: &[u8], b: &[u8]) -> T
 pub(crate) fn joined_outcome(
     ix: &[u8],
     used: usize,
-    m: Recent,
-    p: Recent,
+    m: Option<Recent>,
+    p: Option<Recent>,
     a: &[u8],
     b: &[u8],
 ) -> TableOutcome

@@ -14,7 +14,7 @@ use crate::decoder::push_message::push_message;
 use crate::decoder::records::Answer;
 use crate::decoder::route::Route;
 use crate::decoder::{counted, layout, records, route};
-use isdb_tlv::mmtp::{Header, Parsed, PayloadType};
+use isdb_tlv::mmtp::{Header, PayloadType};
 use isdb_tlv::{bytes, mmtp};
 
 // Question 7.
@@ -39,8 +39,7 @@ fn by_type(
     requires { CanTakePacket (lent state.old others.old objects.old messages.old tables.old) b.now }
     ensures { PacketPushed (lent state.old others.old objects.old messages.old tables.old) rows.old out.old (by_type h b.now h.payload_type) result.number result.records result.bytes (lent state.new others.new objects.new messages.new tables.new) rows.new out.new }
 {
-    let t = h.payload_type;
-    match t {
+    match h.payload_type {
         PayloadType::Mpu => push_media(state, others, objects, messages, tables, h, b, rows, out),
         PayloadType::Messages => {
             let n = push_message(
@@ -85,19 +84,18 @@ fn push_mmtp(
     ensures { PacketPushed (lent state.old others.old objects.old messages.old tables.old) rows.old out.old (mmtp_in b.now (mmtp_of b.now)) result.number result.records result.bytes (lent state.new others.new objects.new messages.new tables.new) rows.new out.new }
 {
     match mmtp::parse(b) {
-        Parsed::None => {
+        None => {
             counted::count_packet(state, 0, 1);
             records::accepted(0, 0)
         }
-        Parsed::Some(p) => {
-            let h = p.header;
+        Some(p) => {
             by_type(
                 state,
                 others,
                 objects,
                 messages,
                 tables,
-                h,
+                p.header,
                 p.payload(b),
                 rows,
                 out,

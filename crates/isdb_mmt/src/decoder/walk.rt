@@ -13,7 +13,6 @@ use crate::decoder::table_outcome::{Recent, TableAction, TableOutcome};
 use crate::decoder::{joined, table_outcome};
 use crate::message::{Content, MessageStep, TableStep};
 use crate::part::Part;
-use isdb_tlv::si::MaybeSection;
 use isdb_tlv::{bytes, si};
 
 const SECTIONS: usize = MOST_SECTIONS as usize;
@@ -29,9 +28,9 @@ pub(crate) struct WalkState {
     pub split_errors: u64,
     // Messages, and tables of messages, that are cut short.
     pub message_malformed: u64,
-    pub mpt: Recent,
-    pub plt: Recent,
-    pub tot: Recent,
+    pub mpt: Option<Recent>,
+    pub plt: Option<Recent>,
+    pub tot: Option<Recent>,
     pub longest: u32,
     // A section found no place.
     pub full: bool,
@@ -56,78 +55,57 @@ fn next_used(used: usize, i: usize) -> usize
     i + 1
 }
 
-fn recent(version: u8, from: u64, length: u32) -> Recent
+fn recent(version: u8, from: u64, length: u32) -> Option<Recent>
     ensures { result ≡ recent_of version from length }
 {
-    Recent {
-        there: true,
+    Some(Recent {
         version,
         from,
         length,
-    }
+    })
 }
 
 fn counted(g: WalkState, t: TableOutcome) -> WalkState
     requires { CanCount g t }
     ensures { result ≡ counted_by g t }
 {
-    let mpt = g.mpt;
-    let plt = g.plt;
-    let tot = g.tot;
     WalkState {
-        used: g.used,
         tables: g.tables + 1,
         crc_errors: g.crc_errors + t.crc_errors,
         malformed: g.malformed + t.malformed,
         version_changes: g.version_changes + t.version_changes,
         split_errors: g.split_errors + t.breaks,
-        message_malformed: g.message_malformed,
-        mpt,
-        plt,
-        tot,
-        longest: g.longest,
-        full: g.full,
+        ..g
     }
 }
 
-fn kept(g: WalkState, used: usize, mpt: Recent, plt: Recent, tot: Recent, n: u32) -> WalkState
+fn kept(
+    g: WalkState,
+    used: usize,
+    mpt: Option<Recent>,
+    plt: Option<Recent>,
+    tot: Option<Recent>,
+    n: u32,
+) -> WalkState
     ensures { result ≡ kept_with g used mpt plt tot n }
 {
     WalkState {
         used,
-        tables: g.tables,
-        crc_errors: g.crc_errors,
-        malformed: g.malformed,
-        version_changes: g.version_changes,
-        split_errors: g.split_errors,
-        message_malformed: g.message_malformed,
         mpt,
         plt,
         tot,
         longest: longer(g.longest, n),
-        full: g.full,
+        ..g
     }
 }
 
 fn marked(g: WalkState, message_malformed: u64, full: bool) -> WalkState
     ensures { result ≡ marked_of g message_malformed full }
 {
-    let mpt = g.mpt;
-    let plt = g.plt;
-    let tot = g.tot;
     WalkState {
-        used: g.used,
-        tables: g.tables,
-        crc_errors: g.crc_errors,
-        malformed: g.malformed,
-        version_changes: g.version_changes,
-        split_errors: g.split_errors,
         message_malformed,
-        mpt,
-        plt,
-        tot,
-        longest: g.longest,
         full,
+        ..g
     }
 }
 
@@ -137,8 +115,7 @@ fn cut_short(g: WalkState) -> WalkState
     ensures { result ≡ cut_short g }
 {
     let n = g.message_malformed + 1;
-    let full = g.full;
-    marked(g, n, full)
+    marked(g, n, g.full)
 }
 
 fn count_other(others: &mut [u64], id: u8)
@@ -169,8 +146,7 @@ pub(crate) fn apply(
     let plt = c.plt;
     let tot = c.tot;
     let used = c.used;
-    let act = t.act;
-    match act {
+    match t.act {
         TableAction::Nothing => c,
         TableAction::Other(id) => {
             count_other(others, id);
@@ -202,8 +178,7 @@ fn section(
     requires { CanTakeSection ix.old log.old others.old g t.now at }
     ensures { Walked section_read ix.old log.old others.old g (placed_at at t.now ∷ []) 1 0 result ix.new log.new others.new }
 {
-    let used = g.used;
-    let x = table_outcome::section_outcome(ix, used, t);
+    let x = table_outcome::section_outcome(ix, g.used, t);
     apply(ix, log, others, g, x, at as u64 + 1)
 }
 
@@ -222,13 +197,13 @@ pub(crate) fn sections(
     let mut at: usize = 0;
     loop {
         match si::next_section(b, at) {
-            MaybeSection::Some(x) => {
+            Some(x) => {
                 let k = x.offset;
                 let n = x.size;
                 g = section(ix, log, others, g, bytes::part(b, k, n), k);
                 at = k + n;
             }
-            MaybeSection::None => {
+            None => {
                 return g;
             }
         }
@@ -249,12 +224,9 @@ fn table(
     requires { CanTake ix.old log.old others.old g (a.now ++ b.now) p from }
     ensures { Walked table_read ix.old log.old others.old g (placed from (a.now ++ b.now) p ∷ []) 1 0 result ix.new log.new others.new }
 {
-    let mpt = g.mpt;
-    let plt = g.plt;
-    let used = g.used;
     let k = from + p.start;
     let q = joined::behind(a.len(), p);
-    let x = table_outcome::joined_outcome(ix, used, mpt, plt, p.of(a), q.of(b));
+    let x = table_outcome::joined_outcome(ix, g.used, g.mpt, g.plt, p.of(a), q.of(b));
     apply(ix, log, others, g, x, k as u64 + 1)
 }
 
@@ -333,9 +305,8 @@ fn messages(
     loop {
         match joined::next_message(a, b, long, at) {
             MessageStep::Message(p, next) => {
-                let k = p.start;
                 let q = joined::behind(a.len(), p);
-                g = message(ix, log, others, g, p.of(a), q.of(b), k);
+                g = message(ix, log, others, g, p.of(a), q.of(b), p.start);
                 at = next;
             }
             MessageStep::Malformed => {

@@ -5,19 +5,13 @@ ghost use Rattle.isdb_mmt.specs.Formats.Amt.{address_at, address_size, flow_of, 
 
 use crate::part;
 use crate::table::section;
-use crate::table::section::{LongSection, SectionError, SectionHeader};
+use crate::table::section::{SectionError, SectionHeader};
 use isdb_tlv::bytes;
 use isdb_tlv::ip::Address;
 
 #[derive(Clone, Copy)]
 pub struct Amt {
     pub services: u16,
-}
-
-#[derive(Clone, Copy)]
-pub enum AmtResult {
-    Ok(SectionHeader, Amt),
-    Err(SectionError),
 }
 
 // A service's source and destination, each an address and the length of its mask.
@@ -28,12 +22,6 @@ pub struct AmtService {
     pub src_mask: u8,
     pub dst: Address,
     pub dst_mask: u8,
-}
-
-#[derive(Clone, Copy)]
-pub enum AmtStep {
-    Malformed,
-    Service(AmtService, usize),
 }
 
 // An address of 4 bytes, or of 16.
@@ -54,6 +42,7 @@ fn address_size(wide: bool) -> usize
 }
 
 // The service whose addresses have size bytes each, in the loop at the start of b.
+#[tactic(auto, using(isdb_tlv::proofs::Fields::be_one))]
 fn flow_of(b: &[u8], id: u16, size: usize, wide: bool) -> AmtService
     requires { size ≤ 16 }
     ensures { result ≡ flow_of b.now id size wide }
@@ -68,24 +57,25 @@ fn flow_of(b: &[u8], id: u16, size: usize, wide: bool) -> AmtService
 }
 
 // The service at a place of the body. The first stands at 2; there are as many as amt.services says.
-pub fn service_at(body: &[u8], at: usize) -> AmtStep
+#[tactic(auto, unfolding(crate::specs::Formats::Amt::service_at))]
+pub fn service_at(body: &[u8], at: usize) -> Option<(AmtService, usize)>
     ensures { result ≡ service_at body.now at }
 {
     if part::left(body, at) < 4 {
-        return AmtStep::Malformed;
+        return None;
     }
     let start = at + 4;
     let f = bytes::get_u16(body, at + 2);
     let n = (f % 1024) as usize;
     if body.len() - start < n {
-        return AmtStep::Malformed;
+        return None;
     }
     let wide = f / 32768 == 1;
     let size = address_size(wide);
     if n < size * 2 + 2 {
-        return AmtStep::Malformed;
+        return None;
     }
-    AmtStep::Service(
+    Some((
         flow_of(
             bytes::rest(body, start),
             bytes::get_u16(body, at),
@@ -93,48 +83,44 @@ pub fn service_at(body: &[u8], at: usize) -> AmtStep
             wide,
         ),
         start + n,
-    )
+    ))
 }
 
 // Whether n services stand from a place on.
+#[tactic(auto, using(crate::proofs::Services::whole_none, crate::proofs::Services::whole_on_lem))]
 fn services_whole(body: &[u8], n: u16, from: usize) -> bool
     ensures { result ≡ services_whole n body.now from }
 {
     let mut at = from;
-    let mut left = n;
-    while 0 < left {
-        match service_at(body, at) {
-            AmtStep::Malformed => return false,
-            AmtStep::Service(_, next) => at = next,
-        }
-        left -= 1;
+    for i in 0..n {
+        let Some((_, next)) = service_at(body, at) else {
+            return false;
+        };
+        at = next;
     }
     true
 }
 
 // The body of a section whose header has been read.
-pub fn read(header: SectionHeader, body: &[u8]) -> AmtResult
+#[tactic(auto, unfolding(crate::specs::Formats::Amt::amt_body))]
+pub fn read(header: SectionHeader, body: &[u8]) -> Result<(SectionHeader, Amt), SectionError>
     ensures { result ≡ amt_body header body.now }
 {
     if body.len() < 2 {
-        return AmtResult::Err(SectionError::Malformed);
+        return Err(SectionError::Malformed);
     }
     let n = bytes::get_u16(body, 0) / 64;
     if !services_whole(body, n, 2) {
-        return AmtResult::Err(SectionError::Malformed);
+        return Err(SectionError::Malformed);
     }
-    AmtResult::Ok(header, Amt { services: n })
+    Ok((header, Amt { services: n }))
 }
 
 // A whole section.
-pub fn parse(b: &[u8]) -> AmtResult
+#[tactic(auto, unfolding(crate::specs::Formats::Amt::amt_of))]
+pub fn parse(b: &[u8]) -> Result<(SectionHeader, Amt), SectionError>
     ensures { result ≡ amt_of b.now }
 {
-    match section::long_section(b) {
-        LongSection::Err(e) => AmtResult::Err(e),
-        LongSection::Ok(header) => {
-            let body = header.body;
-            read(header, body.of(b))
-        }
-    }
+    let header = section::long_section(b)?;
+    read(header, header.body.of(b))
 }

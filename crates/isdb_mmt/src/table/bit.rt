@@ -1,11 +1,11 @@
 // MH-BIT (ARIB STD-B60, Table 7-21): the broadcasters of a network.
 // Translated from table.rs of isdb-rs (Apache-2.0, see NOTICE) and changed.
 ghost use Rattle.std.specs.Prelude.{◌≡◌};
-ghost use Rattle.isdb_mmt.specs.Formats.Bit.{bit_parsed, bit_body, bit_of, broadcaster_of, broadcaster_step};
+ghost use Rattle.isdb_mmt.specs.Formats.Bit.{bit_body, bit_of, broadcaster_of, broadcaster_step};
 
 use crate::part::Part;
 use crate::table::section;
-use crate::table::section::{Entry, EntryStep, LongSection, SectionError, SectionHeader};
+use crate::table::section::{Entry, EntryStep, Parsed, SectionError, SectionHeader};
 use isdb_tlv::bytes;
 
 // The fields of a section's body: its first descriptor loop, and how many broadcasters stand behind it.
@@ -16,45 +16,24 @@ pub struct Bit {
     pub broadcasters: usize,
 }
 
-#[derive(Clone, Copy)]
-pub enum BitResult {
-    Ok(SectionHeader, Bit),
-    Err(SectionError),
-}
-
-// What a section gives, and how many descriptor loops broke on the way.
-#[derive(Clone, Copy)]
-pub struct BitParsed {
-    pub result: BitResult,
-    pub breaks: usize,
-}
-
-fn refused(e: SectionError, breaks: usize) -> BitParsed
-    ensures { result ≡ bit_parsed (BitResult.Err e) breaks }
-{
-    BitParsed {
-        result: BitResult::Err(e),
-        breaks,
-    }
-}
-
 // The body of a section whose header has been read.
-pub fn read(header: SectionHeader, body: &[u8]) -> BitParsed
+#[tactic(auto, using(crate::proofs::Entries::whole_told, crate::proofs::Entries::count_told, crate::proofs::Entries::breaks_told, isdb_tlv::proofs::Fields::be_one), unfolding(crate::specs::Formats::Bit::bit_body))]
+pub fn read(header: SectionHeader, body: &[u8]) -> Parsed<(SectionHeader, Bit)>
     ensures { result ≡ bit_body header body.now }
 {
     if body.len() < 2 {
-        return refused(SectionError::Malformed, 0);
+        return section::refused(SectionError::Malformed, 0);
     }
     let n = bytes::get_u12(body, 0) as usize;
     let end = n + 2;
     if body.len() < end {
-        return refused(SectionError::Malformed, 0);
+        return section::refused(SectionError::Malformed, 0);
     }
     let first = section::broken(bytes::part(body, 2, n));
     let l = section::read_entries(body, 1, end);
     let breaks = first + l.breaks;
     if !l.whole {
-        return refused(SectionError::Malformed, breaks);
+        return section::refused(SectionError::Malformed, breaks);
     }
     let bit = Bit {
         broadcast_view_propriety: bytes::get_u8(body, 0) / 16 % 2 == 1,
@@ -64,22 +43,20 @@ pub fn read(header: SectionHeader, body: &[u8]) -> BitParsed
         },
         broadcasters: l.count,
     };
-    BitParsed {
-        result: BitResult::Ok(header, bit),
+    Parsed {
+        result: Ok((header, bit)),
         breaks,
     }
 }
 
 // A whole section.
-pub fn parse(b: &[u8]) -> BitParsed
+#[tactic(auto, unfolding(crate::specs::Formats::Bit::bit_of))]
+pub fn parse(b: &[u8]) -> Parsed<(SectionHeader, Bit)>
     ensures { result ≡ bit_of b.now }
 {
     match section::long_section(b) {
-        LongSection::Err(e) => refused(e, 0),
-        LongSection::Ok(header) => {
-            let body = header.body;
-            read(header, body.of(b))
-        }
+        Err(e) => section::refused(e, 0),
+        Ok(header) => { read(header, header.body.of(b)) }
     }
 }
 
@@ -96,18 +73,18 @@ pub enum BroadcasterStep {
     Broadcaster(Broadcaster, usize),
 }
 
+#[tactic(auto, using(isdb_tlv::proofs::Fields::be_one))]
 fn broadcaster_of(body: &[u8], e: Entry) -> Broadcaster
     ensures { result ≡ broadcaster_of body.now e }
 {
-    let at = e.at;
-    let descriptors = e.descriptors;
     Broadcaster {
-        broadcaster_id: bytes::get_u8(body, at),
-        descriptors,
+        broadcaster_id: bytes::get_u8(body, e.at),
+        descriptors: e.descriptors,
     }
 }
 
 // The broadcasters of a body, by a cursor that starts behind the first descriptor loop.
+#[tactic(auto, unfolding(crate::specs::Formats::Bit::broadcaster_step))]
 pub fn next_broadcaster(body: &[u8], at: usize) -> BroadcasterStep
     ensures { result ≡ broadcaster_step body.now at }
 {

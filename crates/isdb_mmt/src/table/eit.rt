@@ -3,13 +3,13 @@
 ghost use Rattle.std.specs.Prelude.{◌≡◌};
 ghost use Rattle.isdb_mmt.specs.Formats.Desc.{first_of};
 ghost use Rattle.isdb_mmt.specs.Formats.Tags.{short_event_tag};
-ghost use Rattle.isdb_mmt.specs.Formats.Eit.{eit_parsed, eit_body, eit_of, event_of, event_step};
+ghost use Rattle.isdb_mmt.specs.Formats.Eit.{eit_body, eit_of, event_of, event_step};
 
 use crate::desc;
-use crate::desc::{Found, tag};
+use crate::desc::{Descriptor, tag};
 use crate::part::Part;
 use crate::table::section;
-use crate::table::section::{Entry, EntryStep, LongSection, SectionError, SectionHeader};
+use crate::table::section::{Entry, EntryStep, Parsed, SectionError, SectionHeader};
 use isdb_tlv::bytes;
 
 // The fields of a section's body, and how many events it has.
@@ -22,38 +22,17 @@ pub struct Eit {
     pub events: usize,
 }
 
-#[derive(Clone, Copy)]
-pub enum EitResult {
-    Ok(SectionHeader, Eit),
-    Err(SectionError),
-}
-
-// What a section gives, and how many descriptor loops broke on the way.
-#[derive(Clone, Copy)]
-pub struct EitParsed {
-    pub result: EitResult,
-    pub breaks: usize,
-}
-
-fn refused(e: SectionError, breaks: usize) -> EitParsed
-    ensures { result ≡ eit_parsed (EitResult.Err e) breaks }
-{
-    EitParsed {
-        result: EitResult::Err(e),
-        breaks,
-    }
-}
-
 // The body of a section whose header has been read.
-pub fn read(header: SectionHeader, body: &[u8]) -> EitParsed
+#[tactic(auto, using(crate::proofs::Entries::whole_told, crate::proofs::Entries::count_told, crate::proofs::Entries::breaks_told, isdb_tlv::proofs::Fields::be_one), unfolding(crate::specs::Formats::Eit::eit_body))]
+pub fn read(header: SectionHeader, body: &[u8]) -> Parsed<(SectionHeader, Eit)>
     ensures { result ≡ eit_body header body.now }
 {
     if body.len() < 6 {
-        return refused(SectionError::Malformed, 0);
+        return section::refused(SectionError::Malformed, 0);
     }
     let l = section::read_entries(body, 10, 6);
     if !l.whole {
-        return refused(SectionError::Malformed, l.breaks);
+        return section::refused(SectionError::Malformed, l.breaks);
     }
     let eit = Eit {
         tlv_stream_id: bytes::get_u16(body, 0),
@@ -62,22 +41,20 @@ pub fn read(header: SectionHeader, body: &[u8]) -> EitParsed
         last_table_id: bytes::get_u8(body, 5),
         events: l.count,
     };
-    EitParsed {
-        result: EitResult::Ok(header, eit),
+    Parsed {
+        result: Ok((header, eit)),
         breaks: l.breaks,
     }
 }
 
 // A whole section.
-pub fn parse(b: &[u8]) -> EitParsed
+#[tactic(auto, unfolding(crate::specs::Formats::Eit::eit_of))]
+pub fn parse(b: &[u8]) -> Parsed<(SectionHeader, Eit)>
     ensures { result ≡ eit_of b.now }
 {
     match section::long_section(b) {
-        LongSection::Err(e) => refused(e, 0),
-        LongSection::Ok(header) => {
-            let body = header.body;
-            read(header, body.of(b))
-        }
+        Err(e) => section::refused(e, 0),
+        Ok(header) => { read(header, header.body.of(b)) }
     }
 }
 
@@ -100,12 +77,11 @@ pub enum EventStep {
     Event(Event, usize),
 }
 
+#[tactic(auto, using(crate::proofs::Fields::first_field, crate::proofs::Fields::byte_field, crate::proofs::Fields::long_field))]
 fn event_of(body: &[u8], e: Entry) -> Event
     ensures { result ≡ event_of body.now e }
 {
-    let at = e.at;
-    let descriptors = e.descriptors;
-    let b = bytes::rest(body, at);
+    let b = bytes::rest(body, e.at);
     let status = bytes::get_u8(b, 10);
     Event {
         event_id: bytes::get_u16(b, 0),
@@ -113,11 +89,12 @@ fn event_of(body: &[u8], e: Entry) -> Event
         duration: bytes::number(b, 7, 3) as u32,
         running_status: status / 32,
         free_ca: status / 16 % 2 == 1,
-        descriptors,
+        descriptors: e.descriptors,
     }
 }
 
 // The events of a body, by a cursor that starts at 6.
+#[tactic(auto, unfolding(crate::specs::Formats::Eit::event_step))]
 pub fn next_event(body: &[u8], at: usize) -> EventStep
     ensures { result ≡ event_step body.now at }
 {
@@ -129,7 +106,7 @@ pub fn next_event(body: &[u8], at: usize) -> EventStep
 }
 
 // The first short event descriptor of an event's descriptors.
-pub fn short_event(descriptors: &[u8]) -> Found
+pub fn short_event(descriptors: &[u8]) -> Option<(Descriptor, Part)>
     ensures { result ≡ first_of short_event_tag descriptors.now 0 }
 {
     desc::first_of(descriptors, tag::SHORT_EVENT)

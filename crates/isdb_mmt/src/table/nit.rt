@@ -1,14 +1,13 @@
 // TLV-NIT (ARIB STD-B60, Table 5-1): the TLV streams of a network, with TLV-SI descriptors (5.3), which have a tag and a
 // length of 8 bits each.
 // Translated from table.rs of isdb-rs (Apache-2.0, see NOTICE) and changed.
-ghost use Rattle.std.specs.Prelude.{◌≡◌, ◌≤◌};
+ghost use Rattle.std.specs.Prelude.{◌≡◌, ◌≤◌, Err};
 ghost use Rattle.isdb_mmt.specs.Formats.Nit.{nit_body, nit_of, stream_of, stream_step, tlv_step_at, digit, bcd_from, frequency_of, whole_body, network_name_of, service_list_of};
 
-use crate::maybe::MaybeU64;
 use crate::part;
 use crate::part::Part;
 use crate::table::section;
-use crate::table::section::{Entry, EntryStep, LongSection, SectionError, SectionHeader};
+use crate::table::section::{Entry, EntryStep, SectionError, SectionHeader};
 use isdb_tlv::bytes;
 
 // The parts of a section's body: the network's descriptors, the loop of streams, and how many they are.
@@ -19,20 +18,15 @@ pub struct Nit {
     pub streams: usize,
 }
 
-#[derive(Clone, Copy)]
-pub enum NitResult {
-    Ok(SectionHeader, Nit),
-    Err(SectionError),
-}
-
-fn malformed() -> NitResult
-    ensures { result ≡ NitResult.Err SectionError.Malformed }
+fn malformed() -> Result<(SectionHeader, Nit), SectionError>
+    ensures { result ≡ Err SectionError.Malformed }
 {
-    NitResult::Err(SectionError::Malformed)
+    Err(SectionError::Malformed)
 }
 
 // The body of a section whose header has been read.
-pub fn read(header: SectionHeader, body: &[u8]) -> NitResult
+#[tactic(auto, using(crate::proofs::Entries::whole_told, crate::proofs::Entries::count_told), unfolding(crate::specs::Formats::Nit::nit_body))]
+pub fn read(header: SectionHeader, body: &[u8]) -> Result<(SectionHeader, Nit), SectionError>
     ensures { result ≡ nit_body header body.now }
 {
     if body.len() < 2 {
@@ -51,7 +45,7 @@ pub fn read(header: SectionHeader, body: &[u8]) -> NitResult
     if !l.whole {
         return malformed();
     }
-    NitResult::Ok(
+    Ok((
         header,
         Nit {
             descriptors: Part {
@@ -61,20 +55,16 @@ pub fn read(header: SectionHeader, body: &[u8]) -> NitResult
             loop_part: Part { start, length },
             streams: l.count,
         },
-    )
+    ))
 }
 
 // A whole section. Its descriptor loops do not count as broken.
-pub fn parse(b: &[u8]) -> NitResult
+#[tactic(auto, unfolding(crate::specs::Formats::Nit::nit_of))]
+pub fn parse(b: &[u8]) -> Result<(SectionHeader, Nit), SectionError>
     ensures { result ≡ nit_of b.now }
 {
-    match section::long_section(b) {
-        LongSection::Err(e) => NitResult::Err(e),
-        LongSection::Ok(header) => {
-            let body = header.body;
-            read(header, body.of(b))
-        }
-    }
+    let header = section::long_section(b)?;
+    read(header, header.body.of(b))
 }
 
 #[derive(Clone, Copy)]
@@ -91,20 +81,20 @@ pub enum StreamStep {
     Stream(NitStream, usize),
 }
 
+#[tactic(auto, using(isdb_tlv::proofs::Numbers::be_drop))]
 fn stream_of(streams: &[u8], e: Entry) -> NitStream
     ensures { result ≡ stream_of streams.now e }
 {
-    let at = e.at;
-    let descriptors = e.descriptors;
-    let b = bytes::rest(streams, at);
+    let b = bytes::rest(streams, e.at);
     NitStream {
         tlv_stream_id: bytes::get_u16(b, 0),
         original_network_id: bytes::get_u16(b, 2),
-        descriptors,
+        descriptors: e.descriptors,
     }
 }
 
 // The streams of the loop of streams, by a cursor that starts at 0.
+#[tactic(auto, unfolding(crate::specs::Formats::Nit::stream_step))]
 pub fn next_stream(streams: &[u8], at: usize) -> StreamStep
     ensures { result ≡ stream_step streams.now at }
 {
@@ -123,6 +113,7 @@ pub enum TlvStep {
 }
 
 // The descriptors of a TLV-SI loop, by a cursor that starts at 0.
+#[tactic(auto, using(isdb_tlv::proofs::Fields::be_one), unfolding(crate::specs::Formats::Nit::tlv_step_at))]
 pub fn next_tlv(b: &[u8], at: usize) -> TlvStep
     ensures { result ≡ tlv_step_at b.now at }
 {
@@ -142,6 +133,7 @@ pub fn next_tlv(b: &[u8], at: usize) -> TlvStep
 }
 
 // The BCD digit i, two a byte.
+#[tactic(auto, using(isdb_tlv::proofs::Fields::be_one))]
 fn digit_at(b: &[u8], i: u8) -> u8
     ensures { result ≡ digit b.now i }
 {
@@ -150,21 +142,20 @@ fn digit_at(b: &[u8], i: u8) -> u8
 }
 
 // The number of n BCD digits, high digit first, or none where one is above 9.
-fn bcd(b: &[u8], n: u8) -> MaybeU64
+#[tactic(auto, using(crate::proofs::Nits::bcd_lt))]
+fn bcd(b: &[u8], n: u8) -> Option<u64>
     requires { n ≤ 8 }
     ensures { result ≡ bcd_from n b.now }
 {
     let mut v: u64 = 0;
-    let mut i: u8 = 0;
-    while i < n {
+    for i in 0..n {
         let d = digit_at(b, i);
         if 9 < d {
-            return MaybeU64::None;
+            return None;
         }
-        v = v * 10 + d as u64;
-        i += 1;
+        v = v * 10 + u64::from(d);
     }
-    MaybeU64::Some(v)
+    Some(v)
 }
 
 // TLV-SI descriptor tags (Table 4-4).
@@ -175,49 +166,43 @@ pub const SERVICE_LIST: u8 = 0x41;
 pub const SATELLITE_DELIVERY: u8 = 0x43;
 
 // The frequency in kHz of a satellite delivery system descriptor: eight BCD digits, in 10 kHz.
-pub fn satellite_frequency_khz(tag: u8, b: &[u8]) -> MaybeU64
+#[tactic(auto, unfolding(crate::specs::Formats::Nit::frequency_of))]
+pub fn satellite_frequency_khz(tag: u8, b: &[u8]) -> Option<u64>
     ensures { result ≡ frequency_of tag b.now }
 {
     if tag != SATELLITE_DELIVERY {
-        return MaybeU64::None;
+        return None;
     }
     if b.len() < 4 {
-        return MaybeU64::None;
+        return None;
     }
-    match bcd(b, 8) {
-        MaybeU64::None => MaybeU64::None,
-        MaybeU64::Some(v) => MaybeU64::Some(v * 10),
-    }
-}
-
-#[derive(Clone, Copy)]
-pub enum MaybePart {
-    None,
-    Some(Part),
+    let v = bcd(b, 8)?;
+    Some(v * 10)
 }
 
 // The whole body of a descriptor, where its tag is the wanted one.
-fn whole_body(wanted: u8, tag: u8, b: &[u8]) -> MaybePart
+#[tactic(auto, unfolding(crate::specs::Formats::Nit::whole_body))]
+fn whole_body(wanted: u8, tag: u8, b: &[u8]) -> Option<Part>
     ensures { result ≡ whole_body wanted tag b.now }
 {
     if tag != wanted {
-        return MaybePart::None;
+        return None;
     }
-    MaybePart::Some(Part {
+    Some(Part {
         start: 0,
         length: b.len(),
     })
 }
 
 // The text of a network name descriptor.
-pub fn network_name(tag: u8, b: &[u8]) -> MaybePart
+pub fn network_name(tag: u8, b: &[u8]) -> Option<Part>
     ensures { result ≡ network_name_of tag b.now }
 {
     whole_body(NETWORK_NAME, tag, b)
 }
 
 // The entries of a service list descriptor, which desc::next_service walks.
-pub fn service_list(tag: u8, b: &[u8]) -> MaybePart
+pub fn service_list(tag: u8, b: &[u8]) -> Option<Part>
     ensures { result ≡ service_list_of tag b.now }
 {
     whole_body(SERVICE_LIST, tag, b)

@@ -3,13 +3,13 @@
 ghost use Rattle.std.specs.Prelude.{◌≡◌};
 ghost use Rattle.isdb_mmt.specs.Formats.Desc.{first_of};
 ghost use Rattle.isdb_mmt.specs.Formats.Tags.{service_tag};
-ghost use Rattle.isdb_mmt.specs.Formats.Sdt.{sdt_parsed, sdt_body, sdt_of, service_of, service_step};
+ghost use Rattle.isdb_mmt.specs.Formats.Sdt.{sdt_body, sdt_of, service_of, service_step};
 
 use crate::desc;
-use crate::desc::{Found, tag};
+use crate::desc::{Descriptor, tag};
 use crate::part::Part;
 use crate::table::section;
-use crate::table::section::{Entry, EntryStep, LongSection, SectionError, SectionHeader};
+use crate::table::section::{Entry, EntryStep, Parsed, SectionError, SectionHeader};
 use isdb_tlv::bytes;
 
 // The field of a section's body, and how many services it has.
@@ -19,59 +19,36 @@ pub struct Sdt {
     pub services: usize,
 }
 
-#[derive(Clone, Copy)]
-pub enum SdtResult {
-    Ok(SectionHeader, Sdt),
-    Err(SectionError),
-}
-
-// What a section gives, and how many descriptor loops broke on the way.
-#[derive(Clone, Copy)]
-pub struct SdtParsed {
-    pub result: SdtResult,
-    pub breaks: usize,
-}
-
-fn refused(e: SectionError, breaks: usize) -> SdtParsed
-    ensures { result ≡ sdt_parsed (SdtResult.Err e) breaks }
-{
-    SdtParsed {
-        result: SdtResult::Err(e),
-        breaks,
-    }
-}
-
 // The body of a section whose header has been read.
-pub fn read(header: SectionHeader, body: &[u8]) -> SdtParsed
+#[tactic(auto, using(crate::proofs::Entries::whole_told, crate::proofs::Entries::count_told, crate::proofs::Entries::breaks_told), unfolding(crate::specs::Formats::Sdt::sdt_body))]
+pub fn read(header: SectionHeader, body: &[u8]) -> Parsed<(SectionHeader, Sdt)>
     ensures { result ≡ sdt_body header body.now }
 {
     if body.len() < 2 {
-        return refused(SectionError::Malformed, 0);
+        return section::refused(SectionError::Malformed, 0);
     }
     let l = section::read_entries(body, 3, 3);
     if !l.whole {
-        return refused(SectionError::Malformed, l.breaks);
+        return section::refused(SectionError::Malformed, l.breaks);
     }
     let sdt = Sdt {
         original_network_id: bytes::get_u16(body, 0),
         services: l.count,
     };
-    SdtParsed {
-        result: SdtResult::Ok(header, sdt),
+    Parsed {
+        result: Ok((header, sdt)),
         breaks: l.breaks,
     }
 }
 
 // A whole section.
-pub fn parse(b: &[u8]) -> SdtParsed
+#[tactic(auto, unfolding(crate::specs::Formats::Sdt::sdt_of))]
+pub fn parse(b: &[u8]) -> Parsed<(SectionHeader, Sdt)>
     ensures { result ≡ sdt_of b.now }
 {
     match section::long_section(b) {
-        LongSection::Err(e) => refused(e, 0),
-        LongSection::Ok(header) => {
-            let body = header.body;
-            read(header, body.of(b))
-        }
+        Err(e) => section::refused(e, 0),
+        Ok(header) => { read(header, header.body.of(b)) }
     }
 }
 
@@ -93,12 +70,11 @@ pub enum SdtStep {
     Service(SdtService, usize),
 }
 
+#[tactic(auto, using(crate::proofs::Fields::first_field, crate::proofs::Fields::byte_field))]
 fn service_of(body: &[u8], e: Entry) -> SdtService
     ensures { result ≡ service_of body.now e }
 {
-    let at = e.at;
-    let descriptors = e.descriptors;
-    let b = bytes::rest(body, at);
+    let b = bytes::rest(body, e.at);
     let flags = bytes::get_u8(b, 2);
     let status = bytes::get_u8(b, 3);
     SdtService {
@@ -108,11 +84,12 @@ fn service_of(body: &[u8], e: Entry) -> SdtService
         eit_present_following: flags % 2 == 1,
         running_status: status / 32,
         free_ca: status / 16 % 2 == 1,
-        descriptors,
+        descriptors: e.descriptors,
     }
 }
 
 // The services of a body, by a cursor that starts at 3.
+#[tactic(auto, unfolding(crate::specs::Formats::Sdt::service_step))]
 pub fn next_service(body: &[u8], at: usize) -> SdtStep
     ensures { result ≡ service_step body.now at }
 {
@@ -124,7 +101,7 @@ pub fn next_service(body: &[u8], at: usize) -> SdtStep
 }
 
 // The first service descriptor of a service's descriptors.
-pub fn service_descriptor(descriptors: &[u8]) -> Found
+pub fn service_descriptor(descriptors: &[u8]) -> Option<(Descriptor, Part)>
     ensures { result ≡ first_of service_tag descriptors.now 0 }
 {
     desc::first_of(descriptors, tag::SERVICE)

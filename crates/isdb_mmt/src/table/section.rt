@@ -1,9 +1,9 @@
 // The long-form section that MH-EIT, MH-SDT, MH-BIT, TLV-NIT and AMT share (ARIB STD-B60, 7.2.3.2), and the entries of
 // their loops.
 // Translated from table.rs of isdb-rs (Apache-2.0, see NOTICE) and changed.
-ghost use Rattle.std.specs.Prelude.{◌≡◌};
+ghost use Rattle.std.specs.Prelude.{◌≡◌, Err};
 ghost use Rattle.isdb_mmt.specs.Formats.Desc.{broken as broken_loop_of};
-ghost use Rattle.isdb_mmt.specs.Formats.Section.{header_of, long_section_of, entry_at, entries_told, entries_from};
+ghost use Rattle.isdb_mmt.specs.Formats.Section.{header_of, long_section_of, parsed, entry_at, entries_told, entries_from};
 
 use crate::desc;
 use crate::part::Part;
@@ -24,7 +24,7 @@ pub struct SectionHeader {
 }
 
 // Why a section was not read.
-#[derive(Clone, Copy)]
+#[derive(Clone, Copy, Debug, PartialEq, Eq)]
 pub enum SectionError {
     // Shorter than its header or its section_length.
     Truncated,
@@ -34,13 +34,8 @@ pub enum SectionError {
     Malformed,
 }
 
-#[derive(Clone, Copy)]
-pub enum LongSection {
-    Ok(SectionHeader),
-    Err(SectionError),
-}
-
 // The header of a section whose body has n bytes.
+#[tactic(auto, using(isdb_tlv::proofs::Fields::be_one))]
 fn header_of(b: &[u8], n: usize) -> SectionHeader
     ensures { result ≡ header_of b.now n }
 {
@@ -60,24 +55,42 @@ fn header_of(b: &[u8], n: usize) -> SectionHeader
 }
 
 // A long-form section: its header, where its length and its CRC are good.
-pub fn long_section(b: &[u8]) -> LongSection
+#[tactic(auto, unfolding(crate::specs::Formats::Section::long_section_of))]
+pub fn long_section(b: &[u8]) -> Result<SectionHeader, SectionError>
     ensures { result ≡ long_section_of b.now }
 {
     if b.len() < 3 {
-        return LongSection::Err(SectionError::Truncated);
+        return Err(SectionError::Truncated);
     }
     let n = bytes::get_u12(b, 1) as usize;
     if n < 9 {
-        return LongSection::Err(SectionError::Truncated);
+        return Err(SectionError::Truncated);
     }
     let end = n + 3;
     if b.len() < end {
-        return LongSection::Err(SectionError::Truncated);
+        return Err(SectionError::Truncated);
     }
     if crc::crc32(bytes::part(b, 0, end)) != 0 {
-        return LongSection::Err(SectionError::Crc);
+        return Err(SectionError::Crc);
     }
-    LongSection::Ok(header_of(b, n - 9))
+    Ok(header_of(b, n - 9))
+}
+
+// What a table's section gives, and how many descriptor loops broke on the way.
+#[derive(Clone, Copy)]
+pub struct Parsed<T> {
+    pub result: Result<T, SectionError>,
+    pub breaks: usize,
+}
+
+// A section that was not read.
+pub(crate) fn refused<T>(e: SectionError, breaks: usize) -> Parsed<T>
+    ensures { result ≡ parsed (Err e) breaks }
+{
+    Parsed {
+        result: Err(e),
+        breaks,
+    }
 }
 
 // An entry of a table's loop: fields from at on, then a descriptor loop behind its length of 12 bits.
@@ -95,6 +108,7 @@ pub enum EntryStep {
 }
 
 // The entries of a loop that ends with b, each with so many bytes of fields before the descriptors' length.
+#[tactic(auto, unfolding(crate::specs::Formats::Section::entry_at))]
 pub fn next_entry(b: &[u8], fields: u8, at: usize) -> EntryStep
     ensures { result ≡ entry_at b.now fields at }
 {
@@ -128,6 +142,7 @@ pub struct Entries {
 }
 
 // 1 for a descriptor loop that breaks.
+#[tactic(auto, unfolding(crate::specs::Formats::Desc::counted))]
 pub fn broken(b: &[u8]) -> usize
     ensures { result ≡ broken_loop_of b.now }
 {
@@ -135,18 +150,19 @@ pub fn broken(b: &[u8]) -> usize
     if c.broken { 1 } else { 0 }
 }
 
+#[tactic(auto, using(crate::proofs::Entries::entry_lies, crate::proofs::Entries::broken_le, crate::proofs::Entries::plus_zero))]
 pub fn read_entries(b: &[u8], fields: u8, from: usize) -> Entries
     ensures { result ≡ entries_told (entries_from b.now fields from) }
 {
     let mut at = from;
     let mut count: usize = 0;
     let mut breaks: usize = 0;
+    // No iterator: a step has three answers, and the two that end the loop differ.
     loop {
         match next_entry(b, fields, at) {
             EntryStep::Entry(e, next) => {
-                let d = e.descriptors;
                 count += 1;
-                breaks += broken(d.of(b));
+                breaks += broken(e.descriptors.of(b));
                 at = next;
             }
             EntryStep::Malformed => {

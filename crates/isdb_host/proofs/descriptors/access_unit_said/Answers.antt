@@ -1,4 +1,4 @@
 use Rattle.isdb_host.proofs.descriptors.access_unit_said.Goals as goal
 
-pub returns-in-Unit : goal.returns-in-Unit
-returns-in-Unit c = rw c.in-Unit.is c.says_access_unit.ensures
+pub returns-in-Some : goal.returns-in-Some
+returns-in-Some c = rw c.in-Some.is c.says_access_unit.ensures

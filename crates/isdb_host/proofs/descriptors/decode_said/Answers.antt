@@ -34,7 +34,7 @@ returns-in-Content c = rw c.in-Content.is c.says-in-Content.ensures
 
 pub returns-in-Hevc : goal.returns-in-Hevc
 returns-in-Hevc c =
-    rw c.in-Hevc.is (rw c.flag.ensures
+    rw c.in-Hevc.is (rw c.from.ensures
     at c.says-in-Hevc.ensures)
 
 pub returns-in-BroadcasterName : goal.returns-in-BroadcasterName

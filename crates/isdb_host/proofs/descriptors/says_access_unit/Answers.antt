@@ -3,7 +3,7 @@ use Rattle.isdb_host.proofs.descriptors.says_access_unit.Goals as goal
 pub returns : goal.returns
 returns c =
     rw (
-      c.or_zero.ensures,
+      c.unwrap_or.ensures,
       c.given.ensures,
     )
     at c.says.ensures

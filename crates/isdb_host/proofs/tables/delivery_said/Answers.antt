@@ -1,5 +1,5 @@
 use Rattle.isdb_host.proofs.tables.delivery_said.Goals as goal
 
-pub returns-in-Delivery : goal.returns-in-Delivery
-returns-in-Delivery c =
-    rw c.in-Delivery.is c.says.ensures
+pub returns-in-Some : goal.returns-in-Some
+returns-in-Some c =
+    rw c.in-Some.is c.says.ensures

@@ -5,4 +5,4 @@ says-requires c = c.requires
 
 pub returns-in-Some : goal.returns-in-Some
 returns-in-Some c =
-    rw c.in-Some.is (rw (c.or_zero.ensures, c.given.ensures, c.service_id-service.ensures) at c.says.ensures)
+    rw c.in-Some.is (rw (c.unwrap_or.ensures, c.given.ensures, c.service_id-service.ensures) at c.says.ensures)

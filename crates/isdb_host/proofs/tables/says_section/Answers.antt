@@ -13,6 +13,6 @@ returns c =
       c.number_at-3.ensures,
       c.number_at-2.ensures,
       c.number_at.ensures,
-      c.flag.ensures,
+      c.from.ensures,
     )
     at c.says.ensures)

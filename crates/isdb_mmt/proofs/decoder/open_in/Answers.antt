@@ -6,7 +6,7 @@ pub open_state-requires : goal.open_state-requires
 open_state-requires c = search (rules, opens_long)
 
 pub returns-then-number-eq0 : goal.returns-then-number-eq0
-returns-then-number-eq0 c = search (rules, opens)
+returns-then-number-eq0 c = let e = c.fill.ensures.after (λ y e. e) in search (rules, opens, e)
 
 pub returns-else-number-eq0 : goal.returns-else-number-eq0
 returns-else-number-eq0 c = search (rules, refuses)

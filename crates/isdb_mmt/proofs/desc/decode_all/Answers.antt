@@ -1,23 +1,24 @@
-use Rattle.std.proofs.Common.{sym, ◌∙◌, arith, rules}
-use Rattle.isdb_mmt.proofs.Descriptors.{raw_lies, plus_zero, count_end, count_broken, count_on}
-use Rattle.isdb_mmt.specs.Formats.Desc.{split_from, split_of}
+use Rattle.std.proofs.Common.{sym, ◌∙◌, arith}
+use Rattle.isdb_mmt.proofs.Descriptors.{raw_lies, count_last, count_broken, count_on}
 use Rattle.isdb_mmt.proofs.desc.decode_all.Goals as goal
 
-pub loop-next-init : goal.loop-next-init
-unfolding split_of
-loop-next-init c = (search rules, plus_zero (split_from _ 0))
-
-pub overflow_add-count : goal.overflow_add-count
-overflow_add-count c = let l = raw_lies _ (sym c.next.ensures ∙ c.in-Raw.is) in omega arith
-
-pub loop-next-smaller : goal.loop-next-smaller
-loop-next-smaller c = let l = raw_lies _ (sym c.next.ensures ∙ c.in-Raw.is) in omega arith
-
-pub loop-next-preserved : goal.loop-next-preserved
-loop-next-preserved c = let e = sym c.next.ensures ∙ c.in-Raw.is in let l = raw_lies _ e in (omega arith, count_on _ _ _ c.loop-next.invariant.1 e)
+pub loop-count-preserved : goal.loop-count-preserved
+loop-count-preserved c =
+    let i = c.loop-count.invariant in
+    let g = c.in-Some.ensures.steps in
+    let e = rw i.0 at g.1 in
+    let l = raw_lies _ e in
+    (rw g.0 i.0, (omega arith, count_on _ _ _ i.1.1 e))
 
 pub returns-in-Broken : goal.returns-in-Broken
-returns-in-Broken c = count_broken _ _ _ c.loop-next.invariant.1 (sym c.next.ensures ∙ c.in-Broken.is)
+returns-in-Broken c =
+    let i = c.loop-count.invariant in
+    let g = c.in_default.ensures.steps in
+    count_broken _ _ _ i.1.1 (rw (g.0, i.0, g.1.1) at (sym c.step.ensures ∙ c.in-Broken.is))
 
-pub returns-in-End : goal.returns-in-End
-returns-in-End c = count_end _ _ _ c.loop-next.invariant.1 (sym c.next.ensures ∙ c.in-End.is)
+pub returns-in_default-matches : goal.returns-in_default-matches
+returns-in_default-matches c =
+    let i = c.loop-count.invariant in
+    let g = c.in_default.ensures.steps in
+    let e = rw (g.0, i.0, g.1.1) at c.step.ensures in
+    count_last _ _ _ i.1.1 _ e (λ t p n q. (rw i.0 at g.1.0) t p n (sym e ∙ q)) c.in_default-matches.not-Broken

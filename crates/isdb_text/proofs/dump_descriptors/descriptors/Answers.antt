@@ -1,28 +1,19 @@
-use Rattle.std.proofs.Common.{refl, rules}
-use Rattle.isdb_text.proofs.Written.{left_all}
-use Rattle.isdb_text.proofs.Elements.{texts_turn, texts_ended, texts_end}
+use Rattle.std.proofs.Common.{refl, ⊎_elim, rules}
+use Rattle.isdb_text.proofs.Elements.{walk_start, walk_turn, walk_ended, walk_end}
 use Rattle.isdb_text.specs.DumpDescriptors.{descriptors_text}
 use Rattle.isdb_text.proofs.dump_descriptors.descriptors.Goals as goal
 
-pub loop-left-init : goal.loop-left-init
+pub loop-init : goal.loop-init
 unfolding descriptors_text
-loop-left-init c = (refl, left_all c.place-p.ensures)
+loop-init c = search (rules, walk_start)
 
 pub returns-in-End : goal.returns-in-End
-returns-in-End c = texts_ended _ _ _ c.loop-left.invariant.1 (rw
-    (← c.next.ensures, c.in-End.is) refl)
+returns-in-End c =
+    ⊎_elim (λ e. walk_ended c.loop.invariant _ _ c.next.ensures e refl) (λ e. walk_ended c.loop.invariant _ _ c.next.ensures e.1 refl) c.in-End.is
 
-pub returns-in-Broken : goal.returns-in-Broken
-returns-in-Broken c = texts_ended _ _ _ c.loop-left.invariant.1 (rw
-    (← c.next.ensures, c.in-Broken.is) refl)
+pub loop-preserved : goal.loop-preserved
+loop-preserved c =
+    walk_turn c.loop.invariant _ _ c.next.ensures c.in-Raw.is c.loop-test.true (rw (← c.of.ensures) refl) c.descriptor_line-p.ensures
 
-pub loop-left-preserved : goal.loop-left-preserved
-loop-left-preserved c = (
-  search rules,
-  texts_turn _ _ _ c.loop-left.invariant.1 c.loop-left-test.true
-      (rw (← c.next.ensures, c.in-Raw.is, ← c.of.ensures) refl)
-      c.descriptor_line-p.ensures,
-)
-
-pub returns : goal.returns
-returns c = texts_end _ _ _ c.loop-left.invariant.1 c.loop-left-test.false
+pub returns-after-loop : goal.returns-after-loop
+returns-after-loop c = search (rules, walk_end)

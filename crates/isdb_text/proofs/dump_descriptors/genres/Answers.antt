@@ -1,6 +1,5 @@
-use Rattle.std.proofs.Common.{refl, rules, le-ltb, lt-ltb}
-use Rattle.isdb_text.proofs.Written.{wrote_append, left_all}
-use Rattle.isdb_text.proofs.Elements.{texts_turn, texts_ended, texts_end}
+use Rattle.std.proofs.Common.{rules, le-ltb, lt-ltb}
+use Rattle.isdb_text.proofs.Elements.{walk_start, walk_parts, walk_ended, walk_end}
 use Rattle.isdb_text.specs.DumpDescriptors.{genres_text}
 use Rattle.isdb_text.proofs.dump_descriptors.genres.Goals as goal
 
@@ -8,21 +7,15 @@ pub returns-then-b-lt2 : goal.returns-then-b-lt2
 unfolding genres_text
 returns-then-b-lt2 c = rw (lt-ltb _ _ c.if-b-lt2.true) c.put_byte.ensures
 
-pub loop-left-init : goal.loop-left-init
+pub loop-init : goal.loop-init
 unfolding genres_text
-loop-left-init c = (refl, rw (le-ltb _ _ c.if-b-lt2.false) (left_all c.place-p.ensures))
+loop-init c = rw (le-ltb _ _ c.if-b-lt2.false) (walk_start _ _ _ _ c.place-p.ensures)
 
-pub returns-in-End : goal.returns-in-End
-returns-in-End c = texts_ended _ _ _ c.loop-left.invariant.1 (rw
-    (← c.next_genre.ensures, c.in-End.is) refl)
+pub returns-in_default : goal.returns-in_default
+returns-in_default c = search (rules, walk_ended)
 
-pub loop-left-preserved : goal.loop-left-preserved
-loop-left-preserved c = (
-  search rules,
-  texts_turn _ _ _ c.loop-left.invariant.1 c.loop-left-test.true (rw
-      (← c.next_genre.ensures, c.in-Genre.is) refl) (wrote_append c.comma-p.ensures
-      c.fill-p.ensures),
-)
+pub loop-preserved : goal.loop-preserved
+loop-preserved c = search (rules, walk_parts)
 
-pub returns : goal.returns
-returns c = texts_end _ _ _ c.loop-left.invariant.1 c.loop-left-test.false
+pub returns-after-loop : goal.returns-after-loop
+returns-after-loop c = search (rules, walk_end)

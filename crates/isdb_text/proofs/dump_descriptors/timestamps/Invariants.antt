@@ -1,11 +1,8 @@
-use Rattle.std.proofs.Common.{◌≡◌, length}
-use Rattle.isdb_text.proofs.Written.{Left}
-use Rattle.isdb_text.specs.DumpDescriptors.{timestamps_from, timestamps_text}
+use Rattle.std.proofs.Common.{length}
+use Rattle.isdb_mmt.specs.Formats.Timestamp.{timestamp_at}
+use Rattle.isdb_text.specs.DumpDescriptors.{timestamp_element, timestamps_text}
+use Rattle.isdb_text.proofs.Elements.{Walk}
 use Rattle.isdb_text.proofs.dump_descriptors.timestamps.Given as goal
 
-abbrev pub invariant-loop-left : goal.invariant-loop-left
-invariant-loop-left l =
-    (length l.out ≡ length l.initial.out) × Left l.initial.out l.at (timestamps_text l.b) l.out l.p (timestamps_from l.b l.left l.i)
-
-abbrev pub decreases-loop-left : goal.decreases-loop-left
-decreases-loop-left l = l.left
+abbrev pub invariant-loop : goal.invariant-loop
+invariant-loop l = Walk l.initial.out l.at (timestamps_text l.b) l.out l.p timestamp_element (timestamp_at l.b) (length l.b) l.counter l.i

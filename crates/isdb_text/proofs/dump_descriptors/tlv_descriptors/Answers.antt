@@ -1,24 +1,18 @@
 use Rattle.std.proofs.Common.{refl, rules}
-use Rattle.isdb_text.proofs.Written.{left_all}
-use Rattle.isdb_text.proofs.Elements.{texts_turn, texts_ended, texts_end}
+use Rattle.isdb_text.proofs.Elements.{walk_start, walk_turn, walk_ended, walk_end}
 use Rattle.isdb_text.specs.DumpDescriptors.{tlvs_text}
 use Rattle.isdb_text.proofs.dump_descriptors.tlv_descriptors.Goals as goal
 
-pub loop-left-init : goal.loop-left-init
+pub loop-init : goal.loop-init
 unfolding tlvs_text
-loop-left-init c = (refl, left_all c.place-p.ensures)
+loop-init c = search (rules, walk_start)
 
-pub returns-in-End : goal.returns-in-End
-returns-in-End c = texts_ended _ _ _ c.loop-left.invariant.1 (rw
-    (← c.next_tlv.ensures, c.in-End.is) refl)
+pub returns-in_default : goal.returns-in_default
+returns-in_default c = search (rules, walk_ended)
 
-pub loop-left-preserved : goal.loop-left-preserved
-loop-left-preserved c = (
-  search rules,
-  texts_turn _ _ _ c.loop-left.invariant.1 c.loop-left-test.true
-      (rw (← c.next_tlv.ensures, c.in-Descriptor.is, ← c.of.ensures) refl)
-      c.tlv_line-p.ensures,
-)
+pub loop-preserved : goal.loop-preserved
+loop-preserved c =
+    walk_turn c.loop.invariant _ _ c.next_tlv.ensures c.in-Descriptor.is c.loop-test.true (rw (← c.of.ensures) refl) c.tlv_line-p.ensures
 
-pub returns : goal.returns
-returns c = texts_end _ _ _ c.loop-left.invariant.1 c.loop-left-test.false
+pub returns-after-loop : goal.returns-after-loop
+returns-after-loop c = search (rules, walk_end)

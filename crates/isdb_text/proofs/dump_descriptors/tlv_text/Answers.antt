@@ -1,36 +1,17 @@
-use Rattle.std.proofs.Common.{eq-eqb, ne_eqb}
 use Rattle.isdb_text.proofs.Written.{wrote_append}
 use Rattle.isdb_text.specs.DumpDescriptors.{tlv_text}
 use Rattle.isdb_text.proofs.dump_descriptors.tlv_text.Goals as goal
 
-pub returns-then-tag-eq65 : goal.returns-then-tag-eq65
+pub returns-in-65 : goal.returns-in-65
 unfolding tlv_text
-returns-then-tag-eq65 c =
-    rw (eq-eqb _ _ c.if-tag-eq65.true) (wrote_append c.put-p.ensures c.services.ensures)
+returns-in-65 c = rw c.in-65.is (wrote_append c.put-p.ensures c.services.ensures)
 
-pub returns-then-tag-eq64 : goal.returns-then-tag-eq64
+pub returns-in-64 : goal.returns-in-64
 unfolding tlv_text
-returns-then-tag-eq64 c =
-    rw (ne_eqb _ _ c.if-tag-eq65.false, eq-eqb _ _ c.if-tag-eq64.true) (wrote_append
-    c.put-p-then-tag-eq64.ensures c.hex.ensures)
+returns-in-64 c = rw c.in-64.is (wrote_append c.put-p-in-64.ensures c.hex.ensures)
 
-pub returns-then-tag-eq67 : goal.returns-then-tag-eq67
+pub returns-in-67 : goal.returns-in-67
 unfolding tlv_text
-returns-then-tag-eq67 c =
-    rw (
-      ne_eqb _ _ c.if-tag-eq65.false,
-      ne_eqb _ _ c.if-tag-eq64.false,
-      eq-eqb _ _
-          c.if-tag-eq67.true,
-      ← c.satellite_frequency_khz.ensures,
-    ) (wrote_append
-    c.put-p-then-tag-eq67.ensures c.maybe_u64.ensures)
-
-pub returns : goal.returns
-unfolding tlv_text
-returns c = rw (
-  ne_eqb _ _ c.if-tag-eq65.false,
-  ne_eqb _ _
-      c.if-tag-eq64.false,
-  ne_eqb _ _ c.if-tag-eq67.false,
-) c.place.ensures
+returns-in-67 c =
+    let f = rw c.in-67.is at c.satellite_frequency_khz.ensures in
+    rw (c.in-67.is, ← f) (wrote_append c.put-p-in-67.ensures c.maybe_u64.ensures)

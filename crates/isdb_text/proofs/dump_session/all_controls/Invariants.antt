@@ -1,5 +1,5 @@
 use Rattle.std.proofs.Common.{◌≡◌, length}
-use Rattle.isdb_mmt.specs.Memory.Opening.{lent}
+use Rattle.isdb_mmt.specs.Memory.Lending.{lent_by}
 use Rattle.isdb_mmt.specs.Answers.Readings.{next_control_read}
 use Rattle.isdb_text.specs.DumpSession.{all_controls, control_text, ascending_text}
 use Rattle.isdb_text.proofs.Written.{Left}
@@ -8,9 +8,9 @@ use Rattle.isdb_text.proofs.dump_session.all_controls.Given as goal
 abbrev pub invariant-loop-left : goal.invariant-loop-left
 invariant-loop-left l =
     (length l.out ≡ length l.initial.out)
-    × Left l.initial.out l.at (all_controls (lent l.state l.others l.objects l.messages l.tables)) l.out l.p
-    (ascending_text l.left (next_control_read (lent l.state l.others l.objects l.messages l.tables))
-    (control_text (lent l.state l.others l.objects l.messages l.tables)) l.from)
+    × Left l.initial.out l.at (all_controls (lent_by l.session)) l.out l.p
+    (ascending_text l.left (next_control_read (lent_by l.session))
+    (control_text (lent_by l.session)) l.from)
 
 abbrev pub decreases-loop-left : goal.decreases-loop-left
 decreases-loop-left l = l.left

@@ -14,11 +14,11 @@ returns-then-id c = search (rules, media_most)
 pub loop-left-preserved : goal.loop-left-preserved
 loop-left-preserved c = (search rules, search (rules, ascending_turn))
 
-pub returns-in-Nothing : goal.returns-in-Nothing
-returns-in-Nothing c = search (rules, ascending_none)
+pub returns-in-Ok-None : goal.returns-in-Ok-None
+returns-in-Ok-None c = search (rules, ascending_none)
 
-pub returns-in-Refused : goal.returns-in-Refused
-returns-in-Refused c = search (rules, ascending_refused)
+pub returns-in-Err : goal.returns-in-Err
+returns-in-Err c = search (rules, ascending_refused)
 
 pub returns : goal.returns
 returns c = search (rules, ascending_end)

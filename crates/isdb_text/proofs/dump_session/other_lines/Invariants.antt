@@ -1,5 +1,5 @@
 use Rattle.std.proofs.Common.{◌≡◌, ◌-◌, ◌≤◌, length}
-use Rattle.isdb_mmt.specs.Memory.Opening.{lent}
+use Rattle.isdb_mmt.specs.Memory.Lending.{lent_by}
 use Rattle.isdb_mmt.specs.Memory.Layout.{table_ids}
 use Rattle.isdb_text.specs.DumpSession.{other_lines, other_last}
 use Rattle.isdb_text.proofs.Written.{Left}
@@ -8,8 +8,8 @@ use Rattle.isdb_text.proofs.dump_session.other_lines.Given as goal
 abbrev pub invariant-loop-id : goal.invariant-loop-id
 invariant-loop-id l =
     (l.id ≤ table_ids) × (length l.out ≡ length l.initial.out)
-    × Left l.initial.out l.at (other_lines (lent l.state l.others l.objects l.messages l.tables)) l.out l.p
-    (other_last (table_ids - l.id) (lent l.state l.others l.objects l.messages l.tables))
+    × Left l.initial.out l.at (other_lines (lent_by l.session)) l.out l.p
+    (other_last (table_ids - l.id) (lent_by l.session))
 
 abbrev pub decreases-loop-id : goal.decreases-loop-id
 decreases-loop-id l = table_ids - l.id

@@ -1,21 +1,15 @@
-use Rattle.std.proofs.Common.{refl, rules}
-use Rattle.isdb_text.proofs.Written.{left_all}
-use Rattle.isdb_text.proofs.Elements.{texts_turn, texts_ended, texts_end}
+use Rattle.std.proofs.Common.{rules}
+use Rattle.isdb_text.proofs.Elements.{walk_start, walk_turn, walk_ended, walk_end}
 use Rattle.isdb_text.proofs.dump_tables.assets.Goals as goal
 
-pub loop-left-init : goal.loop-left-init
-loop-left-init c = (refl, left_all c.place-p.ensures)
+pub loop-init : goal.loop-init
+loop-init c = search (rules, walk_start)
 
-pub returns-in-Malformed : goal.returns-in-Malformed
-returns-in-Malformed c = texts_ended _ _ _ c.loop-left.invariant.1 (rw
-    (← c.asset_at.ensures, c.in-Malformed.is) refl)
+pub returns-in_default : goal.returns-in_default
+returns-in_default c = search (rules, walk_ended)
 
-pub loop-left-preserved : goal.loop-left-preserved
-loop-left-preserved c = (
-  search rules,
-  texts_turn _ _ _ c.loop-left.invariant.1 c.loop-left-test.true
-      (rw (← c.asset_at.ensures, c.in-Asset.is) refl) c.asset-p.ensures,
-)
+pub loop-preserved : goal.loop-preserved
+loop-preserved c = search (rules, walk_turn)
 
-pub returns : goal.returns
-returns c = texts_end _ _ _ c.loop-left.invariant.1 c.loop-left-test.false
+pub returns-after-loop : goal.returns-after-loop
+returns-after-loop c = search (rules, walk_end)

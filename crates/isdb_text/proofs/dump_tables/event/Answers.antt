@@ -5,5 +5,5 @@ use Rattle.isdb_text.proofs.dump_tables.event.Goals as goal
 pub returns : goal.returns
 unfolding event_text
 returns c =
-    rw (← c.flag.ensures, ← c.of.ensures) (wrote_append c.fill-p.ensures
+    rw (← c.from.ensures, ← c.of.ensures) (wrote_append c.fill-p.ensures
     c.descriptors.ensures)

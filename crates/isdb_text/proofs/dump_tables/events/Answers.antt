@@ -1,25 +1,15 @@
-use Rattle.std.proofs.Common.{refl, rules}
-use Rattle.isdb_text.proofs.Written.{left_all}
-use Rattle.isdb_text.proofs.Elements.{texts_turn, texts_ended, texts_end}
+use Rattle.std.proofs.Common.{rules}
+use Rattle.isdb_text.proofs.Elements.{walk_start, walk_turn, walk_either, walk_end}
 use Rattle.isdb_text.proofs.dump_tables.events.Goals as goal
 
-pub loop-left-init : goal.loop-left-init
-loop-left-init c = (refl, left_all c.place-p.ensures)
+pub loop-init : goal.loop-init
+loop-init c = search (rules, walk_start)
 
 pub returns-in-End : goal.returns-in-End
-returns-in-End c = texts_ended _ _ _ c.loop-left.invariant.1 (rw
-    (← c.next_event.ensures, c.in-End.is) refl)
+returns-in-End c = search (rules, walk_either)
 
-pub returns-in-Malformed : goal.returns-in-Malformed
-returns-in-Malformed c = texts_ended _ _ _ c.loop-left.invariant.1 (rw
-    (← c.next_event.ensures, c.in-Malformed.is) refl)
+pub loop-preserved : goal.loop-preserved
+loop-preserved c = search (rules, walk_turn)
 
-pub loop-left-preserved : goal.loop-left-preserved
-loop-left-preserved c = (
-  search rules,
-  texts_turn _ _ _ c.loop-left.invariant.1 c.loop-left-test.true
-      (rw (← c.next_event.ensures, c.in-Event.is) refl) c.event-p.ensures,
-)
-
-pub returns : goal.returns
-returns c = texts_end _ _ _ c.loop-left.invariant.1 c.loop-left-test.false
+pub returns-after-loop : goal.returns-after-loop
+returns-after-loop c = search (rules, walk_end)

@@ -6,8 +6,8 @@ pub returns : goal.returns
 unfolding service_text
 returns c =
     rw (
-      ← c.flag.ensures,
-      ← c.flag-2.ensures,
-      ← c.flag-3.ensures,
+      ← c.from.ensures,
+      ← c.from-2.ensures,
+      ← c.from-3.ensures,
       ← c.of.ensures,
     ) (wrote_append c.fill-p.ensures c.descriptors.ensures)

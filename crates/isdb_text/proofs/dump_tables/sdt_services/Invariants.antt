@@ -1,11 +1,7 @@
-use Rattle.std.proofs.Common.{◌≡◌, length}
-use Rattle.isdb_text.proofs.Written.{Left}
-use Rattle.isdb_text.specs.DumpTables.{services_text}
+use Rattle.isdb_mmt.specs.Formats.Sdt.{service_step}
+use Rattle.isdb_text.specs.DumpTables.{service_element, services_text}
+use Rattle.isdb_text.proofs.Elements.{Walk}
 use Rattle.isdb_text.proofs.dump_tables.sdt_services.Given as goal
 
-abbrev pub invariant-loop-left : goal.invariant-loop-left
-invariant-loop-left l =
-    (length l.out ≡ length l.initial.out) × Left l.initial.out l.at (services_text l.s l.n 3) l.out l.p (services_text l.s l.left l.i)
-
-abbrev pub decreases-loop-left : goal.decreases-loop-left
-decreases-loop-left l = l.left
+abbrev pub invariant-loop : goal.invariant-loop
+invariant-loop l = Walk l.initial.out l.at (services_text l.s l.n 3) l.out l.p (λ at. service_element l.s) (service_step l.s) l.n l.counter l.i

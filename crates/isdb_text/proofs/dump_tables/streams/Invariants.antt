@@ -1,11 +1,7 @@
-use Rattle.std.proofs.Common.{◌≡◌, length}
-use Rattle.isdb_text.proofs.Written.{Left}
-use Rattle.isdb_text.specs.DumpTables.{streams_text}
+use Rattle.isdb_mmt.specs.Formats.Nit.{stream_step}
+use Rattle.isdb_text.specs.DumpTables.{stream_element, streams_text}
+use Rattle.isdb_text.proofs.Elements.{Walk}
 use Rattle.isdb_text.proofs.dump_tables.streams.Given as goal
 
-abbrev pub invariant-loop-left : goal.invariant-loop-left
-invariant-loop-left l =
-    (length l.out ≡ length l.initial.out) × Left l.initial.out l.at (streams_text l.s l.n 0) l.out l.p (streams_text l.s l.left l.i)
-
-abbrev pub decreases-loop-left : goal.decreases-loop-left
-decreases-loop-left l = l.left
+abbrev pub invariant-loop : goal.invariant-loop
+invariant-loop l = Walk l.initial.out l.at (streams_text l.s l.n 0) l.out l.p (λ at. stream_element l.s) (stream_step l.s) l.n l.counter l.i

@@ -14,16 +14,16 @@ returns-then-id c = search (rules, lines_most)
 pub loop-left-preserved : goal.loop-left-preserved
 loop-left-preserved c = (
   search rules,
-  lines_turn _ _ _ c.loop-left.invariant.1 _ c.next_media.ensures _ c.in-Name.is
+  lines_turn _ _ _ c.loop-left.invariant.1 _ c.next_media.ensures _ c.in-Ok-Some.is _ c.in-Ok-Some.field-0-is
       c.loop-left-test.true _
       c.media.ensures c.media_text-p.ensures,
 )
 
-pub returns-in-Nothing : goal.returns-in-Nothing
-returns-in-Nothing c = search (rules, lines_none)
+pub returns-in-Ok-None : goal.returns-in-Ok-None
+returns-in-Ok-None c = search (rules, lines_none)
 
-pub returns-in-Refused : goal.returns-in-Refused
-returns-in-Refused c = search (rules, lines_refused)
+pub returns-in-Err : goal.returns-in-Err
+returns-in-Err c = search (rules, lines_refused)
 
 pub returns : goal.returns
 returns c = search (rules, lines_end)

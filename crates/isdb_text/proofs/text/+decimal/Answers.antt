@@ -5,5 +5,5 @@ use Rattle.isdb_text.proofs.text.+decimal.Goals as goal
 pub returns-then-n-lt10 : goal.returns-then-n-lt10
 returns-then-n-lt10 t c = search (rules, wrote_one)
 
-pub returns : goal.returns
-returns t c = search (rules, wrote_more)
+pub returns-else-n-lt10 : goal.returns-else-n-lt10
+returns-else-n-lt10 t c = search (rules, wrote_more)

@@ -1,18 +1,13 @@
-use Rattle.std.proofs.Common.{refl, rules}
+use Rattle.std.proofs.Common.{rules}
 use Rattle.isdb_text.proofs.Written.{left_all}
 use Rattle.isdb_text.proofs.Spelling.{pairs_turn, pairs_end}
 use Rattle.isdb_text.proofs.text.pairs.Goals as goal
 
-pub loop-i-init : goal.loop-i-init
-loop-i-init c = (search rules, refl, search left_all)
+pub loop-x-init : goal.loop-x-init
+loop-x-init c = search left_all
 
-pub loop-i-preserved : goal.loop-i-preserved
-loop-i-preserved c = (
-  search rules,
-  search rules,
-  pairs_turn _ _ c.loop-i.invariant.2
-      c.loop-i-test.true c.wide.ensures c.hex_digits-p.ensures,
-)
+pub loop-x-preserved : goal.loop-x-preserved
+loop-x-preserved c = search (rules, pairs_turn)
 
 pub returns : goal.returns
 returns c = search (rules, pairs_end)

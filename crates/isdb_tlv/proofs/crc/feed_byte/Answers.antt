@@ -1,9 +1,10 @@
-use borrow.Author.Rules.{rules}
-use Rattle.isdb_tlv.proofs.CrcWords.{one_byte, index_lt}
+use mathlib.Core.Path.{◌≡◌}
+use native.Mathlib.Omega.{arith}
+use Prim.Native.Nat.{◌/◌, ◌%◌, ◌^◌}
+use Rattle.isdb_tlv.proofs.CrcWords.{one_byte}
 use Rattle.isdb_tlv.proofs.crc.feed_byte.Goals as goal
 
-pub byte-requires : goal.byte-requires
-byte-requires c = index_lt c.args.z c.args.b (search rules) (search rules)
-
 pub returns : goal.returns
-returns c = rw c.byte.ensures (one_byte c.args.z c.args.b (search rules) (search rules))
+returns c =
+    let high : c.args.z / 2 ^ 24 % 256 ≡ c.args.z / 2 ^ 24 = omega arith in
+    rw (c.after.ensures, c.to_be_bytes.ensures, high) (one_byte c.args.z c.args.b c.ranges.z.fits c.ranges.b.fits)

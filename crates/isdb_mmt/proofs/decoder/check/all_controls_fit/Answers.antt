@@ -1,16 +1,11 @@
-use Rattle.std.proofs.Common.{rules}
-use Rattle.isdb_mmt.proofs.Checks.{place_fails, place_fits, places_end}
-use native.Mathlib.Nat.{sub-zero}
+use Rattle.std.proofs.Common.{rules, tests}
+use Rattle.isdb_mmt.specs.Memory.Check.{control_sound}
+use Rattle.isdb_mmt.specs.Memory.Session.{control_place_of}
+use Rattle.isdb_mmt.specs.Memory.Layout.{control_places, control_size}
+use Rattle.isdb_mmt.proofs.EachPlace.{all_places}
 use Rattle.isdb_mmt.proofs.decoder.check.all_controls_fit.Goals as goal
 
-pub loop-i-init : goal.loop-i-init
-loop-i-init c = (search rules, simp sub-zero)
-
-pub returns-then-not-control_fits : goal.returns-then-not-control_fits
-returns-then-not-control_fits c = search (rules, place_fails)
-
-pub loop-i-preserved : goal.loop-i-preserved
-loop-i-preserved c = (search rules, search (rules, place_fits))
-
 pub returns : goal.returns
-returns c = search (rules, places_end)
+returns c =
+    all_places c.args.n control_size control_places c.args.s.now (search rules) (search rules) c.places-places.ensures _ _
+    (control_sound c.args.l) control_place_of _ c.all.ensures.ran (λ x b q k. search (rules, tests))

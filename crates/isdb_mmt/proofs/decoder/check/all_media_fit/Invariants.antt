@@ -6,7 +6,4 @@ use Rattle.isdb_mmt.specs.Memory.Layout.{media_places, media_size}
 use Rattle.isdb_mmt.proofs.decoder.check.all_media_fit.Given as goal
 
 abbrev pub invariant-loop-i : goal.invariant-loop-i
-invariant-loop-i l = (l.at ≡ media_places + media_size * l.i) × (every (media_sound l.l) (map media_place_of (places_from l.n media_size media_places l.s)) ≡ every (media_sound l.l) (map media_place_of (places_from (l.n - l.i) media_size l.at l.s)))
-
-abbrev pub decreases-loop-i : goal.decreases-loop-i
-decreases-loop-i l = l.n - l.i
+invariant-loop-i l = every (media_sound l.l) (map media_place_of (places_from l.n media_size media_places l.s)) ≡ every (media_sound l.l) (map media_place_of (places_from (l.n - l.i) media_size (media_places + media_size * l.i) l.s))

@@ -1,16 +1,12 @@
-use Rattle.std.proofs.Common.{rules}
-use Rattle.isdb_mmt.proofs.Checks.{stored_fails, stored_fits, stored_end}
-use native.Mathlib.Nat.{sub-zero}
+use Rattle.std.proofs.Common.{ap, ◌∙◌, rules, tests}
+use Rattle.isdb_tlv.specs.Bytes.{be}
+use Rattle.isdb_mmt.specs.Memory.Lent.{every}
+use Rattle.isdb_mmt.specs.Memory.Check.{at_most}
+use Rattle.isdb_mmt.proofs.EachPlace.{all_places, counts_of}
 use Rattle.isdb_mmt.proofs.decoder.check.each_count_fits.Goals as goal
 
-pub loop-i-init : goal.loop-i-init
-loop-i-init c = (search rules, simp sub-zero)
-
-pub returns-then-not-at_most : goal.returns-then-not-at_most
-returns-then-not-at_most c = search (rules, stored_fails)
-
-pub loop-i-preserved : goal.loop-i-preserved
-loop-i-preserved c = (search rules, search (rules, stored_fits))
-
 pub returns : goal.returns
-returns c = search (rules, stored_end)
+returns c =
+    all_places c.args.n 8 c.args.at c.args.p.now (search rules) c.requires c.places.ensures _ _
+    (at_most c.args.most) (λ p. be 8 p 0) _ c.all.ensures.ran (λ x b q k. search (rules, tests))
+    ∙ ap (every (at_most c.args.most)) (counts_of c.args.n c.args.at c.args.p.now)

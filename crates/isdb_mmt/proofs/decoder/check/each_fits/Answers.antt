@@ -1,12 +1,7 @@
-use Rattle.std.proofs.Common.{rules}
-use Rattle.isdb_mmt.proofs.Checks.{count_fails, count_fits, counts_end}
+use Rattle.std.proofs.Common.{rules, tests}
+use Rattle.isdb_mmt.specs.Memory.Check.{at_most}
+use Rattle.isdb_mmt.proofs.EachPlace.{all_elements}
 use Rattle.isdb_mmt.proofs.decoder.check.each_fits.Goals as goal
 
-pub returns-then-not-at_most : goal.returns-then-not-at_most
-returns-then-not-at_most c = search (rules, count_fails)
-
-pub loop-i-preserved : goal.loop-i-preserved
-loop-i-preserved c = search (rules, count_fits)
-
 pub returns : goal.returns
-returns c = search (rules, counts_end)
+returns c = all_elements (at_most c.args.most) _ _ _ c.args.others.now (search rules) c.all.ensures.ran (λ x b q k. search (rules, tests))

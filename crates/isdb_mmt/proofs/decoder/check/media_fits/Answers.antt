@@ -5,5 +5,5 @@ use Rattle.isdb_mmt.proofs.decoder.check.media_fits.Goals as goal
 pub returns-then-length_fits : goal.returns-then-length_fits
 returns-then-length_fits c = search (rules, media_fits)
 
-pub returns : goal.returns
-returns c = search (rules, media_fails)
+pub returns-else-length_fits : goal.returns-else-length_fits
+returns-else-length_fits c = search (rules, media_fails)

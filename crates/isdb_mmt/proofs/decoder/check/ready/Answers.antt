@@ -1,5 +1,5 @@
 use Rattle.std.proofs.Common.{sym, length-take-le, rules}
-use Rattle.isdb_mmt.proofs.Checks.{too_short, front_length, head_fails, head_there, limits_front, used_front, places_fail, names_decide}
+use Rattle.isdb_mmt.proofs.Checks.{too_short, front_length, head_fails, head_there, places_fail, names_decide, limits_front, used_front}
 use Rattle.isdb_mmt.specs.Memory.Layout.{media_places}
 use Rattle.isdb_mmt.proofs.decoder.check.ready.Goals as goal
 
@@ -24,11 +24,11 @@ returns-then-not-head_fits c = search (rules, head_fails)
 pub places_fit-requires : goal.places_fit-requires
 places_fit-requires c = (search (rules, head_there), (search (rules, limits_front), search (rules, used_front)))
 
-pub returns-then-not-places_fit : goal.returns-then-not-places_fit
-returns-then-not-places_fit c = search (rules, places_fail)
-
 pub names_fit-requires : goal.names_fit-requires
 names_fit-requires c = (search (rules, head_there), search (rules, used_front))
 
-pub returns : goal.returns
-returns c = search (rules, names_decide)
+pub returns-then-places_fit : goal.returns-then-places_fit
+returns-then-places_fit c = search (rules, names_decide)
+
+pub returns-else-places_fit : goal.returns-else-places_fit
+returns-else-places_fit c = search (rules, places_fail)

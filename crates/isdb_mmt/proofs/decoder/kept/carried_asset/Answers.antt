@@ -1,15 +1,18 @@
-use Rattle.std.proofs.Common.{rules}
+use Rattle.std.proofs.Common.{◌≡◌, ◌+◌, ◌-◌, ◌<◌, ◌≤◌, arith, rules}
 use Rattle.isdb_mmt.proofs.AssetReadings.{carried_bad, carried_hit, carried_on, carried_end}
 use Rattle.isdb_mmt.proofs.decoder.kept.carried_asset.Goals as goal
 
-pub returns-in-Malformed : goal.returns-in-Malformed
-returns-in-Malformed c = search (rules, carried_bad)
+pub returns-in_err-a : goal.returns-in_err-a
+returns-in_err-a c = rw c.from_residual.ensures (carried_bad _ _ _ _ _ c.loop-i.invariant (omega arith) _ c.asset_at.ensures c.in_err-a.was)
 
 pub returns-then-is_this : goal.returns-then-is_this
-returns-then-is_this c = search (rules, carried_hit)
+returns-then-is_this c = let h : 0 < c.args.n - c.loop-i.i = omega arith in search (rules, h, carried_hit, c.in_ok-a.was)
 
-pub loop-left-preserved : goal.loop-left-preserved
-loop-left-preserved c = search (rules, carried_on)
+pub loop-i-preserved : goal.loop-i-preserved
+loop-i-preserved c =
+    let e : c.args.n - (c.loop-i.i + 1) ≡ c.args.n - c.loop-i.i - 1 = omega arith in
+    let h : 0 < c.args.n - c.loop-i.i = omega arith in
+    rw e (search (rules, h, carried_on, c.in_ok-a.was))
 
 pub returns : goal.returns
-returns c = search (rules, carried_end)
+returns c = let h : c.args.n - c.loop-i.i ≤ 0 = omega arith in search (rules, h, carried_end)

@@ -9,10 +9,10 @@ pub take_turn-requires : goal.take_turn-requires
 take_turn-requires c = search (rules, turn_can)
 
 pub loop-y-smaller : goal.loop-y-smaller
-loop-y-smaller c = turn_less _ _ _ _ _ c.loop-y.invariant _ _ _ _ _ c.take_turn.ensures _ c.in-Taken.is
+loop-y-smaller c = turn_less _ _ _ _ _ c.loop-y.invariant _ _ _ _ _ c.take_turn.ensures _ c.in-Ok.is
 
 pub loop-y-preserved : goal.loop-y-preserved
 loop-y-preserved c = search (rules, running_next)
 
-pub returns-in-Halted : goal.returns-in-Halted
-returns-in-Halted c = search (rules, ran_all)
+pub returns-in-Err : goal.returns-in-Err
+returns-in-Err c = search (rules, ran_all)

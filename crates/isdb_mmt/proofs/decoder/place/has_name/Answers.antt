@@ -1,21 +1,8 @@
-use Rattle.std.proofs.Common.{rules}
-use Rattle.isdb_mmt.proofs.Names.{next_in, name_in, among_start, among_hit, among_miss, among_end}
+use Rattle.std.proofs.Common.{rules, tests}
+use Rattle.isdb_mmt.proofs.EachPlace.{any_name}
 use Rattle.isdb_mmt.proofs.decoder.place.has_name.Goals as goal
 
-pub loop-i-init : goal.loop-i-init
-loop-i-init c = (search rules, (search rules, among_start _ _ _ _ _))
-
-pub word-requires : goal.word-requires
-word-requires c = search (rules, name_in)
-
-pub returns-then-word-x : goal.returns-then-word-x
-returns-then-word-x c = search (rules, among_hit)
-
-pub overflow_add-p : goal.overflow_add-p
-overflow_add-p c = let k = next_in _ _ _ _ _ _ c.requires.1 c.loop-i-test.true c.loop-i.invariant.1.0 in search rules
-
-pub loop-i-preserved : goal.loop-i-preserved
-loop-i-preserved c = (search rules, ((next_in _ _ _ _ _ _ c.requires.1 c.loop-i-test.true c.loop-i.invariant.1.0).1, search (rules, among_miss)))
-
 pub returns : goal.returns
-returns c = search (rules, among_end)
+returns c =
+    let x = c.args in
+    any_name x.n x.size x.at x.s.now c.requires.0 c.requires.1 c.places.ensures _ _ x.x (λ p b q k. search (rules, tests)) _ c.any.ensures.ran

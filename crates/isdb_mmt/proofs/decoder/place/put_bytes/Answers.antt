@@ -1,20 +1,20 @@
-use Rattle.std.proofs.Common.{sym, refl, rules}
-use Rattle.isdb_mmt.proofs.Lent.{over_none, block_fits, block_next, copied}
+use Rattle.std.proofs.Common.{◌∙◌, sym, rules}
+use Rattle.std.proofs.lemmas.List.{nil_from_length}
+use Rattle.isdb_mmt.proofs.Lent.{over_none, copy_fits, copy_next}
 use Rattle.isdb_mmt.proofs.decoder.place.put_bytes.Goals as goal
 
-pub loop-k-init : goal.loop-k-init
-loop-k-init c = (search rules, (refl, sym (over_none _ _)))
-
-pub put_block-requires : goal.put_block-requires
-put_block-requires c =
-    let i = c.loop-k.invariant in
-    block_fits _ _ _ _ _ c.args.s.now c.loop-k.s _
-    c.requires i.0 c.in_block-n.ensures c.part.ensures i.1.0
-
-pub loop-k-preserved : goal.loop-k-preserved
-loop-k-preserved c =
-    let i = c.loop-k.invariant in
-    block_next _ _ _ _ _ _ _ _ (search rules) i.0 c.in_block-n.ensures c.part.ensures i.1.0 i.1.1 _ c.put_block.ensures
+pub loop-p-preserved : goal.loop-p-preserved
+loop-p-preserved c =
+    let i = c.loop-p.invariant in
+    let s = c.in-Some.ensures.steps in (
+      search rules,
+      tt,
+      s.0 ∙ i.2,
+      copy_fits _ _ _ _ _ _ i.3 s.1.0 c.put_block.ensures,
+      copy_next _ _ _ _ _ _ i.3 s.1.0 c.put_block.ensures ∙ i.4,
+    )
 
 pub returns : goal.returns
-returns c = search (rules, copied)
+returns c =
+    let i = c.loop-p.invariant in
+    let none = nil_from_length _ c.in-None.ensures.steps.1.0 in sym (over_none _ _) ∙ rw none at i.4

@@ -1,9 +1,12 @@
-use Rattle.std.proofs.Common.{◌≡◌, ◌-◌, ◌≤◌, length, take}
+use Rattle.std.proofs.Common.{◌≡◌, ◌+◌, ◌≤◌, length}
+use Rattle.std.specs.Slice.Iter.{chunks_rest, chunks_size}
 use Rattle.isdb_mmt.specs.Memory.Lent.{over}
 use Rattle.isdb_mmt.proofs.decoder.place.put_bytes.Given as goal
 
-abbrev pub invariant-loop-k : goal.invariant-loop-k
-invariant-loop-k l = (l.k ≤ length l.b) × ((length l.s ≡ length l.initial.s) × (l.s ≡ over l.at (take l.k l.b) l.initial.s))
-
-abbrev pub decreases-loop-k : goal.decreases-loop-k
-decreases-loop-k l = length l.b - l.k
+abbrev pub invariant-loop-p : goal.invariant-loop-p
+invariant-loop-p l =
+    goal.iterator-loop-p.can_next l.p-iterator
+    × goal.iterator-loop-p.is_finite l.p-iterator
+    × (chunks_size l.p-iterator ≡ 4096)
+    × (l.to + length (chunks_rest l.p-iterator) ≤ length l.s)
+    × (over l.to (chunks_rest l.p-iterator) l.s ≡ over l.at l.b l.initial.s)

@@ -13,11 +13,11 @@ grown_length-requires c = search (rules, can_grow)
 pub commit_part-requires : goal.commit_part-requires
 commit_part-requires c = search (rules, can_lay_part)
 
-pub returns-in-Nothing : goal.returns-in-Nothing
-returns-in-Nothing c = search (rules, unit_left)
-
 pub returns-in-None : goal.returns-in-None
 returns-in-None c = search (rules, unit_left)
 
-pub returns-in-Some : goal.returns-in-Some
-returns-in-Some c = search (rules, part_told)
+pub returns-in-None-grown_length : goal.returns-in-None-grown_length
+returns-in-None-grown_length c = search (rules, unit_left)
+
+pub returns-in-Some-grown_length : goal.returns-in-Some-grown_length
+returns-in-Some-grown_length c = search (rules, part_told)

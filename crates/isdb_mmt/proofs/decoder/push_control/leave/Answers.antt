@@ -12,4 +12,4 @@ pub store_state-requires : goal.store_state-requires
 store_state-requires c = record { long = c.requires.long; index_long = c.requires.index_long; few = c.requires.areas.few }
 
 pub returns : goal.returns
-returns c = leave_done _ _ _ _ _ _ _ _ c.requires _ c.load_limits-l.ensures _ c.part.ensures _ c.load_used-u.ensures _ c.store_sections.ensures _ c.copy_counts.ensures _ _ c.counters_with.ensures _ c.store_state.ensures
+returns c = leave_done _ _ _ _ _ _ _ _ c.requires _ c.load_limits-l.ensures _ c.part.ensures _ c.load_used-u.ensures _ c.store_sections.ensures _ c.copy_from_slice.ensures.after _ _ c.counters_with.ensures _ c.store_state.ensures

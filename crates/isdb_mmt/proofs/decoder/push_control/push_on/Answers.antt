@@ -10,14 +10,14 @@ packet_counted-c-requires c = let x = c.args in control_countable x.state.now x.
 pub load_index-requires : goal.load_index-requires
 load_index-requires c = (c.requires.1.index_long, c.requires.0.session.there.long)
 
-pub copy_counts-requires : goal.copy_counts-requires
-copy_counts-requires c = c.requires.1.others_long ∙ sym c.requires.0.others_long
+pub copy_from_slice-requires : goal.copy_from_slice-requires
+copy_from_slice-requires c = c.requires.1.others_long ∙ sym c.requires.0.others_long
 
 pub walk_start-first-requires : goal.walk_start-first-requires
 walk_start-first-requires c = let x = c.args in can_go (lent x.state.now x.others.now x.objects.now x.messages.now x.tables.now) c.requires.0.session
 
 pub sections-g-requires : goal.sections-g-requires
-sections-g-requires c = let x = c.args in push_can x.state.now x.others.now x.objects.now x.messages.now x.tables.now x.b.now c.requires.0 _ c.counters_of.ensures _ c.packet_counted-c.ensures x.log.now c.requires.1.log_long _ _ _ c.load_index.ensures c.clear_counts.ensures c.copy_counts.ensures _ c.no_recent.ensures _ c.walk_start-first.ensures
+sections-g-requires c = let x = c.args in push_can x.state.now x.others.now x.objects.now x.messages.now x.tables.now x.b.now c.requires.0 _ c.counters_of.ensures _ c.packet_counted-c.ensures x.log.now c.requires.1.log_long _ _ _ c.load_index.ensures (c.fill.ensures.after (λ y e. e)) c.copy_from_slice.ensures.after _ c.walk_start-first.ensures
 
 pub shape_of-ix-then-n-ne0 : goal.shape_of-ix-then-n-ne0
 shape_of-ix-then-n-ne0 c = omega (arith, c.ix-2-1.given, c.ix-1.given)
@@ -29,10 +29,10 @@ pub shape_of-mine-then-n-ne0 : goal.shape_of-mine-then-n-ne0
 shape_of-mine-then-n-ne0 c = omega (arith, c.mine-2-1.given, c.mine-1.given)
 
 pub returns-then-n-ne0 : goal.returns-then-n-ne0
-returns-then-n-ne0 c = let x = c.args in push_refused x.state.now x.others.now x.objects.now x.messages.now x.tables.now x.b.now c.requires.0 _ c.counters_of.ensures _ c.packet_counted-c.ensures x.log.now c.requires.1.log_long _ _ _ c.load_index.ensures c.clear_counts.ensures c.copy_counts.ensures _ c.no_recent.ensures _ c.walk_start-first.ensures _ _ _ _ c.sections-g.ensures _ c.load_limits.ensures _ c.tables_ask-n.ensures c.if-n-ne0.true
+returns-then-n-ne0 c = let x = c.args in push_refused x.state.now x.others.now x.objects.now x.messages.now x.tables.now x.b.now c.requires.0 _ c.counters_of.ensures _ c.packet_counted-c.ensures x.log.now c.requires.1.log_long _ _ _ c.load_index.ensures (c.fill.ensures.after (λ y e. e)) c.copy_from_slice.ensures.after _ c.walk_start-first.ensures _ _ _ _ c.sections-g.ensures _ c.load_limits.ensures _ c.tables_ask-n.ensures c.if-n-ne0.true
 
 pub leave-requires : goal.leave-requires
-leave-requires c = let x = c.args in push_leave x.state.now x.others.now x.objects.now x.messages.now x.tables.now x.b.now c.requires.0 _ c.counters_of.ensures _ c.packet_counted-c.ensures x.log.now c.requires.1.log_long _ _ _ c.load_index.ensures c.clear_counts.ensures c.copy_counts.ensures _ c.no_recent.ensures _ c.walk_start-first.ensures _ _ _ _ c.sections-g.ensures _ c.load_limits.ensures _ c.tables_ask-n.ensures c.if-n-ne0.false (omega (arith, c.ix-2-1.given, c.ix-1.given, c.requires.1.index_long)) (omega (arith, c.log-2-1.given, c.log-1.given, c.requires.1.log_long)) (omega (arith, c.mine-2-1.given, c.mine-1.given, c.requires.1.others_long))
+leave-requires c = let x = c.args in push_leave x.state.now x.others.now x.objects.now x.messages.now x.tables.now x.b.now c.requires.0 _ c.counters_of.ensures _ c.packet_counted-c.ensures x.log.now c.requires.1.log_long _ _ _ c.load_index.ensures (c.fill.ensures.after (λ y e. e)) c.copy_from_slice.ensures.after _ c.walk_start-first.ensures _ _ _ _ c.sections-g.ensures _ c.load_limits.ensures _ c.tables_ask-n.ensures c.if-n-ne0.false (omega (arith, c.ix-2-1.given, c.ix-1.given, c.requires.1.index_long)) (omega (arith, c.log-2-1.given, c.log-1.given, c.requires.1.log_long)) (omega (arith, c.mine-2-1.given, c.mine-1.given, c.requires.1.others_long))
 
 pub shape_of-ix : goal.shape_of-ix
 shape_of-ix c = omega (arith, c.ix-2-1.given, c.ix-1.given)
@@ -44,4 +44,4 @@ pub shape_of-mine : goal.shape_of-mine
 shape_of-mine c = omega (arith, c.mine-2-1.given, c.mine-1.given)
 
 pub returns : goal.returns
-returns c = let x = c.args in push_taken x.state.now x.others.now x.objects.now x.messages.now x.tables.now x.b.now c.requires.0 _ c.counters_of.ensures _ c.packet_counted-c.ensures x.log.now c.requires.1.log_long _ _ _ c.load_index.ensures c.clear_counts.ensures c.copy_counts.ensures _ c.no_recent.ensures _ c.walk_start-first.ensures _ _ _ _ c.sections-g.ensures _ c.load_limits.ensures _ c.tables_ask-n.ensures c.if-n-ne0.false (omega (arith, c.ix-2-1.given, c.ix-1.given, c.requires.1.index_long)) (omega (arith, c.log-2-1.given, c.log-1.given, c.requires.1.log_long)) (omega (arith, c.mine-2-1.given, c.mine-1.given, c.requires.1.others_long)) c.slice_known-10-1.given _ _ _ c.leave.ensures
+returns c = let x = c.args in push_taken x.state.now x.others.now x.objects.now x.messages.now x.tables.now x.b.now c.requires.0 _ c.counters_of.ensures _ c.packet_counted-c.ensures x.log.now c.requires.1.log_long _ _ _ c.load_index.ensures (c.fill.ensures.after (λ y e. e)) c.copy_from_slice.ensures.after _ c.walk_start-first.ensures _ _ _ _ c.sections-g.ensures _ c.load_limits.ensures _ c.tables_ask-n.ensures c.if-n-ne0.false (omega (arith, c.ix-2-1.given, c.ix-1.given, c.requires.1.index_long)) (omega (arith, c.log-2-1.given, c.log-1.given, c.requires.1.log_long)) (omega (arith, c.mine-2-1.given, c.mine-1.given, c.requires.1.others_long)) c.slice_known-10-1.given _ _ _ c.leave.ensures

@@ -8,4 +8,4 @@ place_for-requires c = search (rules, media_within)
 
 pub returns : goal.returns
 unfolding media_place_for
-returns c = rw (c.place_for.ensures, c.media_used-u.ensures, c.requires.limits) refl
+returns c = rw (c.place_for.ensures, c.load_used-u.ensures, c.requires.limits) refl

@@ -12,7 +12,7 @@ pub before_by-a-requires : goal.before_by-a-requires
 before_by-a-requires c = walk_before _ _ _ _ _ _ _ _ _ _ _ _ c.requires _ c.load_limits-l.ensures
 
 pub joined_tables-requires : goal.joined_tables-requires
-joined_tables-requires c = walk_can _ _ _ _ _ _ _ _ _ _ _ _ c.requires _ c.load_limits-l.ensures _ _ _ c.load_index.ensures c.clear_counts.ensures c.copy_counts.ensures _ c.recent_in-mpt.ensures _ c.walk_start-g.ensures _ c.before_by-a.ensures _ c.rest.ensures
+joined_tables-requires c = walk_can _ _ _ _ _ _ _ _ _ _ _ _ c.requires _ c.load_limits-l.ensures _ _ _ c.load_index.ensures (c.fill.ensures.after (λ y e. e)) c.copy_from_slice.ensures.after _ c.recent_in-mpt.ensures _ c.walk_start-g.ensures _ c.before_by-a.ensures _ c.rest.ensures
 
 pub shape_of-ix : goal.shape_of-ix
 shape_of-ix c = omega (arith, c.ix-2-1.given, c.ix-1.given)
@@ -24,4 +24,4 @@ pub shape_of-mine : goal.shape_of-mine
 shape_of-mine c = omega (arith, c.mine-2-1.given, c.mine-1.given)
 
 pub returns : goal.returns
-returns c = walk_done _ _ _ _ _ _ _ _ _ _ _ _ c.requires _ c.load_limits-l.ensures _ _ _ c.load_index.ensures c.clear_counts.ensures c.copy_counts.ensures _ c.recent_in-mpt.ensures _ c.walk_start-g.ensures _ c.before_by-a.ensures _ c.rest.ensures _ c.long_by-long.ensures _ c.aggregated_by-aggregated.ensures _ _ _ _ c.joined_tables.ensures
+returns c = walk_done _ _ _ _ _ _ _ _ _ _ _ _ c.requires _ c.load_limits-l.ensures _ _ _ c.load_index.ensures (c.fill.ensures.after (λ y e. e)) c.copy_from_slice.ensures.after _ c.recent_in-mpt.ensures _ c.walk_start-g.ensures _ c.before_by-a.ensures _ c.rest.ensures _ c.long_by-long.ensures _ c.aggregated_by-aggregated.ensures _ _ _ _ c.joined_tables.ensures

@@ -22,8 +22,8 @@ before_by-a-requires c = let x = c.args in whole_before (lent x.state.now x.othe
 pub store_areas-requires : goal.store_areas-requires
 store_areas-requires c = let x = c.args in at_areas (lent x.state.now x.others.now x.objects.now x.joined.now x.tables.now) (message_packet x.id x.n x.b.now) x.y x.i x.k x.ix.now x.log.now x.mine.now c.requires _ c.counters_of.ensures _ c.fragment_counted-cs.ensures _ c.is_last-last.ensures _ _ _ _ c.walk_whole-g.ensures _ c.load_limits-l.ensures _ c.area_by.ensures _ c.whole_ask-x.ensures c.if-x-ne0.false (omega (arith, c.ix-1.given, c.requires.copies.index_long)) (omega (arith, c.log-1.given, c.requires.copies.log_long)) (omega (arith, c.mine-1.given, c.requires.copies.others_long)) _ c.before_by-a.ensures _ c.rest.ensures
 
-pub copy_counts-requires : goal.copy_counts-requires
-copy_counts-requires c = let x = c.args in at_counts (lent x.state.now x.others.now x.objects.now x.joined.now x.tables.now) (message_packet x.id x.n x.b.now) x.y x.i x.k x.ix.now x.log.now x.mine.now c.requires _ c.counters_of.ensures _ c.fragment_counted-cs.ensures _ c.is_last-last.ensures _ _ _ _ c.walk_whole-g.ensures _ c.load_limits-l.ensures _ c.area_by.ensures _ c.whole_ask-x.ensures c.if-x-ne0.false (omega (arith, c.ix-1.given, c.requires.copies.index_long)) (omega (arith, c.log-1.given, c.requires.copies.log_long)) (omega (arith, c.mine-1.given, c.requires.copies.others_long))
+pub copy_from_slice-requires : goal.copy_from_slice-requires
+copy_from_slice-requires c = let x = c.args in at_counts (lent x.state.now x.others.now x.objects.now x.joined.now x.tables.now) (message_packet x.id x.n x.b.now) x.y x.i x.k x.ix.now x.log.now x.mine.now c.requires _ c.counters_of.ensures _ c.fragment_counted-cs.ensures _ c.is_last-last.ensures _ _ _ _ c.walk_whole-g.ensures _ c.load_limits-l.ensures _ c.area_by.ensures _ c.whole_ask-x.ensures c.if-x-ne0.false (omega (arith, c.ix-1.given, c.requires.copies.index_long)) (omega (arith, c.log-1.given, c.requires.copies.log_long)) (omega (arith, c.mine-1.given, c.requires.copies.others_long))
 
 pub leave_state-requires : goal.leave_state-requires
 leave_state-requires c = let x = c.args in at_state (lent x.state.now x.others.now x.objects.now x.joined.now x.tables.now) (message_packet x.id x.n x.b.now) x.y x.i x.k x.ix.now x.log.now x.mine.now c.requires _ c.counters_of.ensures _ c.fragment_counted-cs.ensures _ c.is_last-last.ensures _ _ _ _ c.walk_whole-g.ensures _ c.load_limits-l.ensures _ c.area_by.ensures _ c.whole_ask-x.ensures c.if-x-ne0.false (omega (arith, c.ix-1.given, c.requires.copies.index_long)) (omega (arith, c.log-1.given, c.requires.copies.log_long)) (omega (arith, c.mine-1.given, c.requires.copies.others_long))
@@ -38,4 +38,4 @@ pub shape_of-mine : goal.shape_of-mine
 shape_of-mine c = omega (arith, c.mine-1.given)
 
 pub returns : goal.returns
-returns c = let x = c.args in at_taken (lent x.state.now x.others.now x.objects.now x.joined.now x.tables.now) (message_packet x.id x.n x.b.now) x.y x.i x.k x.ix.now x.log.now x.mine.now c.requires _ c.counters_of.ensures _ c.fragment_counted-cs.ensures _ c.is_last-last.ensures _ _ _ _ c.walk_whole-g.ensures _ c.load_limits-l.ensures _ c.area_by.ensures _ c.whole_ask-x.ensures c.if-x-ne0.false (omega (arith, c.ix-1.given, c.requires.copies.index_long)) (omega (arith, c.log-1.given, c.requires.copies.log_long)) (omega (arith, c.mine-1.given, c.requires.copies.others_long)) _ c.before_by-a.ensures _ c.rest.ensures c.slice_known-7-1.given _ c.store_areas.ensures _ c.copy_counts.ensures _ c.none_joined.ensures _ c.recent_length-length.ensures _ c.control_with-d.ensures _ c.leave_state.ensures
+returns c = let x = c.args in at_taken (lent x.state.now x.others.now x.objects.now x.joined.now x.tables.now) (message_packet x.id x.n x.b.now) x.y x.i x.k x.ix.now x.log.now x.mine.now c.requires _ c.counters_of.ensures _ c.fragment_counted-cs.ensures _ c.is_last-last.ensures _ _ _ _ c.walk_whole-g.ensures _ c.load_limits-l.ensures _ c.area_by.ensures _ c.whole_ask-x.ensures c.if-x-ne0.false (omega (arith, c.ix-1.given, c.requires.copies.index_long)) (omega (arith, c.log-1.given, c.requires.copies.log_long)) (omega (arith, c.mine-1.given, c.requires.copies.others_long)) _ c.before_by-a.ensures _ c.rest.ensures c.slice_known-7-1.given _ c.store_areas.ensures _ c.copy_from_slice.ensures.after _ c.recent_length-length.ensures _ (rw (← c.is_some.ensures) c.control_with-d.ensures) _ c.leave_state.ensures

@@ -8,4 +8,4 @@ add_stats-stats-requires c = search (rules, adds_small)
 
 pub returns : goal.returns
 unfolding place_after_of stats_after
-returns c = rw (c.first_mpu.ensures, c.last_mpu.ensures, c.seen_mpu.ensures, c.add_stats-stats.ensures, c.adds_of.ensures)
+returns c = rw (c.first_mpu.ensures, c.last_mpu.ensures, c.seen_mpu.ensures, c.add_stats-stats.ensures, c.adds_of.ensures, c.is_some.ensures, c.object_or.ensures)

@@ -4,4 +4,4 @@ use Rattle.isdb_mmt.proofs.decoder.reassembler.unit_object.Goals as goal
 
 pub returns : goal.returns
 unfolding unit_object
-returns c = rw (c.or_zero.ensures, c.is_some-2.ensures, c.is_some.ensures, c.or_zero-header.ensures) refl
+returns c = rw (c.unwrap_or.ensures, c.is_some-2.ensures, c.is_some.ensures, c.unwrap_or-header.ensures) refl

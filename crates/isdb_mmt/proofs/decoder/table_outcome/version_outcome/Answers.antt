@@ -11,5 +11,5 @@ returns-then-k-h c = search (rules, version_same)
 pub returns-else-k-h : goal.returns-else-k-h
 returns-else-k-h c = search (rules, version_other)
 
-pub returns-in-Nothing : goal.returns-in-Nothing
-returns-in-Nothing c = search (rules, version_new)
+pub returns-in-None : goal.returns-in-None
+returns-in-None c = search (rules, version_new)

@@ -27,4 +27,4 @@ pub returns-in-Tot : goal.returns-in-Tot
 returns-in-Tot c = search (rules, apply_tot)
 
 pub returns-else-i-ge-SECTIONS : goal.returns-else-i-ge-SECTIONS
-returns-else-i-ge-SECTIONS c = apply_put _ _ _ _ _ _ c.requires c.if-g.false _ c.counted-c.ensures _ _ c.in-Put.is c.if-i-ge-SECTIONS.false (search rules) (search rules) (search (c.in-Put.known_told-in-Put-1-own.given, c.put_section_at-arg-1.given, rules)) _ _ c.put_section_at.ensures refl _ c.next_used.ensures _ c.kept-in-Put.ensures
+returns-else-i-ge-SECTIONS c = apply_put _ _ _ _ _ _ c.requires c.if-g.false _ c.counted-c.ensures _ _ c.in-Put.is c.if-i-ge-SECTIONS.false (search rules) (search rules) (search (c.put_section_at-arg-1.given, rules)) _ _ c.put_section_at.ensures refl _ c.next_used.ensures _ c.kept-in-Put.ensures

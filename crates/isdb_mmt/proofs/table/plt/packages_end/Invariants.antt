@@ -1,9 +1,6 @@
-use Rattle.std.proofs.Common.{◌≡◌}
+use Rattle.std.proofs.Common.{◌≡◌, ◌-◌}
 use Rattle.isdb_mmt.specs.Formats.Plt.{packages_end}
 use Rattle.isdb_mmt.proofs.table.plt.packages_end.Given as goal
 
-abbrev pub invariant-loop-left : goal.invariant-loop-left
-invariant-loop-left l = packages_end l.left l.t l.at ≡ packages_end l.n l.t l.from
-
-abbrev pub decreases-loop-left : goal.decreases-loop-left
-decreases-loop-left l = l.left
+abbrev pub invariant-loop-i : goal.invariant-loop-i
+invariant-loop-i l = packages_end (l.n - l.i) l.t l.at ≡ packages_end l.n l.t l.from

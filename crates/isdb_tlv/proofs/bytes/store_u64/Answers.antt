@@ -1,6 +1,0 @@
-use Rattle.isdb_tlv.proofs.Numbers.{put_two}
-use borrow.Author.Rules.{rules}
-use Rattle.isdb_tlv.proofs.bytes.store_u64.Goals as goal
-
-pub returns : goal.returns
-returns c = search (rules, put_two 4)
