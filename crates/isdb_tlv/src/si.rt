@@ -48,7 +48,7 @@ fn is_tlv_si(id: u8) -> bool
 }
 
 // The section that starts at i, if one does.
-#[tactic(auto, unfolding(crate::specs::Si::section_at))]
+#[tactic(auto, unfolding(crate::specs::Si::section_at, crate::specs::Bytes::be))]
 fn section_at(data: &[u8], i: usize) -> Option<Section>
     requires { i + 3 ≤ length «data».now }
     ensures { result ≡ section_at «data».now i }
@@ -60,7 +60,7 @@ fn section_at(data: &[u8], i: usize) -> Option<Section>
     if data[i + 1] < 128 {
         return None;
     }
-    let size = bytes::get_u12(data, i + 1) as usize + 3;
+    let size = (usize::from(data[i + 1]) * 256 + usize::from(data[i + 2])) % 4096 + 3;
     if size < 12 {
         return None;
     }
