@@ -1,9 +1,10 @@
 // Locations and descriptors as text.
 use crate::print::{Hex, OrNone};
 use crate::walk::Walk;
-use isdb_mmt::desc::{Descriptor, GenreStep, ServiceStep, Step};
+use isdb_mmt::desc::{Descriptor, Step};
 use isdb_mmt::location::Location;
-use isdb_mmt::timestamp::{Extended, MpuStep, TimestampStep};
+use isdb_mmt::timestamp::Extended;
+use isdb_mmt::walk_step::WalkStep;
 use isdb_mmt::{desc, timestamp};
 use isdb_tlv::bytes;
 use std::io;
@@ -133,16 +134,14 @@ fn timestamps(rt: &impl Print, b: &[u8]) -> io::Result<()> {
     if b.len() < 12 {
         print!(rt; "-")?;
     }
-    let step = |at| match timestamp::next_timestamp(b, at) {
-        TimestampStep::End => None,
-        TimestampStep::Timestamp {
-            mpu_sequence_number,
-            presentation_time,
-            next,
-        } => Some(((mpu_sequence_number, presentation_time), next)),
-    };
-    for (i, (number, time)) in Walk::new(0, b.len(), step).enumerate() {
-        print!(rt; "{}{number}:{time:016x}", comma(i))?;
+    let step = |at| timestamp::next_timestamp(b, at);
+    for (i, x) in Walk::new(0, b.len(), step).enumerate() {
+        print!(rt;
+            "{}{}:{:016x}",
+            comma(i),
+            x.mpu_sequence_number,
+            x.presentation_time
+        )?;
     }
     Ok(())
 }
@@ -153,16 +152,9 @@ pub fn service_list(rt: &impl Print, b: &[u8]) -> io::Result<()> {
     if b.len() < 3 {
         print!(rt; "-")?;
     }
-    let step = |at| match desc::next_service(b, at) {
-        ServiceStep::End => None,
-        ServiceStep::Service {
-            service_id,
-            service_type,
-            next,
-        } => Some(((service_id, service_type), next)),
-    };
-    for (i, (id, kind)) in Walk::new(0, b.len(), step).enumerate() {
-        print!(rt; "{}{id}:{kind}", comma(i))?;
+    let step = |at| desc::next_service(b, at);
+    for (i, x) in Walk::new(0, b.len(), step).enumerate() {
+        print!(rt; "{}{}:{}", comma(i), x.service_id, x.service_type)?;
     }
     Ok(())
 }
@@ -172,17 +164,9 @@ fn genres(rt: &impl Print, b: &[u8]) -> io::Result<()> {
     if b.len() < 2 {
         print!(rt; "-")?;
     }
-    let step = |at| match desc::next_genre(b, at) {
-        GenreStep::End => None,
-        GenreStep::Genre {
-            level_1,
-            level_2,
-            user,
-            next,
-        } => Some(((level_1, level_2, user), next)),
-    };
-    for (i, (level_1, level_2, user)) in Walk::new(0, b.len(), step).enumerate() {
-        print!(rt; "{}{level_1}:{level_2}:{user}", comma(i))?;
+    let step = |at| desc::next_genre(b, at);
+    for (i, x) in Walk::new(0, b.len(), step).enumerate() {
+        print!(rt; "{}{}:{}:{}", comma(i), x.level_1, x.level_2, x.user)?;
     }
     Ok(())
 }
@@ -197,19 +181,18 @@ fn extended(rt: &impl Print, e: Extended, b: &[u8]) -> io::Result<()> {
         print!(rt; "-")?;
     }
     let step = |at| match timestamp::next_mpu(b, e.own_pts_offset, at) {
-        MpuStep::Mpu {
-            mpu_sequence_number: number,
-            leap_indicator: leap,
-            decoding_time_offset: offset,
-            access_units: _,
-            units,
-            next,
-        } => Some(((number, leap, offset, units), next)),
+        WalkStep::Entry(m, next) => Some((m, next)),
         _ => None,
     };
-    for (i, (number, leap, offset, units)) in Walk::new(e.start, b.len(), step).enumerate() {
-        print!(rt; "{}[{number} {leap} {offset} ", comma(i))?;
-        access_units(rt, e, units.of(b))?;
+    for (i, m) in Walk::new(e.start, b.len(), step).enumerate() {
+        print!(rt;
+            "{}[{} {} {} ",
+            comma(i),
+            m.mpu_sequence_number,
+            m.leap_indicator,
+            m.decoding_time_offset
+        )?;
+        access_units(rt, e, m.units.of(b))?;
         print!(rt; "]")?;
     }
     Ok(())

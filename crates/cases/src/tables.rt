@@ -6,14 +6,15 @@ use crate::walk::Walk;
 use isdb_mmt::desc::Descriptor;
 use isdb_mmt::location::Location;
 use isdb_mmt::table::amt::Amt;
-use isdb_mmt::table::bit::{Bit, BroadcasterStep};
-use isdb_mmt::table::eit::{Eit, Event, EventStep};
+use isdb_mmt::table::bit::Bit;
+use isdb_mmt::table::eit::{Eit, Event};
 use isdb_mmt::table::mpt::{Asset, Mpt};
-use isdb_mmt::table::nit::{Nit, StreamStep, TlvStep};
+use isdb_mmt::table::nit::Nit;
 use isdb_mmt::table::plt::Plt;
-use isdb_mmt::table::sdt::{Sdt, SdtService, SdtStep};
+use isdb_mmt::table::sdt::{Sdt, SdtService};
 use isdb_mmt::table::section::{SectionError, SectionHeader};
 use isdb_mmt::table::{amt, bit, eit, mpt, nit, plt, sdt, tot};
+use isdb_mmt::walk_step::WalkStep;
 use isdb_mmt::{desc, ntp};
 use isdb_tlv::bytes;
 use std::io;
@@ -170,7 +171,7 @@ fn eit_table(rt: &impl Print, t: Eit, s: &[u8]) -> io::Result<()> {
     )?;
     print!(rt; " last_table_id {}", t.last_table_id)?;
     let step = |at| match eit::next_event(s, at) {
-        EventStep::Event(e, next) => Some((e, next)),
+        WalkStep::Entry(e, next) => Some((e, next)),
         _ => None,
     };
     for e in Walk::new(6, t.events, step) {
@@ -231,7 +232,7 @@ pub fn sdt_section(rt: &impl Print, b: &[u8]) -> io::Result<()> {
 fn sdt_table(rt: &impl Print, t: Sdt, s: &[u8]) -> io::Result<()> {
     print!(rt; " original_network_id {}", t.original_network_id)?;
     let step = |at| match sdt::next_service(s, at) {
-        SdtStep::Service(e, next) => Some((e, next)),
+        WalkStep::Entry(e, next) => Some((e, next)),
         _ => None,
     };
     for e in Walk::new(3, t.services, step) {
@@ -278,7 +279,7 @@ fn bit_table(rt: &impl Print, t: Bit, s: &[u8]) -> io::Result<()> {
     )?;
     each(rt, "  ", d.of(s))?;
     let step = |at| match bit::next_broadcaster(s, at) {
-        BroadcasterStep::Broadcaster(e, next) => Some((e, next)),
+        WalkStep::Entry(e, next) => Some((e, next)),
         _ => None,
     };
     for e in Walk::new(d.start.wrapping_add(d.length), t.broadcasters, step) {
@@ -296,7 +297,7 @@ fn nit_table(rt: &impl Print, t: Nit, s: &[u8]) -> io::Result<()> {
     tlv_each(rt, "  ", t.descriptors.of(s))?;
     let streams = t.loop_part.of(s);
     let step = |at| match nit::next_stream(streams, at) {
-        StreamStep::Stream(e, next) => Some((e, next)),
+        WalkStep::Entry(e, next) => Some((e, next)),
         _ => None,
     };
     for e in Walk::new(0, t.streams, step) {
@@ -308,14 +309,11 @@ fn nit_table(rt: &impl Print, t: Nit, s: &[u8]) -> io::Result<()> {
 }
 
 fn tlv_each(rt: &impl Print, pad: &str, b: &[u8]) -> io::Result<()> {
-    let step = |at| match nit::next_tlv(b, at) {
-        TlvStep::End => None,
-        TlvStep::Descriptor { tag, body, next } => Some(((tag, body), next)),
-    };
-    for (tag, body) in Walk::new(0, b.len(), step) {
-        let d = body.of(b);
-        print!(rt; "\n{pad}descriptor 0x{tag:02x} {}", Hex(d))?;
-        tlv_descriptor(rt, tag, d)?;
+    let step = |at| nit::next_tlv(b, at);
+    for d in Walk::new(0, b.len(), step) {
+        let body = d.body.of(b);
+        print!(rt; "\n{pad}descriptor 0x{:02x} {}", d.tag, Hex(body))?;
+        tlv_descriptor(rt, d.tag, body)?;
     }
     Ok(())
 }

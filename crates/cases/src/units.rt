@@ -1,8 +1,9 @@
 // Units of an MPU payload, tables of a control payload, and what is lost between two packet numbers.
 use crate::print::Hex;
 use crate::walk::Walk;
-use isdb_mmt::message::{Content, Division, Fragment, MessageStep, TableStep};
-use isdb_mmt::mpu::{FragmentType, PayloadHeader, Unit, UnitStep};
+use isdb_mmt::message::{Content, Division, Fragment};
+use isdb_mmt::mpu::{FragmentType, PayloadHeader, Unit};
+use isdb_mmt::walk_step::WalkStep;
 use isdb_mmt::{message, mpu};
 use isdb_tlv::bytes;
 use std::io;
@@ -48,7 +49,7 @@ fn units(rt: &impl Print, q: &[u8], timed: bool, aggregated: bool) -> io::Result
     };
     print!(rt; " units {n}")?;
     let step = |at| match mpu::next_unit(q, timed, aggregated, at) {
-        UnitStep::Unit(u, next) => Some((u, next)),
+        WalkStep::Entry(u, next) => Some((u, next)),
         _ => None,
     };
     for u in Walk::new(8, n, step) {
@@ -99,12 +100,12 @@ fn messages(rt: &impl Print, b: &[u8], long: bool, aggregated: bool) -> io::Resu
     let mut at = 0;
     for _ in 0..b.len() {
         match message::next_message(b, long, at) {
-            MessageStep::Message(p, next) => {
+            WalkStep::Entry(p, next) => {
                 bad = bad.wrapping_add(content(rt, p.of(b))?);
                 at = next;
             }
-            MessageStep::End => return Ok(bad),
-            MessageStep::Malformed => return Ok(bad.wrapping_add(1)),
+            WalkStep::End => return Ok(bad),
+            WalkStep::Malformed => return Ok(bad.wrapping_add(1)),
         }
     }
     Ok(bad)
@@ -126,12 +127,12 @@ fn tables(rt: &impl Print, b: &[u8], from: usize) -> io::Result<u64> {
     let mut at = from;
     for _ in 0..b.len() {
         match message::next_table(b, at) {
-            TableStep::Table(p, next) => {
+            WalkStep::Entry(p, next) => {
                 table(rt, p.of(b))?;
                 at = next;
             }
-            TableStep::End => return Ok(0),
-            TableStep::Malformed => return Ok(1),
+            WalkStep::End => return Ok(0),
+            WalkStep::Malformed => return Ok(1),
         }
     }
     Ok(0)

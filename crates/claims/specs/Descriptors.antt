@@ -10,13 +10,10 @@ use Rattle.isdb_mmt.specs.Formats.Ntp.{ntp_to_unix_of}
 use Rattle.isdb_mmt.specs.Formats.Timestamp.{timestamp_at, mpu_at, mpus_from, mpus_whole, extended_of, unit_step}
 use Rattle.isdb_mmt.specs.Formats.Desc.{length_width_of, step_at, split_from, split_of, counted, stream_identifier, descriptor_of, is_other_of, first_of, service_at, genre_at}
 use Rattle.isdb_mmt.specs.declared.location.Location.TheVariants.{Mpeg2Ts, Url}
-use Rattle.isdb_mmt.specs.declared.timestamp.TimestampStep.TheVariants.{Timestamp}
 use Rattle.isdb_mmt.specs.declared.timestamp.Extended.{Extended}
-use Rattle.isdb_mmt.specs.declared.timestamp.MpuStep.TheVariants.{Mpu}
+use Rattle.isdb_mmt.specs.declared.walk_step.WalkStep.TheVariants.{Entry as an_mpu}
 use Rattle.isdb_mmt.specs.declared.desc.Step.TheVariants.{Raw}
 use Rattle.isdb_mmt.specs.declared.desc.Descriptor.TheVariants.{StreamIdentifier, ServiceList, Other}
-use Rattle.isdb_mmt.specs.declared.desc.ServiceStep.TheVariants.{Service as service}
-use Rattle.isdb_mmt.specs.declared.desc.GenreStep.TheVariants.{End as no_genre}
 
 -- Location::parse: a URL's place counts from the location's first byte
 -- wrong: part_at 2 3 => part_at 0 3 (from the URL's own)
@@ -77,30 +74,30 @@ unfolding bytes_of be length_width_of step_at split_from stream_identifier descr
 first_of_lem = refl
 
 -- desc::next_service: entries of three bytes
--- wrong: 0x66 2 6 => 0x66 2 5 (the place of the type)
--- wrong: service 0x66 2 6 => no_service (three bytes left taken for a rest)
-pub next_service : service_at (bytes_of 6 0x006501006602) 3 ≡ service 0x66 2 6
+-- wrong: }, 6) => }, 5) (the place of the type)
+-- wrong: Some (record { service_id = 0x66; service_type = 2 }, 6) => None (three bytes left taken for a rest)
+pub next_service : service_at (bytes_of 6 0x006501006602) 3 ≡ Some (record { service_id = 0x66; service_type = 2 }, 6)
 unfolding bytes_of be service_at
 next_service = refl
 
 -- desc::next_genre: entries of two bytes; a byte left over is none
--- wrong: no_genre => genre 7 1 0 3 (the missing byte read as 0)
--- wrong: no_genre => genre 0 7 0 4 (one byte further)
-pub next_genre : genre_at (bytes_of 3 0x12F071) 2 ≡ no_genre
+-- wrong: None => Some (record { level_1 = 7; level_2 = 1; user = 0 }, 3) (the missing byte read as 0)
+-- wrong: None => Some (record { level_1 = 0; level_2 = 7; user = 0 }, 4) (one byte further)
+pub next_genre : genre_at (bytes_of 3 0x12F071) 2 ≡ None
 unfolding bytes_of genre_at
 next_genre = refl
 
 -- timestamp::next_timestamp
 -- wrong: 0x83AA7E8000000000 => 0x83AA7E80 (the seconds alone)
--- wrong: 7 0x83AA7E8000000000 12 => 7 0x83AA7E8000000000 16 (an entry of 16 bytes)
-pub next_timestamp : timestamp_at (bytes_of 12 0x0000000783AA7E8000000000) 0 ≡ Timestamp 7 0x83AA7E8000000000 12
+-- wrong: }, 12) => }, 16) (an entry of 16 bytes)
+pub next_timestamp : timestamp_at (bytes_of 12 0x0000000783AA7E8000000000) 0 ≡ Some (record { mpu_sequence_number = 7; presentation_time = 0x83AA7E8000000000 }, 12)
 unfolding bytes_of be timestamp_at
 next_timestamp = refl
 
 -- timestamp::next_mpu: one access unit with a PTS offset of its own
 -- wrong: part_at 8 4 => part_at 8 2 (without it)
--- wrong: 7 1 100 => 7 64 100 (the leap indicator in the low bits)
-pub next_mpu : mpu_at (bytes_of 12 0x000000074000640100010002) true 0 ≡ Mpu 7 1 100 1 (part_at 8 4) 12
+-- wrong: leap_indicator = 1; => leap_indicator = 64; (the leap indicator in the low bits)
+pub next_mpu : mpu_at (bytes_of 12 0x000000074000640100010002) true 0 ≡ an_mpu (record { mpu_sequence_number = 7; leap_indicator = 1; decoding_time_offset = 100; access_units = 1; units = part_at 8 4 }) 12
 unfolding bytes_of be mpu_at
 next_mpu = refl
 

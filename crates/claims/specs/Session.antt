@@ -1,9 +1,9 @@
 -- The limits of a session, and opening one.
-use Rattle.std.specs.Prelude.{ℕ, ◌≡◌, refl, false, List}
+use Rattle.std.specs.Prelude.{ℕ, ◌≡◌, refl, false, List, Ok, Err}
 use Rattle.isdb_mmt.specs.Memory.Limits.{in_range, places_in_range, areas_in_range, packets_in_range, lengths_for, long_enough, needed_of, asked}
 use Rattle.isdb_mmt.specs.declared.decoder.limits.Limits.{Limits}
 use Rattle.isdb_mmt.specs.declared.decoder.limits.Lengths.{Lengths}
-use Rattle.isdb_mmt.specs.declared.decoder.limits.Need.TheVariants.{Bytes, Refused as refused}
+use Rattle.isdb_mmt.specs.declared.decoder.refusal.Refusal.TheVariants.{PlacesOutOfRange}
 
 -- media ids, control ids, sections, the three areas, packets
 abbrev limits : ℕ → ℕ → ℕ → ℕ → ℕ → ℕ → ℕ → Limits
@@ -23,21 +23,21 @@ pub record Refused (number r : ℕ) (s s' o o' : List ℕ) : Type 0 where
 -- limits::needed: a table area for each section, for the MPT of each control id, for the PLT and for the TOT
 -- wrong: 13144 8 15 98 => 13144 8 15 84 (none for the PLT and the TOT)
 -- wrong: 13144 8 15 98 => 13144 8 15 77 (none for the MPTs)
-pub needed : needed_of (limits 2 3 9 4 5 7 1) ≡ Bytes (lengths 13144 8 15 98)
+pub needed : needed_of (limits 2 3 9 4 5 7 1) ≡ Ok (lengths 13144 8 15 98)
 unfolding in_range places_in_range areas_in_range packets_in_range lengths_for needed_of
 needed = refl
 
 -- limits::needed: 64 media ids at most
--- wrong: refused 1 => Bytes (lengths 13144 65 1 4) (65 taken)
--- wrong: refused 1 => refused 2 (the areas first)
-pub needed_most : needed_of (limits 65 1 1 1 1 1 1) ≡ refused 1
+-- wrong: Err PlacesOutOfRange => Ok (lengths 13144 65 1 4) (65 taken)
+-- wrong: Err PlacesOutOfRange => Err AreasOutOfRange (the areas first)
+pub needed_most : needed_of (limits 65 1 1 1 1 1 1) ≡ Err PlacesOutOfRange
 unfolding in_range places_in_range areas_in_range packets_in_range lengths_for needed_of
 needed_most = refl
 
 -- limits::needed: a limit of 1 is in range
--- wrong: Bytes (lengths 13144 1 1 4) => refused 1 (2 at least)
+-- wrong: Ok (lengths 13144 1 1 4) => Err PlacesOutOfRange (2 at least)
 -- wrong: 13144 1 1 4 => 13144 1 1 3 (no area for the TOT)
-pub needed_least : needed_of (limits 1 1 1 1 1 1 1) ≡ Bytes (lengths 13144 1 1 4)
+pub needed_least : needed_of (limits 1 1 1 1 1 1 1) ≡ Ok (lengths 13144 1 1 4)
 unfolding in_range places_in_range areas_in_range packets_in_range lengths_for needed_of
 needed_least = refl
 

@@ -20,12 +20,11 @@ use Rattle.isdb_mmt.specs.declared.location.Location.TheVariants.{SameFlow}
 use Rattle.isdb_mmt.specs.declared.desc.Descriptor.TheVariants.{Service, ShortEvent}
 use Rattle.isdb_mmt.specs.declared.table.section.SectionHeader.{SectionHeader}
 use Rattle.isdb_mmt.specs.declared.table.section.SectionError.TheVariants.{Truncated, Malformed}
-use Rattle.isdb_mmt.specs.declared.table.section.EntryStep.TheVariants.{Entry as entry}
-use Rattle.isdb_mmt.specs.declared.table.eit.EventStep.TheVariants.{Event as event}
-use Rattle.isdb_mmt.specs.declared.table.sdt.SdtStep.TheVariants.{Service as service}
-use Rattle.isdb_mmt.specs.declared.table.bit.BroadcasterStep.TheVariants.{Broadcaster as broadcaster}
-use Rattle.isdb_mmt.specs.declared.table.nit.StreamStep.TheVariants.{Stream as stream}
-use Rattle.isdb_mmt.specs.declared.table.nit.TlvStep.TheVariants.{End as no_descriptor}
+use Rattle.isdb_mmt.specs.declared.walk_step.WalkStep.TheVariants.{Entry as entry}
+use Rattle.isdb_mmt.specs.declared.walk_step.WalkStep.TheVariants.{Entry as event}
+use Rattle.isdb_mmt.specs.declared.walk_step.WalkStep.TheVariants.{Entry as service}
+use Rattle.isdb_mmt.specs.declared.walk_step.WalkStep.TheVariants.{Entry as broadcaster}
+use Rattle.isdb_mmt.specs.declared.walk_step.WalkStep.TheVariants.{Entry as stream}
 
 -- table id, extension, version, section 0 of 0, a body of so many bytes
 abbrev header : ℕ → ℕ → ℕ → ℕ → SectionHeader
@@ -184,9 +183,9 @@ unfolding bytes_of be entry_at stream_step
 next_stream = refl
 
 -- nit::next_tlv: a descriptor that does not fit ends the loop
--- wrong: no_descriptor => descriptor 0x40 (part_at 2 1) 3 (as much as is there)
--- wrong: no_descriptor => descriptor 0x40 (part_at 2 2) 4 (beyond the end)
-pub next_tlv : tlv_step_at (bytes_of 3 0x400242) 0 ≡ no_descriptor
+-- wrong: None => Some (record { tag = 0x40; body = part_at 2 1 }, 3) (as much as is there)
+-- wrong: None => Some (record { tag = 0x40; body = part_at 2 2 }, 4) (beyond the end)
+pub next_tlv : tlv_step_at (bytes_of 3 0x400242) 0 ≡ None
 unfolding bytes_of tlv_step_at
 next_tlv = refl
 

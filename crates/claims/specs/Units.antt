@@ -11,11 +11,11 @@ use Rattle.isdb_mmt.specs.declared.mpu.FragmentType.TheVariants.{Mfu, Reserved}
 use Rattle.isdb_mmt.specs.declared.mpu.FragmentationIndicator.TheVariants.{Complete, Head, Middle, Last}
 use Rattle.isdb_mmt.specs.declared.mpu.PayloadHeader.{PayloadHeader}
 use Rattle.isdb_mmt.specs.declared.mpu.MfuHeader.{MfuHeader}
-use Rattle.isdb_mmt.specs.declared.mpu.UnitStep.TheVariants.{Unit as unit}
+use Rattle.isdb_mmt.specs.declared.walk_step.WalkStep.TheVariants.{Entry as unit}
 use Rattle.isdb_mmt.specs.declared.message.Division.TheVariants.{Last as last}
-use Rattle.isdb_mmt.specs.declared.message.MessageStep.TheVariants.{End as no_more, Message}
+use Rattle.isdb_mmt.specs.declared.walk_step.WalkStep.TheVariants.{End as no_more, Entry as Message}
 use Rattle.isdb_mmt.specs.declared.message.Content.TheVariants.{Tables}
-use Rattle.isdb_mmt.specs.declared.message.TableStep.TheVariants.{Malformed as bad_table}
+use Rattle.isdb_mmt.specs.declared.walk_step.WalkStep.TheVariants.{Malformed as bad_table}
 
 -- FragmentType::from: the low four bits
 -- wrong: Mfu => Reserved 0x12 (all eight)

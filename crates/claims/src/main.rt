@@ -3,10 +3,12 @@
 #![tactic(auto)]
 
 ghost use Rattle.std.specs.Prelude.{◌≡◌, take, drop};
+ghost use Rattle.isdb_mmt.specs.Memory.Refusals.{answer_number};
 ghost use Rattle.claims.specs.Session.{Refused};
 
 use isdb_mmt::decoder;
 use isdb_mmt::decoder::limits::Limits;
+use isdb_mmt::decoder::refusal::Refusal;
 use isdb_mmt::part::Part;
 use isdb_tlv::bytes;
 use isdb_tlv::ip::Datagram;
@@ -102,8 +104,8 @@ fn no_media_id(
     objects: &[u8],
     messages: &[u8],
     tables: &[u8],
-) -> u8
-    ensures { Refused 1 result state.old state.new others.old others.new }
+) -> Result<(), Refusal>
+    ensures { Refused 1 (answer_number result) state.old state.new others.old others.new }
 {
     let l = Limits {
         media_ids: 0,

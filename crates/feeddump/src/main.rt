@@ -9,7 +9,7 @@ ghost use Rattle.feeddump.specs.Pass.{is_bad, most_bytes, StopsAt};
 
 use isdb_mmt::decoder::limits::Limits;
 use isdb_mmt::decoder::many::{Progress, Pushes};
-use isdb_mmt::decoder::session::Session;
+use isdb_mmt::decoder::session::{Session, SessionMut};
 use isdb_mmt::{decoder, part};
 use isdb_text::{dump_packets, dump_session, window};
 use isdb_tlv::cut::Cut;
@@ -88,6 +88,7 @@ fn packet_lines(
 }
 
 // The lines of all packets of a call that are to be written. The first has the number first.
+#[tactic(auto, using(isdb_text::proofs::PacketWalk::walk_begins, isdb_text::proofs::PacketWalk::walk_on, isdb_text::proofs::PacketWalk::walk_done))]
 fn call_lines(
     rt: HostRuntime,
     text: &mut [u8; 65536],
@@ -114,11 +115,7 @@ fn call_lines(
 // Pushes the packets of a window, and writes the lines of each.
 fn pass(
     rt: HostRuntime,
-    state: &mut [u8; 13144],
-    others: &mut [u64; 256],
-    objects: &mut [u8; 2097152],
-    messages: &mut [u8; 1048576],
-    tables: &mut [u8; 1196032],
+    session: &mut SessionMut<'_>,
     rows: &mut [u8; 147456],
     data: &mut [u8; 262144],
     lines: &mut [u8; 65536],
@@ -133,11 +130,10 @@ fn pass(
     let mut at: usize = 0;
     let mut n = packets;
     let mut p = place;
+    // A cursor: where the next call begins is known once the packets of this one are.
     while let Cut::Packet { .. } = cut::cut_at(window, MOST, at) {
         let rest = bytes::rest(window, at);
-        let a = decoder::push_all(
-            state, others, objects, messages, tables, rest, MOST, rows, data, lines,
-        );
+        let a = session.push_all(rest, MOST, rows, data, lines);
         let t = call_lines(rt, text, p, n, rest, rows, data, lines, a);
         let x = t.behind;
         p = t.text;
@@ -178,11 +174,7 @@ fn end_line(
 // Reads to the end, and answers the place in the text.
 fn read_all(
     rt: HostRuntime,
-    state: &mut [u8; 13144],
-    others: &mut [u64; 256],
-    objects: &mut [u8; 2097152],
-    messages: &mut [u8; 1048576],
-    tables: &mut [u8; 1196032],
+    session: &mut SessionMut<'_>,
     rows: &mut [u8; 147456],
     data: &mut [u8; 262144],
     lines: &mut [u8; 65536],
@@ -199,9 +191,7 @@ fn read_all(
             return end_line(rt, text, p, n, base, packets);
         }
         let w = bytes::part(window, 0, m);
-        let x = pass(
-            rt, state, others, objects, messages, tables, rows, data, lines, text, w, packets, p,
-        );
+        let x = pass(rt, session, rows, data, lines, text, w, packets, p);
         packets = x.packets;
         p = x.text;
         base = base.wrapping_add(x.at as u64);
@@ -221,14 +211,39 @@ fn report(rt: HostRuntime, session: Session<'_>, text: &mut [u8; 65536], at: usi
     tables::write_tables(rt, session);
 }
 
-fn open_session(
+// By the five buffers: the check would compute the lengths of slices of arrays that it knows, element by element.
+fn run(
+    rt: HostRuntime,
     state: &mut [u8; 13144],
     others: &mut [u64; 256],
-    objects: &[u8; 2097152],
-    messages: &[u8; 1048576],
-    tables: &[u8; 1196032],
+    objects: &mut [u8; 2097152],
+    messages: &mut [u8; 1048576],
+    tables: &mut [u8; 1196032],
 ) {
-    decoder::open(limits(), state, others, objects, messages, tables);
+    let mut rows = [0u8; 147456];
+    let mut data = [0u8; 262144];
+    let mut lines = [0u8; 65536];
+    let mut text = [0u8; 65536];
+    let mut window = [0u8; 131072];
+    // The limits and the buffers are those of an opening that is taken.
+    let _ = decoder::open(limits(), state, others, objects, messages, tables);
+    let mut session = SessionMut {
+        state,
+        others,
+        objects,
+        messages,
+        tables,
+    };
+    let at = read_all(
+        rt,
+        &mut session,
+        &mut rows,
+        &mut data,
+        &mut lines,
+        &mut text,
+        &mut window,
+    );
+    report(rt, session.read(), &mut text, at);
 }
 
 fn main(rt: HostRuntime) {
@@ -237,31 +252,12 @@ fn main(rt: HostRuntime) {
     let mut objects = [0u8; 2097152];
     let mut messages = [0u8; 1048576];
     let mut tables = [0u8; 1196032];
-    let mut rows = [0u8; 147456];
-    let mut data = [0u8; 262144];
-    let mut lines = [0u8; 65536];
-    let mut text = [0u8; 65536];
-    let mut window = [0u8; 131072];
-    open_session(&mut state, &mut others, &objects, &messages, &tables);
-    let at = read_all(
+    run(
         rt,
         &mut state,
         &mut others,
         &mut objects,
         &mut messages,
         &mut tables,
-        &mut rows,
-        &mut data,
-        &mut lines,
-        &mut text,
-        &mut window,
     );
-    let session = Session {
-        state: &state,
-        others: &others,
-        objects: &objects,
-        messages: &messages,
-        tables: &tables,
-    };
-    report(rt, session, &mut text, at);
 }

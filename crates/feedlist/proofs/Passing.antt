@@ -20,6 +20,7 @@ use Rattle.isdb_mmt.specs.declared.decoder.many.Halt.{Halt}
 use Rattle.isdb_mmt.specs.declared.decoder.many.Halt.TheVariants.{End, Short, Bad as bad_halt, Full, Refused as refused_halt}
 use Rattle.feedlist.specs.declared.Passed.TheVariants.{More, Bad}
 use Rattle.feedlist.specs.Pass.{most_bytes, ends_reading, StopsAt}
+use Rattle.isdb_mmt.specs.Memory.Refusals.{refusal_of}
 
 goes_on : (n packets : ℕ) → ends_reading n packets ≡ false → 0 < packets
 unfolding ends_reading
@@ -93,7 +94,7 @@ module _ (w : Bytes) (base most : ℕ) where
         end = end_behind w most (base + at) _ refl kind (base + start) n (base + next) d ∙ (rw (← here) go.end);
         halt = go.halt;
       }))
-      (λ z. rw (t, z) (stays c (refused_halt (asks c.session (input_at c p))) tt)))
+      (λ z. rw (t, z) (stays c (refused_halt (refusal_of (asks c.session (input_at c p)))) tt)))
 
 pub pass_start : (w : List ℕ) → (recording_of w most_bytes).end ≡ (recording_from w most_bytes 0).end
 unfolding recording_of

@@ -2,11 +2,13 @@
 #![tactic(auto)]
 
 ghost use Rattle.std.specs.Prelude.{◌≡◌};
+ghost use Rattle.isdb_mmt.specs.Memory.Refusals.{number_of};
 ghost use Rattle.feedlist.specs.Pass.{ends_reading, StopsAt};
 
 use isdb_mmt::decoder::limits::Limits;
 use isdb_mmt::decoder::many::Halt;
-use isdb_mmt::decoder::session::Session;
+use isdb_mmt::decoder::refusal::Refusal;
+use isdb_mmt::decoder::session::{Session, SessionMut};
 use isdb_mmt::{decoder, part};
 use isdb_text::{listing, window};
 use isdb_tlv::bytes;
@@ -20,7 +22,7 @@ const MOST: usize = 16384;
 enum Passed {
     More(usize),
     Bad(usize),
-    Refused(u8),
+    Refused(Refusal),
 }
 
 fn limits() -> Limits {
@@ -38,19 +40,15 @@ fn limits() -> Limits {
 
 // Whether a packet that is turned down ends the reading: one that found no room behind others finds it when they are let go.
 #[tactic(auto, unfolding(crate::specs::Pass::ends_reading))]
-fn stops(number: u8, packets: usize) -> bool
-    ensures { result ≡ ends_reading number packets }
+fn stops(refusal: Refusal, packets: usize) -> bool
+    ensures { result ≡ ends_reading (number_of refusal) packets }
 {
-    packets == 0 || number != 10
+    packets == 0 || refusal.number() != 10
 }
 
 // Pushes the packets of a window. Where the outputs are full, what they hold is let go, and the rest of the window follows.
 fn pass(
-    state: &mut [u8; 13144],
-    others: &mut [u64; 256],
-    objects: &mut [u8; 16384],
-    messages: &mut [u8; 16384],
-    tables: &mut [u8; 20480],
+    session: &mut SessionMut<'_>,
     window: &[u8],
     rows: &mut [u8; 36864],
     data: &mut [u8; 16384],
@@ -63,9 +61,7 @@ fn pass(
     // A `for` would need an answer behind its last turn, which is never reached.
     loop {
         let rest = bytes::rest(window, at);
-        let a = decoder::push_all(
-            state, others, objects, messages, tables, rest, MOST, rows, data, lines,
-        );
+        let a = session.push_all(rest, MOST, rows, data, lines);
         let x = a.progress;
         let h = a.halt;
         let next = at + x.at;
@@ -75,13 +71,13 @@ fn pass(
             Halt::Bad => return Passed::Bad(next),
             Halt::Full => {
                 if x.packets == 0 {
-                    return Passed::Refused(10);
+                    return Passed::Refused(Refusal::OutputTooSmall);
                 }
                 at = next;
             }
-            Halt::Refused(n) => {
-                if stops(n, x.packets) {
-                    return Passed::Refused(n);
+            Halt::Refused(e) => {
+                if stops(e, x.packets) {
+                    return Passed::Refused(e);
                 }
                 at = next;
             }
@@ -91,11 +87,7 @@ fn pass(
 
 fn read_all(
     rt: HostRuntime,
-    state: &mut [u8; 13144],
-    others: &mut [u64; 256],
-    objects: &mut [u8; 16384],
-    messages: &mut [u8; 16384],
-    tables: &mut [u8; 20480],
+    session: &mut SessionMut<'_>,
     window: &mut [u8; 65536],
     rows: &mut [u8; 36864],
     data: &mut [u8; 16384],
@@ -111,23 +103,13 @@ fn read_all(
             }
             return Stop::Bad(base);
         }
-        match pass(
-            state,
-            others,
-            objects,
-            messages,
-            tables,
-            bytes::part(window, 0, m),
-            rows,
-            data,
-            lines,
-        ) {
+        match pass(session, bytes::part(window, 0, m), rows, data, lines) {
             Passed::More(at) => {
                 n = window::to_front(window, at, m);
                 base = base.wrapping_add(at as u64);
             }
             Passed::Bad(at) => return Stop::Bad(base.wrapping_add(at as u64)),
-            Passed::Refused(number) => return Stop::Refused(number),
+            Passed::Refused(e) => return Stop::Refused(e.number()),
         }
     }
     Stop::Clean
@@ -150,7 +132,8 @@ fn main(rt: HostRuntime) {
     let mut rows = [0u8; 36864];
     let mut data = [0u8; 16384];
     let mut lines = [0u8; 16384];
-    decoder::open(
+    // The limits and the buffers are those of an opening that is taken.
+    let _ = decoder::open(
         limits(),
         &mut state,
         &mut others,
@@ -158,24 +141,20 @@ fn main(rt: HostRuntime) {
         &messages,
         &tables,
     );
+    let mut session = SessionMut {
+        state: &mut state,
+        others: &mut others,
+        objects: &mut objects,
+        messages: &mut messages,
+        tables: &mut tables,
+    };
     let stop = read_all(
         rt,
-        &mut state,
-        &mut others,
-        &mut objects,
-        &mut messages,
-        &mut tables,
+        &mut session,
         &mut window,
         &mut rows,
         &mut data,
         &mut lines,
     );
-    let session = Session {
-        state: &state,
-        others: &others,
-        objects: &objects,
-        messages: &messages,
-        tables: &tables,
-    };
-    report(rt, session, stop);
+    report(rt, session.read(), stop);
 }

@@ -1,24 +1,18 @@
 -- Laws of the calls on a session. Assumes nothing.
 use Prim.Native.Nat.{ℕ}
 use mathlib.Core.Path.{◌≡◌, refl, sym, ◌∙◌, ap}
-use mathlib.Core.List.{List, [], ◌∷◌}
+use mathlib.Core.List.{List}
 use lib.Dec.{eqb}
 use borrow.Author.Tests.{eqb-true}
 use Rattle.isdb_tlv.proofs.Guards.{either}
 use Rattle.isdb_mmt.specs.Decoder.Packet.{Bytes}
 use Rattle.isdb_mmt.specs.Memory.Session.{Session}
-use Rattle.isdb_mmt.specs.Memory.Opening.{Opened}
 use Rattle.isdb_mmt.specs.Pushes.Push.{Input, Pushed}
 use Rattle.isdb_mmt.specs.Pushes.PushAll.{AllPushed}
-use Rattle.isdb_mmt.specs.declared.decoder.limits.Limits.{Limits}
 use Rattle.isdb_mmt.specs.declared.decoder.many.Pushes.{Pushes}
-use Rattle.isdb_host.specs.Values.{says, code_of, Replied}
-use Rattle.isdb_host.specs.Session.{push_said, HostPushed, halt_code, halt_number, all_said, HostPushedAll}
+use Rattle.isdb_host.specs.Values.{code_of, Replied}
+use Rattle.isdb_host.specs.Session.{push_said, HostPushed, all_said, HostPushedAll}
 use Rattle.isdb_host.proofs.Numbers.{replied_as}
-
--- an opening with limits by their equal
-pub opened_as : {l k : Limits} {s s' : Session} {r : ℕ} → Opened l s r s' → k ≡ l → Opened k s r s'
-opened_as h e = rw e h
 
 -- a push returns its number
 push_code : (n records bytes : ℕ) → code_of (push_said n records bytes) ≡ n
@@ -29,12 +23,6 @@ pub host_pushed : {s s' : Session} {x : Input} {n r records bytes : ℕ} {rows o
 host_pushed {n = n} {r = r} {records = records} {bytes = bytes} p a =
     let same : r ≡ n = a.number ∙ push_code n records bytes in
     record { records = records; bytes = bytes; pushed = rw same p; replied = replied_as a (ap (λ k. push_said k records bytes) same) }
-
--- the numbers of a call for many packets
-pub all_replied : (a : Pushes) (code number : ℕ) → code ≡ halt_code a.halt → number ≡ halt_number a.halt → (r : ℕ) (v w : List ℕ)
-    → Replied (says (a.progress.at ∷ a.progress.packets ∷ a.progress.records ∷ a.progress.bytes ∷ code ∷ number ∷ [])) r v w
-    → Replied (all_said a) r v w
-all_replied a code number e f r v w h = rw (e, f) at h
 
 -- a call for many packets, with its answer
 pub host_pushed_all : {s s' : Session} {input rows out lines rows' out' lines' : Bytes} {most r : ℕ} {a : Pushes} {v w : List ℕ}

@@ -12,19 +12,15 @@ use Rattle.isdb_mmt.specs.declared.desc.Step.TheVariants.{End as no_descriptor, 
 use Rattle.isdb_mmt.specs.declared.desc.Language.{Language}
 use Rattle.isdb_mmt.specs.declared.desc.Descriptor.{Descriptor}
 use Rattle.isdb_mmt.specs.declared.desc.Descriptor.TheVariants.{MpuTimestamp, ExtendedTimestamp, AccessControl, Scrambler, StreamIdentifier, Service, ServiceList, ShortEvent, Content, Hevc, BroadcasterName, Other}
-use Rattle.isdb_mmt.specs.declared.desc.ServiceStep.{ServiceStep}
-use Rattle.isdb_mmt.specs.declared.desc.ServiceStep.TheVariants.{End as no_service, Service as one_service}
-use Rattle.isdb_mmt.specs.declared.desc.GenreStep.{GenreStep}
-use Rattle.isdb_mmt.specs.declared.desc.GenreStep.TheVariants.{End as no_genre, Genre as one_genre}
-use Rattle.isdb_mmt.specs.declared.table.nit.TlvStep.{TlvStep}
-use Rattle.isdb_mmt.specs.declared.table.nit.TlvStep.TheVariants.{End as no_tlv, Descriptor as one_tlv}
-use Rattle.isdb_mmt.specs.declared.timestamp.TimestampStep.{TimestampStep}
-use Rattle.isdb_mmt.specs.declared.timestamp.TimestampStep.TheVariants.{End as no_timestamp, Timestamp as one_timestamp}
+use Rattle.isdb_mmt.specs.declared.desc.ListedService.{ListedService}
+use Rattle.isdb_mmt.specs.declared.desc.Genre.{Genre}
+use Rattle.isdb_mmt.specs.declared.table.nit.TlvDescriptor.{TlvDescriptor}
+use Rattle.isdb_mmt.specs.declared.timestamp.MpuPresentation.{MpuPresentation}
 use Rattle.isdb_mmt.specs.declared.timestamp.Extended.{Extended}
-use Rattle.isdb_mmt.specs.declared.timestamp.MpuStep.{MpuStep}
-use Rattle.isdb_mmt.specs.declared.timestamp.MpuStep.TheVariants.{End as no_mpu, Broken as broken_mpu, Mpu as one_mpu}
+use Rattle.isdb_mmt.specs.Formats.Steps.{MpuStep}
+use Rattle.isdb_mmt.specs.declared.walk_step.WalkStep.TheVariants.{End as no_mpu, Malformed as broken_mpu, Entry as one_mpu}
 use Rattle.isdb_mmt.specs.declared.timestamp.AccessUnit.{AccessUnit}
-use Rattle.isdb_host.specs.Values.{Reply, says, nothing, malformed}
+use Rattle.isdb_host.specs.Values.{found_said, one_number, Reply, says, nothing, malformed}
 use Rattle.isdb_mmt.specs.Formats.Maybe.{flag_of, given}
 use Rattle.isdb_host.specs.Fields.{address_high, address_low}
 use Rattle.isdb_host.specs.Tables.{placed}
@@ -52,9 +48,11 @@ location_numbers (Mpeg2Ts network stream pid) n = ts_numbers 3 0 network stream 
 location_numbers (Mpeg2TsIpv6 port pid) n = ts_numbers 4 port 0 0 pid n
 location_numbers (Url url) n = url_numbers url n
 
+abbrev pub sized_numbers : Location × ℕ → List ℕ
+sized_numbers (l, n) = location_numbers l n
+
 abbrev pub location_said : Option (Location × ℕ) → Reply
-location_said None = malformed
-location_said (Some (l, n)) = says (location_numbers l n)
+location_said = found_said sized_numbers malformed
 
 -- ---- descriptor loops
 
@@ -63,13 +61,14 @@ descriptor_said no_descriptor = nothing
 descriptor_said (broken_descriptor at) = malformed
 descriptor_said (one_descriptor tag body next) = says (tag ∷ placed body (next ∷ []))
 
-abbrev pub tlv_said : TlvStep → Reply
-tlv_said no_tlv = nothing
-tlv_said (one_tlv tag body next) = says (tag ∷ placed body (next ∷ []))
+abbrev pub tlv_numbers : TlvDescriptor × ℕ → List ℕ
+tlv_numbers (d, next) = d.tag ∷ placed d.body (next ∷ [])
+
+abbrev pub tlv_said : Option (TlvDescriptor × ℕ) → Reply
+tlv_said = found_said tlv_numbers nothing
 
 abbrev pub frequency_said : Option ℕ → Reply
-frequency_said None = nothing
-frequency_said (Some khz) = says (khz ∷ [])
+frequency_said = found_said one_number nothing
 
 -- ---- descriptors, by kind; parts count in the body
 
@@ -77,11 +76,6 @@ abbrev pub extended_numbers : Extended → List ℕ
 extended_numbers e =
     2 ∷ given e.timescale ∷ unwrap_or e.timescale 0 ∷ given e.default_pts_offset ∷ unwrap_or e.default_pts_offset 0
     ∷ flag_of e.own_pts_offset ∷ e.start ∷ []
-
--- whether a location stands at 2
-abbrev pub location_given : Option Location → ℕ
-location_given None = 0
-location_given (Some l) = 1
 
 abbrev pub service_numbers : ℕ → Part → Part → List ℕ
 service_numbers type provider name = 6 ∷ type ∷ placed provider (placed name [])
@@ -93,7 +87,7 @@ abbrev pub descriptor_numbers : Descriptor → List ℕ
 descriptor_numbers (Other tag body) = 0 ∷ []
 descriptor_numbers MpuTimestamp = 1 ∷ []
 descriptor_numbers (ExtendedTimestamp e) = extended_numbers e
-descriptor_numbers (AccessControl system l) = 3 ∷ system ∷ location_given l ∷ []
+descriptor_numbers (AccessControl system l) = 3 ∷ system ∷ given l ∷ []
 descriptor_numbers (Scrambler layer system) = 4 ∷ layer ∷ system ∷ []
 descriptor_numbers (StreamIdentifier tag) = 5 ∷ tag ∷ []
 descriptor_numbers (Service type provider name) = service_numbers type provider name
@@ -108,29 +102,35 @@ decode_said d = says (descriptor_numbers d)
 
 -- ---- their entries
 
-abbrev pub timestamp_said : TimestampStep → Reply
-timestamp_said no_timestamp = nothing
-timestamp_said (one_timestamp number time next) = says (number ∷ time ∷ next ∷ [])
+abbrev pub timestamp_numbers : MpuPresentation × ℕ → List ℕ
+timestamp_numbers (x, next) = x.mpu_sequence_number ∷ x.presentation_time ∷ next ∷ []
+
+abbrev pub timestamp_said : Option (MpuPresentation × ℕ) → Reply
+timestamp_said = found_said timestamp_numbers nothing
 
 abbrev pub mpu_said : MpuStep → Reply
 mpu_said no_mpu = nothing
 mpu_said broken_mpu = malformed
-mpu_said (one_mpu number leap offset n units next) = says (number ∷ leap ∷ offset ∷ n ∷ placed units (next ∷ []))
+mpu_said (one_mpu m next) =
+    says (m.mpu_sequence_number ∷ m.leap_indicator ∷ m.decoding_time_offset ∷ m.access_units ∷ placed m.units (next ∷ []))
 
-abbrev pub access_unit_numbers : AccessUnit → ℕ → List ℕ
-access_unit_numbers u next = u.dts_pts_offset ∷ given u.pts_offset ∷ unwrap_or u.pts_offset 0 ∷ next ∷ []
+abbrev pub access_unit_numbers : AccessUnit × ℕ → List ℕ
+access_unit_numbers (u, next) = u.dts_pts_offset ∷ given u.pts_offset ∷ unwrap_or u.pts_offset 0 ∷ next ∷ []
 
 abbrev pub access_unit_said : Option (AccessUnit × ℕ) → Reply
-access_unit_said None = nothing
-access_unit_said (Some (u, next)) = says (access_unit_numbers u next)
+access_unit_said = found_said access_unit_numbers nothing
 
-abbrev pub listed_service_said : ServiceStep → Reply
-listed_service_said no_service = nothing
-listed_service_said (one_service id type next) = says (id ∷ type ∷ next ∷ [])
+abbrev pub listed_service_numbers : ListedService × ℕ → List ℕ
+listed_service_numbers (x, next) = x.service_id ∷ x.service_type ∷ next ∷ []
 
-abbrev pub genre_said : GenreStep → Reply
-genre_said no_genre = nothing
-genre_said (one_genre one two user next) = says (one ∷ two ∷ user ∷ next ∷ [])
+abbrev pub listed_service_said : Option (ListedService × ℕ) → Reply
+listed_service_said = found_said listed_service_numbers nothing
+
+abbrev pub genre_numbers : Genre × ℕ → List ℕ
+genre_numbers (x, next) = x.level_1 ∷ x.level_2 ∷ x.user ∷ next ∷ []
+
+abbrev pub genre_said : Option (Genre × ℕ) → Reply
+genre_said = found_said genre_numbers nothing
 
 -- the head of an extended timestamp descriptor, as far as its access units need it
 abbrev pub offset_given : ℕ → ℕ → Option ℕ

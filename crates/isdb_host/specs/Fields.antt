@@ -8,11 +8,7 @@ use Rattle.isdb_tlv.specs.declared.ip.Address.{Address}
 use Rattle.isdb_tlv.specs.declared.ip.Address.TheVariants.{V4, V6}
 use Rattle.isdb_host.specs.Values.{code_of, malformed, truncated, bad_crc}
 
--- MPU numbers: whether there are any, the first and the last
-abbrev pub given_range : Option MpuRange → ℕ
-given_range None = 0
-given_range (Some x) = 1
-
+-- MPU numbers: the first and the last
 abbrev pub first_mpu_of : Option MpuRange → ℕ
 first_mpu_of None = 0
 first_mpu_of (Some x) = x.first

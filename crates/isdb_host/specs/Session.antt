@@ -16,15 +16,14 @@ use Rattle.isdb_mmt.specs.declared.decoder.many.Pushes.{Pushes}
 use Rattle.isdb_mmt.specs.declared.decoder.many.Halt.{Halt}
 use Rattle.isdb_mmt.specs.declared.decoder.many.Halt.TheVariants.{End, Short, Bad, Full, Refused}
 use Rattle.isdb_mmt.specs.declared.decoder.limits.Limits.{Limits}
-use Rattle.isdb_mmt.specs.declared.decoder.limits.Need.{Need}
-use Rattle.isdb_mmt.specs.declared.decoder.limits.Need.TheVariants.{Bytes as need_bytes, Refused as need_refused}
+use Rattle.isdb_mmt.specs.declared.decoder.limits.Lengths.{Lengths}
 use Rattle.isdb_mmt.specs.declared.decoder.readings.MediaState.{MediaState}
 use Rattle.isdb_mmt.specs.declared.decoder.readings.HeldObject.{HeldObject}
 use Rattle.isdb_mmt.specs.declared.decoder.readings.ControlState.{ControlState}
 use Rattle.isdb_mmt.specs.declared.decoder.readings.CarriedAsset.{CarriedAsset}
-use Rattle.isdb_host.specs.Values.{Reply, says, code, nothing, no_id, Replied}
+use Rattle.isdb_host.specs.Values.{Reply, says, code, one_number, nothing, no_id, Replied}
 use Rattle.isdb_mmt.specs.Formats.Maybe.{flag_of, given}
-use Rattle.isdb_host.specs.Fields.{given_range, first_mpu_of, last_mpu}
+use Rattle.isdb_host.specs.Fields.{first_mpu_of, last_mpu}
 
 -- the limits that eight numbers say; scrambled payloads are passed on where the last is not 0
 unfoldable pub limits_from : List ℕ → Limits
@@ -40,10 +39,27 @@ limits_from x =
       pass_scrambled = not (get_or x 7 0 =? 0);
     }
 
+-- an answer by its numbers, or why it was refused
+abbrev pub answer_said : {A : Type 0} → (A → List ℕ) → Result A Refusal → Reply
+answer_said numbers (Err e) = code (number_of e)
+answer_said numbers (Ok x) = says (numbers x)
+
+-- the same of a reading, which may find nothing
+abbrev pub reading_said : {A : Type 0} → (A → List ℕ) → Result (Option A) Refusal → Reply
+reading_said numbers (Err e) = code (number_of e)
+reading_said numbers (Ok None) = nothing
+reading_said numbers (Ok (Some x)) = says (numbers x)
+
+-- a part by its place
+abbrev pub part_numbers : Part → List ℕ
+part_numbers p = p.start ∷ p.length ∷ []
+
 -- how long the lent buffers have to be
-abbrev pub needed_said : Need → Reply
-needed_said (need_refused n) = code n
-needed_said (need_bytes x) = says (x.state ∷ x.objects ∷ x.messages ∷ x.tables ∷ [])
+abbrev pub length_numbers : Lengths → List ℕ
+length_numbers x = x.state ∷ x.objects ∷ x.messages ∷ x.tables ∷ []
+
+abbrev pub needed_said : Result Lengths Refusal → Reply
+needed_said = answer_said length_numbers
 
 -- ---- a push
 
@@ -66,14 +82,14 @@ halt_code End = 0
 halt_code Short = 1
 halt_code Bad = 2
 halt_code Full = 3
-halt_code (Refused n) = 4
+halt_code (Refused e) = 4
 
 abbrev pub halt_number : Halt → ℕ
 halt_number End = 0
 halt_number Short = 0
 halt_number Bad = 0
 halt_number Full = 0
-halt_number (Refused n) = n
+halt_number (Refused e) = number_of e
 
 -- the place in the input, packets, records and data bytes, and why it ended
 abbrev pub all_said : Pushes → Reply
@@ -96,11 +112,9 @@ pub record HostPushedAll (s : Session) (input : Bytes) (most : ℕ) (rows out li
 -- ---- readings
 
 -- the counts of the feed
-abbrev pub counters_said : Result Counters Refusal → Reply
-counters_said (Err e) = code (number_of e)
-counters_said (Ok c) =
-    says
-    (c.tlv_packets
+abbrev pub counter_numbers : Counters → List ℕ
+counter_numbers c =
+    c.tlv_packets
     ∷ c.ip_errors
     ∷ c.non_mmtp
     ∷ c.ntp
@@ -112,24 +126,22 @@ counters_said (Ok c) =
     ∷ c.oversize
     ∷ c.message_malformed
     ∷ c.split_errors
-    ∷ [])
+    ∷ []
+
+abbrev pub counters_said : Result Counters Refusal → Reply
+counters_said = answer_said counter_numbers
 
 -- the last NTP timestamp
 abbrev pub time_said : Result (Option ℕ) Refusal → Reply
-time_said (Err e) = code (number_of e)
-time_said (Ok None) = nothing
-time_said (Ok (Some t)) = says (t ∷ [])
+time_said = reading_said one_number
 
 -- tables of an id that are not decoded
 abbrev pub count_said : Result ℕ Refusal → Reply
-count_said (Err e) = code (number_of e)
-count_said (Ok n) = says (n ∷ [])
+count_said = answer_said one_number
 
 -- a packet id or a key
 abbrev pub name_said : Result (Option ℕ) Refusal → Reply
-name_said (Err e) = code (number_of e)
-name_said (Ok None) = nothing
-name_said (Ok (Some x)) = says (x ∷ [])
+name_said = reading_said one_number
 
 -- a media packet id: its counts, the MPU numbers, the last packet's number, the length of the held object
 abbrev pub media_numbers : MediaState → List ℕ
@@ -143,7 +155,7 @@ media_numbers m =
     ∷ m.stats.mpus
     ∷ m.stats.mpu_sequence_jumps
     ∷ m.stats.malformed
-    ∷ given_range m.mpu_range
+    ∷ given m.mpu_range
     ∷ first_mpu_of m.mpu_range
     ∷ last_mpu m.mpu_range
     ∷ given m.sequence
@@ -153,9 +165,7 @@ media_numbers m =
     ∷ []
 
 abbrev pub media_said : Result (Option MediaState) Refusal → Reply
-media_said (Err e) = code (number_of e)
-media_said (Ok None) = nothing
-media_said (Ok (Some m)) = says (media_numbers m)
+media_said = reading_said media_numbers
 
 -- a held object: the fields of its first unit, and where its bytes lie in the lent objects
 abbrev pub held_numbers : HeldObject → List ℕ
@@ -186,15 +196,11 @@ control_numbers c =
     given c.sequence ∷ unwrap_or c.sequence 0 ∷ given c.joined ∷ unwrap_or c.joined 0 ∷ []
 
 abbrev pub control_said : Result (Option ControlState) Refusal → Reply
-control_said (Err e) = code (number_of e)
-control_said (Ok None) = nothing
-control_said (Ok (Some c)) = says (control_numbers c)
+control_said = reading_said control_numbers
 
 -- a kept table: where its bytes lie in the lent tables
 abbrev pub table_said : Result (Option Part) Refusal → Reply
-table_said (Err e) = code (number_of e)
-table_said (Ok None) = nothing
-table_said (Ok (Some p)) = says (p.start ∷ p.length ∷ [])
+table_said = reading_said part_numbers
 
 -- the asset that a packet id carries: the MPT, its service, and the asset, whose parts count in the MPT's bytes
 abbrev pub asset_numbers : CarriedAsset → List ℕ
@@ -217,6 +223,4 @@ asset_numbers x =
     ∷ []
 
 abbrev pub asset_said : Result (Option CarriedAsset) Refusal → Reply
-asset_said (Err e) = code (number_of e)
-asset_said (Ok None) = nothing
-asset_said (Ok (Some x)) = says (asset_numbers x)
+asset_said = reading_said asset_numbers

@@ -18,15 +18,15 @@ use Rattle.isdb_mmt.specs.declared.table.mpt.Mpt.{Mpt}
 use Rattle.isdb_mmt.specs.declared.table.mpt.MptParsed.{MptParsed}
 use Rattle.isdb_mmt.specs.declared.table.mpt.Asset.{Asset}
 use Rattle.isdb_mmt.specs.declared.table.section.SectionHeader.{SectionHeader}
-use Rattle.isdb_mmt.specs.declared.table.eit.EventStep.{EventStep}
-use Rattle.isdb_mmt.specs.declared.table.eit.EventStep.TheVariants.{End as no_event, Malformed as broken_event, Event as one_event}
-use Rattle.isdb_mmt.specs.declared.table.sdt.SdtStep.{SdtStep}
-use Rattle.isdb_mmt.specs.declared.table.sdt.SdtStep.TheVariants.{End as no_service, Malformed as broken_service, Service as one_service}
-use Rattle.isdb_mmt.specs.declared.table.bit.BroadcasterStep.{BroadcasterStep}
-use Rattle.isdb_mmt.specs.declared.table.bit.BroadcasterStep.TheVariants.{End as no_broadcaster, Malformed as broken_broadcaster, Broadcaster as one_broadcaster}
-use Rattle.isdb_mmt.specs.declared.table.nit.StreamStep.{StreamStep}
-use Rattle.isdb_mmt.specs.declared.table.nit.StreamStep.TheVariants.{End as no_stream, Malformed as broken_stream, Stream as one_stream}
-use Rattle.isdb_host.specs.Values.{Reply, says, code, nothing, malformed}
+use Rattle.isdb_mmt.specs.Formats.Steps.{EventStep}
+use Rattle.isdb_mmt.specs.declared.walk_step.WalkStep.TheVariants.{End as no_event, Malformed as broken_event, Entry as one_event}
+use Rattle.isdb_mmt.specs.Formats.Steps.{SdtStep}
+use Rattle.isdb_mmt.specs.declared.walk_step.WalkStep.TheVariants.{End as no_service, Malformed as broken_service, Entry as one_service}
+use Rattle.isdb_mmt.specs.Formats.Steps.{BroadcasterStep}
+use Rattle.isdb_mmt.specs.declared.walk_step.WalkStep.TheVariants.{End as no_broadcaster, Malformed as broken_broadcaster, Entry as one_broadcaster}
+use Rattle.isdb_mmt.specs.Formats.Steps.{StreamStep}
+use Rattle.isdb_mmt.specs.declared.walk_step.WalkStep.TheVariants.{End as no_stream, Malformed as broken_stream, Entry as one_stream}
+use Rattle.isdb_host.specs.Values.{found_said, Reply, says, code, nothing, malformed}
 use Rattle.isdb_mmt.specs.Formats.Maybe.{flag_of, given}
 use Rattle.isdb_host.specs.Fields.{wide_address, address_high, address_low, reason_of}
 
@@ -62,17 +62,23 @@ asset_said s (Some (a, next)) = says (asset_numbers s a next)
 
 -- ---- PLT
 
+abbrev pub plt_numbers : Plt → List ℕ
+plt_numbers p = p.version ∷ p.packages ∷ p.ip_deliveries ∷ p.deliveries_start ∷ []
+
 abbrev pub plt_said : Option Plt → Reply
-plt_said None = malformed
-plt_said (Some p) = says (p.version ∷ p.packages ∷ p.ip_deliveries ∷ p.deliveries_start ∷ [])
+plt_said = found_said plt_numbers malformed
+
+abbrev pub package_numbers : Package × ℕ → List ℕ
+package_numbers (p, next) = placed p.package_id (p.location_start ∷ next ∷ [])
 
 abbrev pub package_said : Option (Package × ℕ) → Reply
-package_said None = malformed
-package_said (Some (p, next)) = says (placed p.package_id (p.location_start ∷ next ∷ []))
+package_said = found_said package_numbers malformed
+
+abbrev pub delivery_numbers : IpDelivery × ℕ → List ℕ
+delivery_numbers (d, next) = d.transport_file_id ∷ d.location_type ∷ next ∷ []
 
 abbrev pub delivery_said : Option (IpDelivery × ℕ) → Reply
-delivery_said None = malformed
-delivery_said (Some (d, next)) = says (d.transport_file_id ∷ d.location_type ∷ next ∷ [])
+delivery_said = found_said delivery_numbers malformed
 
 -- ---- sections
 
@@ -146,8 +152,9 @@ stream_said broken_stream = malformed
 stream_said (one_stream s next) = says (s.tlv_stream_id ∷ s.original_network_id ∷ placed s.descriptors (next ∷ []))
 
 -- both addresses of a flow are of one kind
+abbrev pub amt_service_numbers : AmtService × ℕ → List ℕ
+amt_service_numbers (s, next) = s.service_id ∷ wide_address s.src ∷ address_high s.src ∷ address_low s.src ∷ s.src_mask
+    ∷ address_high s.dst ∷ address_low s.dst ∷ s.dst_mask ∷ next ∷ []
+
 abbrev pub flow_said : Option (AmtService × ℕ) → Reply
-flow_said None = malformed
-flow_said (Some (s, next)) =
-    says (s.service_id ∷ wide_address s.src ∷ address_high s.src ∷ address_low s.src ∷ s.src_mask
-    ∷ address_high s.dst ∷ address_low s.dst ∷ s.dst_mask ∷ next ∷ [])
+flow_said = found_said amt_service_numbers malformed

@@ -1,5 +1,5 @@
 -- What a call answers to a host: a code, and the numbers of its answer.
-use Rattle.std.specs.Prelude.{ℕ, zero, suc, ◌≡◌, List, [], ◌∷◌}
+use Rattle.std.specs.Prelude.{ℕ, zero, suc, ◌≡◌, List, [], ◌∷◌, Option, Some, None}
 
 -- so many numbers: these in front, 0 behind them
 unfoldable pub numbers_for : ℕ → List ℕ → List ℕ
@@ -11,6 +11,10 @@ numbers_for (suc n) (x ∷ xs) = x ∷ numbers_for n xs
 pub data Reply : Type 0 where
   says : List ℕ → Reply
   code : ℕ → Reply
+
+-- a number alone
+abbrev pub one_number : ℕ → List ℕ
+one_number n = n ∷ []
 
 -- that there is nothing, and that there is no such id
 abbrev pub nothing : Reply
@@ -28,6 +32,11 @@ truncated = code 23
 
 abbrev pub bad_crc : Reply
 bad_crc = code 24
+
+-- what was found, by its numbers, or why there is none
+abbrev pub found_said : {A : Type 0} → (A → List ℕ) → Reply → Option A → Reply
+found_said numbers why None = why
+found_said numbers why (Some x) = says (numbers x)
 
 -- the code is 0 where numbers are given
 abbrev pub code_of : Reply → ℕ

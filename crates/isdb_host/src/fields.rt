@@ -1,41 +1,26 @@
 // Fields as numbers: MPU numbers, addresses, and why a section was not read.
 ghost use Rattle.std.specs.Prelude.{◌≡◌};
-ghost use Rattle.isdb_host.specs.Fields.{given_range, first_mpu_of, last_mpu, wide_address, address_high, address_low, reason_of};
+ghost use Rattle.isdb_host.specs.Fields.{first_mpu_of, last_mpu, wide_address, address_high, address_low, reason_of};
 
 use crate::values;
 use isdb_mmt::decoder::readings::MpuRange;
 use isdb_mmt::table::section::SectionError;
 use isdb_tlv::ip::Address;
 
-// Whether MPU numbers were seen, the first and the last.
-pub(crate) fn given_range(m: Option<MpuRange>) -> u64
-    ensures { result ≡ given_range m }
-{
-    match m {
-        None => 0,
-        Some(_) => 1,
-    }
-}
-
+// The first and the last of the MPU numbers that were seen.
 pub(crate) fn first_mpu(m: Option<MpuRange>) -> u64
     ensures { result ≡ first_mpu_of m }
 {
-    match m {
-        None => 0,
-        Some(x) => x.first as u64,
-    }
+    m.map_or(0, |x| x.first as u64)
 }
 
 pub(crate) fn last_mpu(m: Option<MpuRange>) -> u64
     ensures { result ≡ last_mpu m }
 {
-    match m {
-        None => 0,
-        Some(x) => x.last as u64,
-    }
+    m.map_or(0, |x| x.last as u64)
 }
 
-// Whether an address is of IPv6, and its two halves; one of IPv4 is the low half.
+// Whether an address is of IPv6, and its two halves; one of IPv4 is the low half. By names: the three are read off one address.
 pub(crate) fn wide_address(a: Address) -> u64
     ensures { result ≡ wide_address a }
 {
@@ -63,7 +48,7 @@ pub(crate) fn address_low(a: Address) -> u64
     }
 }
 
-// The code of a section that was not read.
+// The code of a section that was not read; the codes are this crate's, so that no `From` of isdb_mmt gives them.
 pub(crate) fn reason(e: SectionError) -> u8
     ensures { result ≡ reason_of e }
 {

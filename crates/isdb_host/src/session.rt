@@ -1,25 +1,29 @@
 // The calls on a session: its limits, opening it, pushes, and readings, which change nothing.
-ghost use Rattle.std.specs.Prelude.{◌≡◌, length};
+ghost use Rattle.std.specs.Prelude.{◌≡◌};
 ghost use Rattle.isdb_mmt.specs.Memory.Limits.{needed_of};
+ghost use Rattle.isdb_mmt.specs.Memory.Lending.{lent_by};
+ghost use Rattle.isdb_mmt.specs.Pushes.Answer.{answered};
 ghost use Rattle.isdb_mmt.specs.Memory.Opening.{lent, Opened};
 ghost use Rattle.isdb_mmt.specs.Pushes.Push.{input};
 ghost use Rattle.isdb_mmt.specs.Answers.Readings.{counters_read, time_read, count_read, next_media_read, next_control_read, next_key_read, media_read, held_read, control_read, section_read, mpt_read, plt_read, tot_read, asset_read};
-ghost use Rattle.isdb_host.specs.Values.{Reply, Replied};
-ghost use Rattle.isdb_host.specs.Session.{limits_from, needed_said, push_said, HostPushed, halt_code, halt_number, all_said, HostPushedAll, counters_said, time_said, count_said, name_said, media_numbers, media_said, held_numbers, held_said, control_numbers, control_said, table_said, asset_numbers, asset_said};
+ghost use Rattle.isdb_host.specs.Values.{Replied};
+ghost use Rattle.isdb_host.specs.Session.{limits_from, answer_said, reading_said, part_numbers, length_numbers, counter_numbers, needed_said, push_said, HostPushed, halt_code, halt_number, all_said, HostPushedAll, counters_said, time_said, count_said, name_said, media_numbers, media_said, held_numbers, held_said, control_numbers, control_said, table_said, asset_numbers, asset_said};
 
+use crate::values::Told;
 use crate::{fields, values};
 use isdb_mmt::decoder::counts::Counters;
 use isdb_mmt::decoder::limits;
-use isdb_mmt::decoder::limits::{Limits, Need};
+use isdb_mmt::decoder::limits::{Lengths, Limits};
 use isdb_mmt::decoder::many::{Halt, Pushes};
 use isdb_mmt::decoder::readings::{CarriedAsset, ControlState, Held, HeldObject, MediaState};
-use isdb_mmt::decoder::records::Answer;
+use isdb_mmt::decoder::records::HandedOut;
 use isdb_mmt::decoder::refusal::Refusal;
-use isdb_mmt::decoder::session::Session;
+use isdb_mmt::decoder::session::{Session, SessionMut};
 use isdb_mmt::part::Part;
 use isdb_mmt::{decoder, maybe, mpu};
 
 // Eight numbers in the order of the limits.
+#[tactic(auto, unfolding(crate::specs::Session::limits_from))]
 fn limits_from(x: &[u64; 8]) -> Limits
     ensures { result ≡ limits_from x.now }
 {
@@ -35,13 +39,40 @@ fn limits_from(x: &[u64; 8]) -> Limits
     }
 }
 
-fn needed_said(r: Need, v: &mut [u64]) -> u8
-    requires { length v.old ≡ 16 }
-    ensures { Replied (needed_said r) result v.old v.new }
+// An answer, or the number of a refusal.
+fn answer<T: Told>(r: Result<T, Refusal>, v: &mut [u64; 16]) -> u8
+    ensures { Replied (answer_said T.numbers r) result v.old v.new }
 {
     match r {
-        Need::Refused(n) => n,
-        Need::Bytes(x) => values::says(v, &[x.state, x.objects, x.messages, x.tables]),
+        Err(e) => e.number(),
+        Ok(x) => x.told(v),
+    }
+}
+
+// The same of a reading, which may find nothing.
+fn reading<T: Told>(r: Result<Option<T>, Refusal>, v: &mut [u64; 16]) -> u8
+    ensures { Replied (reading_said T.numbers r) result v.old v.new }
+{
+    match r {
+        Err(e) => e.number(),
+        Ok(None) => values::NOTHING,
+        Ok(Some(x)) => x.told(v),
+    }
+}
+
+impl Told for Part {
+    ghost numbers = { part_numbers };
+
+    fn told(self, v: &mut [u64; 16]) -> u8 {
+        values::says(v, &[self.start as u64, self.length as u64])
+    }
+}
+
+impl Told for Lengths {
+    ghost numbers = { length_numbers };
+
+    fn told(self, v: &mut [u64; 16]) -> u8 {
+        values::says(v, &[self.state, self.objects, self.messages, self.tables])
     }
 }
 
@@ -50,8 +81,7 @@ fn needed_said(r: Need, v: &mut [u64]) -> u8
 pub extern "C" fn isdb_needed(limits: &[u64; 8], v: &mut [u64; 16]) -> u8
     ensures { Replied (needed_said (needed_of (limits_from limits.now))) result v.old v.new }
 {
-    let r = limits::needed(limits_from(limits));
-    needed_said(r, v)
+    answer(limits::needed(limits_from(limits)), v)
 }
 
 // Opens a session. The areas are not written.
@@ -66,24 +96,26 @@ pub extern "C" fn isdb_open(
 ) -> u8
     ensures { Opened (limits_from limits.now) (lent state.old others.old objects.now messages.now tables.now) result (lent state.new others.new objects.now messages.now tables.now) }
 {
-    decoder::open(
+    match decoder::open(
         limits_from(limits),
         state,
         others,
         objects,
         messages,
         tables,
-    )
+    ) {
+        Ok(()) => 0,
+        Err(e) => e.number(),
+    }
 }
 
-fn push_said(a: Answer, v: &mut [u64]) -> u8
-    requires { length v.old ≡ 16 }
-    ensures { Replied (push_said a.number a.records a.bytes) result v.old v.new }
+fn push_said(a: Result<HandedOut, Refusal>, v: &mut [u64; 16]) -> u8
+    ensures { Replied (push_said (answered a).number (answered a).records (answered a).bytes) result v.old v.new }
 {
-    if a.number != 0 {
-        return a.number;
+    match a {
+        Ok(h) => values::says(v, &[h.records, h.bytes]),
+        Err(refusal) => refusal.number(),
     }
-    values::says(v, &[a.records, a.bytes])
 }
 
 // Takes a packet of a kind byte and its data, and hands out records and their data.
@@ -102,12 +134,17 @@ pub extern "C" fn isdb_push(
 ) -> u8
     ensures { HostPushed (lent state.old others.old objects.old messages.old tables.old) (input kind «data».now rows.old out.old) result (lent state.new others.new objects.new messages.new tables.new) rows.new out.new v.old v.new }
 {
-    let a = decoder::push(
-        state, others, objects, messages, tables, kind, data, rows, out,
-    );
-    push_said(a, v)
+    let mut session = SessionMut {
+        state,
+        others,
+        objects,
+        messages,
+        tables,
+    };
+    push_said(session.push(kind, data, rows, out), v)
 }
 
+// Why it ended, as C reads it.
 fn halt_code(h: Halt) -> u64
     ensures { result ≡ halt_code h }
 {
@@ -116,7 +153,7 @@ fn halt_code(h: Halt) -> u64
         Halt::Short => 1,
         Halt::Bad => 2,
         Halt::Full => 3,
-        Halt::Refused(n) => 4,
+        Halt::Refused(_) => 4,
     }
 }
 
@@ -124,31 +161,23 @@ fn halt_number(h: Halt) -> u64
     ensures { result ≡ halt_number h }
 {
     match h {
-        Halt::End => 0,
-        Halt::Short => 0,
-        Halt::Bad => 0,
-        Halt::Full => 0,
-        Halt::Refused(n) => n as u64,
+        Halt::End | Halt::Short | Halt::Bad | Halt::Full => 0,
+        Halt::Refused(e) => u64::from(e.number()),
     }
 }
 
-fn all_said(a: Pushes, v: &mut [u64]) -> u8
-    requires { length v.old ≡ 16 }
+fn all_said(a: Pushes, v: &mut [u64; 16]) -> u8
     ensures { Replied (all_said a) result v.old v.new }
 {
-    let x = a.progress;
-    let h = a.halt;
-    let code = halt_code(h);
-    let number = halt_number(h);
     values::says(
         v,
         &[
-            x.at as u64,
-            x.packets as u64,
-            x.records as u64,
-            x.bytes as u64,
-            code,
-            number,
+            a.progress.at as u64,
+            a.progress.packets as u64,
+            a.progress.records as u64,
+            a.progress.bytes as u64,
+            halt_code(a.halt),
+            halt_number(a.halt),
         ],
     )
 }
@@ -170,35 +199,56 @@ pub extern "C" fn isdb_push_all(
 ) -> u8
     ensures { HostPushedAll (lent state.old others.old objects.old messages.old tables.old) input.now most rows.old out.old lines.old result (lent state.new others.new objects.new messages.new tables.new) rows.new out.new lines.new v.old v.new }
 {
-    let a = decoder::push_all(
-        state, others, objects, messages, tables, input, most, rows, out, lines,
-    );
-    all_said(a, v)
+    let mut session = SessionMut {
+        state,
+        others,
+        objects,
+        messages,
+        tables,
+    };
+    all_said(session.push_all(input, most, rows, out, lines), v)
 }
 
-fn counters_said(r: Result<Counters, Refusal>, v: &mut [u64]) -> u8
-    requires { length v.old ≡ 16 }
-    ensures { Replied (counters_said r) result v.old v.new }
+// A session, to be read.
+fn lent_session<'a>(
+    state: &'a [u8],
+    others: &'a [u64; 256],
+    objects: &'a [u8],
+    messages: &'a [u8],
+    tables: &'a [u8],
+) -> Session<'a>
+    ensures { lent_by result ≡ lent state.now others.now objects.now messages.now tables.now }
 {
-    match r {
-        Err(e) => e.number(),
-        Ok(c) => values::says(
+    Session {
+        state,
+        others,
+        objects,
+        messages,
+        tables,
+    }
+}
+
+impl Told for Counters {
+    ghost numbers = { counter_numbers };
+
+    fn told(self, v: &mut [u64; 16]) -> u8 {
+        values::says(
             v,
             &[
-                c.tlv_packets,
-                c.ip_errors,
-                c.non_mmtp,
-                c.ntp,
-                c.tables,
-                c.crc_errors,
-                c.malformed,
-                c.version_changes,
-                c.orphan_fragments,
-                c.oversize,
-                c.message_malformed,
-                c.split_errors,
+                self.tlv_packets,
+                self.ip_errors,
+                self.non_mmtp,
+                self.ntp,
+                self.tables,
+                self.crc_errors,
+                self.malformed,
+                self.version_changes,
+                self.orphan_fragments,
+                self.oversize,
+                self.message_malformed,
+                self.split_errors,
             ],
-        ),
+        )
     }
 }
 
@@ -214,25 +264,10 @@ pub extern "C" fn isdb_counters(
 ) -> u8
     ensures { Replied (counters_said (counters_read (lent state.now others.now objects.now messages.now tables.now))) result v.old v.new }
 {
-    let session = Session {
-        state,
-        others,
-        objects,
-        messages,
-        tables,
-    };
-    counters_said(session.counters(), v)
-}
-
-fn time_said(r: Result<Option<u64>, Refusal>, v: &mut [u64]) -> u8
-    requires { length v.old ≡ 16 }
-    ensures { Replied (time_said r) result v.old v.new }
-{
-    match r {
-        Err(e) => e.number(),
-        Ok(None) => values::NOTHING,
-        Ok(Some(t)) => values::says(v, &[t]),
-    }
+    answer(
+        lent_session(state, others, objects, messages, tables).counters(),
+        v,
+    )
 }
 
 // The last NTP timestamp.
@@ -247,24 +282,10 @@ pub extern "C" fn isdb_time(
 ) -> u8
     ensures { Replied (time_said (time_read (lent state.now others.now objects.now messages.now tables.now))) result v.old v.new }
 {
-    let session = Session {
-        state,
-        others,
-        objects,
-        messages,
-        tables,
-    };
-    time_said(session.time(), v)
-}
-
-fn count_said(r: Result<u64, Refusal>, v: &mut [u64]) -> u8
-    requires { length v.old ≡ 16 }
-    ensures { Replied (count_said r) result v.old v.new }
-{
-    match r {
-        Err(e) => e.number(),
-        Ok(n) => values::says(v, &[n]),
-    }
+    reading(
+        lent_session(state, others, objects, messages, tables).time(),
+        v,
+    )
 }
 
 // How many tables of an id came that are not decoded.
@@ -280,25 +301,10 @@ pub extern "C" fn isdb_table_count(
 ) -> u8
     ensures { Replied (count_said (count_read (lent state.now others.now objects.now messages.now tables.now) id)) result v.old v.new }
 {
-    let session = Session {
-        state,
-        others,
-        objects,
-        messages,
-        tables,
-    };
-    count_said(session.table_count(id), v)
-}
-
-fn name_said(r: Result<Option<u32>, Refusal>, v: &mut [u64]) -> u8
-    requires { length v.old ≡ 16 }
-    ensures { Replied (name_said r) result v.old v.new }
-{
-    match r {
-        Err(e) => e.number(),
-        Ok(None) => values::NOTHING,
-        Ok(Some(x)) => values::says(v, &[x as u64]),
-    }
+    answer(
+        lent_session(state, others, objects, messages, tables).table_count(id),
+        v,
+    )
 }
 
 // The least media packet id from one on.
@@ -314,14 +320,10 @@ pub extern "C" fn isdb_next_media(
 ) -> u8
     ensures { Replied (name_said (next_media_read (lent state.now others.now objects.now messages.now tables.now) from)) result v.old v.new }
 {
-    let session = Session {
-        state,
-        others,
-        objects,
-        messages,
-        tables,
-    };
-    name_said(session.next_media(from), v)
+    reading(
+        lent_session(state, others, objects, messages, tables).next_media(from),
+        v,
+    )
 }
 
 // The least packet id of control messages from one on.
@@ -337,14 +339,10 @@ pub extern "C" fn isdb_next_control(
 ) -> u8
     ensures { Replied (name_said (next_control_read (lent state.now others.now objects.now messages.now tables.now) from)) result v.old v.new }
 {
-    let session = Session {
-        state,
-        others,
-        objects,
-        messages,
-        tables,
-    };
-    name_said(session.next_control(from), v)
+    reading(
+        lent_session(state, others, objects, messages, tables).next_control(from),
+        v,
+    )
 }
 
 // The least key of a kept section from first to last.
@@ -361,53 +359,38 @@ pub extern "C" fn isdb_next_key(
 ) -> u8
     ensures { Replied (name_said (next_key_read (lent state.now others.now objects.now messages.now tables.now) first last)) result v.old v.new }
 {
-    let session = Session {
-        state,
-        others,
-        objects,
-        messages,
-        tables,
-    };
-    name_said(session.next_key(first, last), v)
+    reading(
+        lent_session(state, others, objects, messages, tables).next_key(first, last),
+        v,
+    )
 }
 
-fn media_told(m: MediaState, v: &mut [u64]) -> u8
-    requires { length v.old ≡ 16 }
-    ensures { Replied (Reply.says (media_numbers m)) result v.old v.new }
-{
-    let s = m.stats;
-    let range = m.mpu_range;
-    let sequence = m.sequence;
-    let held = m.held;
-    let x = [
-        s.packets,
-        s.packets_lost,
-        s.scrambled_packets,
-        s.mfus,
-        s.scrambled_mfus,
-        s.mfus_dropped,
-        s.mpus,
-        s.mpu_sequence_jumps,
-        s.malformed,
-        fields::given_range(range),
-        fields::first_mpu(range),
-        fields::last_mpu(range),
-        maybe::given(sequence),
-        sequence.unwrap_or(0) as u64,
-        maybe::given(held),
-        held.unwrap_or(0) as u64,
-    ];
-    values::says(v, &x)
-}
+impl Told for MediaState {
+    ghost numbers = { media_numbers };
 
-fn media_said(r: Result<Option<MediaState>, Refusal>, v: &mut [u64]) -> u8
-    requires { length v.old ≡ 16 }
-    ensures { Replied (media_said r) result v.old v.new }
-{
-    match r {
-        Err(e) => e.number(),
-        Ok(None) => values::NOTHING,
-        Ok(Some(m)) => media_told(m, v),
+    fn told(self, v: &mut [u64; 16]) -> u8 {
+        let s = self.stats;
+        values::says(
+            v,
+            &[
+                s.packets,
+                s.packets_lost,
+                s.scrambled_packets,
+                s.mfus,
+                s.scrambled_mfus,
+                s.mfus_dropped,
+                s.mpus,
+                s.mpu_sequence_jumps,
+                s.malformed,
+                maybe::given(self.mpu_range),
+                fields::first_mpu(self.mpu_range),
+                fields::last_mpu(self.mpu_range),
+                maybe::given(self.sequence),
+                self.sequence.unwrap_or(0) as u64,
+                maybe::given(self.held),
+                self.held.unwrap_or(0) as u64,
+            ],
+        )
     }
 }
 
@@ -424,50 +407,45 @@ pub extern "C" fn isdb_media(
 ) -> u8
     ensures { Replied (media_said (media_read (lent state.now others.now objects.now messages.now tables.now) id)) result v.old v.new }
 {
-    let session = Session {
-        state,
-        others,
-        objects,
-        messages,
-        tables,
-    };
-    media_said(session.media(id), v)
+    reading(
+        lent_session(state, others, objects, messages, tables).media(id),
+        v,
+    )
 }
 
-fn held_told(o: HeldObject, v: &mut [u64]) -> u8
-    requires { length v.old ≡ 16 }
-    ensures { Replied (Reply.says (held_numbers o)) result v.old v.new }
-{
-    let mfu = o.mfu;
-    let h = mfu.unwrap_or(mpu::NO_HEADER);
-    let item = o.item_id;
-    let p = o.bytes;
-    let x = [
-        o.mpu_sequence_number as u64,
-        u64::from(o.rap),
-        u64::from(mfu.is_some()),
-        h.movie_fragment_sequence_number as u64,
-        h.sample_number as u64,
-        h.offset as u64,
-        h.priority as u64,
-        h.dependency_counter as u64,
-        maybe::given(item),
-        item.unwrap_or(0) as u64,
-        p.start as u64,
-        p.length as u64,
-    ];
-    values::says(v, &x)
+impl Told for HeldObject {
+    ghost numbers = { held_numbers };
+
+    fn told(self, v: &mut [u64; 16]) -> u8 {
+        let h = self.mfu.unwrap_or(mpu::NO_HEADER);
+        values::says(
+            v,
+            &[
+                self.mpu_sequence_number as u64,
+                u64::from(self.rap),
+                maybe::given(self.mfu),
+                h.movie_fragment_sequence_number as u64,
+                h.sample_number as u64,
+                h.offset as u64,
+                h.priority as u64,
+                h.dependency_counter as u64,
+                maybe::given(self.item_id),
+                self.item_id.unwrap_or(0) as u64,
+                self.bytes.start as u64,
+                self.bytes.length as u64,
+            ],
+        )
+    }
 }
 
-fn held_said(r: Result<Held, Refusal>, v: &mut [u64]) -> u8
-    requires { length v.old ≡ 16 }
+fn held_said(r: Result<Held, Refusal>, v: &mut [u64; 16]) -> u8
     ensures { Replied (held_said r) result v.old v.new }
 {
     match r {
         Err(e) => e.number(),
         Ok(Held::NoId) => values::NO_ID,
         Ok(Held::NoObject) => values::NOTHING,
-        Ok(Held::Object(o)) => held_told(o, v),
+        Ok(Held::Object(o)) => o.told(v),
     }
 }
 
@@ -484,39 +462,25 @@ pub extern "C" fn isdb_held(
 ) -> u8
     ensures { Replied (held_said (held_read (lent state.now others.now objects.now messages.now tables.now) id)) result v.old v.new }
 {
-    let session = Session {
-        state,
-        others,
-        objects,
-        messages,
-        tables,
-    };
-    held_said(session.held(id), v)
+    held_said(
+        lent_session(state, others, objects, messages, tables).held(id),
+        v,
+    )
 }
 
-fn control_told(c: ControlState, v: &mut [u64]) -> u8
-    requires { length v.old ≡ 16 }
-    ensures { Replied (Reply.says (control_numbers c)) result v.old v.new }
-{
-    let sequence = c.sequence;
-    let joined = c.joined;
-    let x = [
-        maybe::given(sequence),
-        sequence.unwrap_or(0) as u64,
-        maybe::given(joined),
-        joined.unwrap_or(0) as u64,
-    ];
-    values::says(v, &x)
-}
+impl Told for ControlState {
+    ghost numbers = { control_numbers };
 
-fn control_said(r: Result<Option<ControlState>, Refusal>, v: &mut [u64]) -> u8
-    requires { length v.old ≡ 16 }
-    ensures { Replied (control_said r) result v.old v.new }
-{
-    match r {
-        Err(e) => e.number(),
-        Ok(None) => values::NOTHING,
-        Ok(Some(c)) => control_told(c, v),
+    fn told(self, v: &mut [u64; 16]) -> u8 {
+        values::says(
+            v,
+            &[
+                maybe::given(self.sequence),
+                self.sequence.unwrap_or(0) as u64,
+                maybe::given(self.joined),
+                self.joined.unwrap_or(0) as u64,
+            ],
+        )
     }
 }
 
@@ -533,25 +497,10 @@ pub extern "C" fn isdb_control(
 ) -> u8
     ensures { Replied (control_said (control_read (lent state.now others.now objects.now messages.now tables.now) id)) result v.old v.new }
 {
-    let session = Session {
-        state,
-        others,
-        objects,
-        messages,
-        tables,
-    };
-    control_said(session.control(id), v)
-}
-
-fn table_said(r: Result<Option<Part>, Refusal>, v: &mut [u64]) -> u8
-    requires { length v.old ≡ 16 }
-    ensures { Replied (table_said r) result v.old v.new }
-{
-    match r {
-        Err(e) => e.number(),
-        Ok(None) => values::NOTHING,
-        Ok(Some(p)) => values::says(v, &[p.start as u64, p.length as u64]),
-    }
+    reading(
+        lent_session(state, others, objects, messages, tables).control(id),
+        v,
+    )
 }
 
 // The section kept for a key.
@@ -567,14 +516,10 @@ pub extern "C" fn isdb_section(
 ) -> u8
     ensures { Replied (table_said (section_read (lent state.now others.now objects.now messages.now tables.now) key)) result v.old v.new }
 {
-    let session = Session {
-        state,
-        others,
-        objects,
-        messages,
-        tables,
-    };
-    table_said(session.section(key), v)
+    reading(
+        lent_session(state, others, objects, messages, tables).section(key),
+        v,
+    )
 }
 
 // The MPT kept for a packet id of control messages.
@@ -590,14 +535,10 @@ pub extern "C" fn isdb_mpt(
 ) -> u8
     ensures { Replied (table_said (mpt_read (lent state.now others.now objects.now messages.now tables.now) control_id)) result v.old v.new }
 {
-    let session = Session {
-        state,
-        others,
-        objects,
-        messages,
-        tables,
-    };
-    table_said(session.mpt(control_id), v)
+    reading(
+        lent_session(state, others, objects, messages, tables).mpt(control_id),
+        v,
+    )
 }
 
 // The kept PLT.
@@ -612,14 +553,10 @@ pub extern "C" fn isdb_plt(
 ) -> u8
     ensures { Replied (table_said (plt_read (lent state.now others.now objects.now messages.now tables.now))) result v.old v.new }
 {
-    let session = Session {
-        state,
-        others,
-        objects,
-        messages,
-        tables,
-    };
-    table_said(session.plt(), v)
+    reading(
+        lent_session(state, others, objects, messages, tables).plt(),
+        v,
+    )
 }
 
 // The kept TOT.
@@ -634,53 +571,37 @@ pub extern "C" fn isdb_tot(
 ) -> u8
     ensures { Replied (table_said (tot_read (lent state.now others.now objects.now messages.now tables.now))) result v.old v.new }
 {
-    let session = Session {
-        state,
-        others,
-        objects,
-        messages,
-        tables,
-    };
-    table_said(session.tot(), v)
+    reading(
+        lent_session(state, others, objects, messages, tables).tot(),
+        v,
+    )
 }
 
-fn asset_told(x: CarriedAsset, v: &mut [u64]) -> u8
-    requires { length v.old ≡ 16 }
-    ensures { Replied (Reply.says (asset_numbers x)) result v.old v.new }
-{
-    let m = x.mpt;
-    let service = x.service_id;
-    let a = x.asset;
-    let id = a.asset_id;
-    let d = a.descriptors;
-    let n = [
-        x.control_id as u64,
-        m.start as u64,
-        m.length as u64,
-        maybe::given(service),
-        service.unwrap_or(0) as u64,
-        a.identifier_type as u64,
-        a.asset_id_scheme as u64,
-        id.start as u64,
-        id.length as u64,
-        a.asset_type as u64,
-        u64::from(a.clock_relation),
-        a.locations as u64,
-        a.locations_start as u64,
-        d.start as u64,
-        d.length as u64,
-    ];
-    values::says(v, &n)
-}
+impl Told for CarriedAsset {
+    ghost numbers = { asset_numbers };
 
-fn asset_said(r: Result<Option<CarriedAsset>, Refusal>, v: &mut [u64]) -> u8
-    requires { length v.old ≡ 16 }
-    ensures { Replied (asset_said r) result v.old v.new }
-{
-    match r {
-        Err(e) => e.number(),
-        Ok(None) => values::NOTHING,
-        Ok(Some(x)) => asset_told(x, v),
+    fn told(self, v: &mut [u64; 16]) -> u8 {
+        let a = self.asset;
+        values::says(
+            v,
+            &[
+                self.control_id as u64,
+                self.mpt.start as u64,
+                self.mpt.length as u64,
+                maybe::given(self.service_id),
+                self.service_id.unwrap_or(0) as u64,
+                a.identifier_type as u64,
+                a.asset_id_scheme as u64,
+                a.asset_id.start as u64,
+                a.asset_id.length as u64,
+                a.asset_type as u64,
+                u64::from(a.clock_relation),
+                a.locations as u64,
+                a.locations_start as u64,
+                a.descriptors.start as u64,
+                a.descriptors.length as u64,
+            ],
+        )
     }
 }
 
@@ -697,12 +618,8 @@ pub extern "C" fn isdb_asset_of(
 ) -> u8
     ensures { Replied (asset_said (asset_read (lent state.now others.now objects.now messages.now tables.now) packet_id)) result v.old v.new }
 {
-    let session = Session {
-        state,
-        others,
-        objects,
-        messages,
-        tables,
-    };
-    asset_said(session.asset_of(packet_id), v)
+    reading(
+        lent_session(state, others, objects, messages, tables).asset_of(packet_id),
+        v,
+    )
 }

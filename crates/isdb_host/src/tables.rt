@@ -1,5 +1,5 @@
 // The calls on tables: what a table's bytes hold, and the walks of its parts.
-ghost use Rattle.std.specs.Prelude.{◌≡◌, length};
+ghost use Rattle.std.specs.Prelude.{◌≡◌};
 ghost use Rattle.isdb_mmt.specs.Formats.Amt.{amt_of, service_at};
 ghost use Rattle.isdb_mmt.specs.Formats.Bit.{bit_of, broadcaster_step};
 ghost use Rattle.isdb_mmt.specs.Formats.Eit.{eit_of, event_step};
@@ -9,52 +9,50 @@ ghost use Rattle.isdb_mmt.specs.Formats.Plt.{plt_of, package_at_of, delivery_at_
 ghost use Rattle.isdb_mmt.specs.Formats.Sdt.{sdt_of, service_step};
 ghost use Rattle.isdb_mmt.specs.Formats.Tot.{tot_of};
 ghost use Rattle.isdb_host.specs.Values.{Reply, Replied};
-ghost use Rattle.isdb_host.specs.Tables.{headed, mpt_said, asset_said, plt_said, package_said, delivery_said, eit_said, sdt_said, bit_said, nit_said, amt_said, tot_said};
+ghost use Rattle.isdb_host.specs.Tables.{delivery_numbers, amt_service_numbers, package_numbers, plt_numbers, headed, mpt_said, asset_said, plt_said, package_said, delivery_said, eit_said, sdt_said, bit_said, nit_said, amt_said, tot_said};
 ghost use Rattle.isdb_host.specs.Tables.{event_said, service_said, broadcaster_said, stream_said, flow_said};
 
+use crate::values::{Told, found};
 use crate::{fields, values};
 use isdb_mmt::maybe;
 use isdb_mmt::table::amt::{Amt, AmtService};
-use isdb_mmt::table::bit::{Bit, BroadcasterStep};
-use isdb_mmt::table::eit::{Eit, EventStep};
+use isdb_mmt::table::bit::{Bit, Broadcaster};
+use isdb_mmt::table::eit::{Eit, Event};
 use isdb_mmt::table::mpt::{Asset, MptParsed};
-use isdb_mmt::table::nit::{Nit, StreamStep};
+use isdb_mmt::table::nit::{Nit, NitStream};
 use isdb_mmt::table::plt::{IpDelivery, Package, Plt};
-use isdb_mmt::table::sdt::{Sdt, SdtStep};
+use isdb_mmt::table::sdt::{Sdt, SdtService};
 use isdb_mmt::table::section::{Parsed, SectionError, SectionHeader};
 use isdb_mmt::table::tot::Tot;
 use isdb_mmt::table::{amt, bit, eit, mpt, nit, plt, sdt, tot};
+use isdb_mmt::walk_step::WalkStep;
 
-fn mpt_said(r: MptParsed, t: &[u8], v: &mut [u64]) -> u8
-    requires { length v.old ≡ 16 }
+// Not `Told`: the service id is read from the table's bytes; the same of an asset.
+fn mpt_said(r: MptParsed, t: &[u8], v: &mut [u64; 16]) -> u8
     ensures { Replied (mpt_said t.now r) result v.old v.new }
 {
-    let m = r.mpt;
-    match m {
-        None => values::MALFORMED,
-        Some(m) => {
-            let id = m.package_id;
-            let d = m.descriptors;
-            let service = m.service_id(t);
-            values::says(
-                v,
-                &[
-                    m.table_id as u64,
-                    m.version as u64,
-                    m.mode as u64,
-                    id.start as u64,
-                    id.length as u64,
-                    d.start as u64,
-                    d.length as u64,
-                    m.assets as u64,
-                    m.start as u64,
-                    maybe::given(service),
-                    service.unwrap_or(0) as u64,
-                    r.breaks as u64,
-                ],
-            )
-        }
-    }
+    let MptParsed { mpt, breaks } = r;
+    let Some(m) = mpt else {
+        return values::MALFORMED;
+    };
+    let service = m.service_id(t);
+    values::says(
+        v,
+        &[
+            m.table_id as u64,
+            m.version as u64,
+            m.mode as u64,
+            m.package_id.start as u64,
+            m.package_id.length as u64,
+            m.descriptors.start as u64,
+            m.descriptors.length as u64,
+            m.assets as u64,
+            m.start as u64,
+            maybe::given(service),
+            service.unwrap_or(0) as u64,
+            breaks as u64,
+        ],
+    )
 }
 
 // An MPT, its table id first.
@@ -62,40 +60,34 @@ fn mpt_said(r: MptParsed, t: &[u8], v: &mut [u64]) -> u8
 pub extern "C" fn isdb_mpt_parse(t: &[u8], v: &mut [u64; 16]) -> u8
     ensures { Replied (mpt_said t.now (mpt_of t.now)) result v.old v.new }
 {
-    let r = mpt::parse(t);
-    mpt_said(r, t, v)
+    mpt_said(mpt::parse(t), t, v)
 }
 
-fn asset_said(r: Option<(Asset, usize)>, t: &[u8], v: &mut [u64]) -> u8
-    requires { length v.old ≡ 16 }
+fn asset_said(r: Option<(Asset, usize)>, t: &[u8], v: &mut [u64; 16]) -> u8
     ensures { Replied (asset_said t.now r) result v.old v.new }
 {
-    match r {
-        None => values::MALFORMED,
-        Some((a, next)) => {
-            let id = a.asset_id;
-            let d = a.descriptors;
-            let packet_id = a.packet_id(t);
-            values::says(
-                v,
-                &[
-                    a.identifier_type as u64,
-                    a.asset_id_scheme as u64,
-                    id.start as u64,
-                    id.length as u64,
-                    a.asset_type as u64,
-                    u64::from(a.clock_relation),
-                    a.locations as u64,
-                    a.locations_start as u64,
-                    d.start as u64,
-                    d.length as u64,
-                    maybe::given(packet_id),
-                    packet_id.unwrap_or(0) as u64,
-                    next as u64,
-                ],
-            )
-        }
-    }
+    let Some((a, next)) = r else {
+        return values::MALFORMED;
+    };
+    let packet_id = a.packet_id(t);
+    values::says(
+        v,
+        &[
+            a.identifier_type as u64,
+            a.asset_id_scheme as u64,
+            a.asset_id.start as u64,
+            a.asset_id.length as u64,
+            a.asset_type as u64,
+            u64::from(a.clock_relation),
+            a.locations as u64,
+            a.locations_start as u64,
+            a.descriptors.start as u64,
+            a.descriptors.length as u64,
+            maybe::given(packet_id),
+            packet_id.unwrap_or(0) as u64,
+            next as u64,
+        ],
+    )
 }
 
 // The asset at a place of an MPT.
@@ -103,27 +95,22 @@ fn asset_said(r: Option<(Asset, usize)>, t: &[u8], v: &mut [u64]) -> u8
 pub extern "C" fn isdb_asset_at(t: &[u8], at: usize, v: &mut [u64; 16]) -> u8
     ensures { Replied (asset_said t.now (asset_at_of t.now at)) result v.old v.new }
 {
-    let r = mpt::asset_at(t, at);
-    asset_said(r, t, v)
+    asset_said(mpt::asset_at(t, at), t, v)
 }
 
-fn plt_said(r: Option<Plt>, v: &mut [u64]) -> u8
-    requires { length v.old ≡ 16 }
-    ensures { Replied (plt_said r) result v.old v.new }
-{
-    match r {
-        None => values::MALFORMED,
-        Some(p) => {
-            values::says(
-                v,
-                &[
-                    p.version as u64,
-                    p.packages as u64,
-                    p.ip_deliveries as u64,
-                    p.deliveries_start as u64,
-                ],
-            )
-        }
+impl Told for Plt {
+    ghost numbers = { plt_numbers };
+
+    fn told(self, v: &mut [u64; 16]) -> u8 {
+        values::says(
+            v,
+            &[
+                self.version as u64,
+                self.packages as u64,
+                self.ip_deliveries as u64,
+                self.deliveries_start as u64,
+            ],
+        )
     }
 }
 
@@ -132,28 +119,23 @@ fn plt_said(r: Option<Plt>, v: &mut [u64]) -> u8
 pub extern "C" fn isdb_plt_parse(t: &[u8], v: &mut [u64; 16]) -> u8
     ensures { Replied (plt_said (plt_of t.now)) result v.old v.new }
 {
-    let r = plt::parse(t);
-    plt_said(r, v)
+    found(plt::parse(t), values::MALFORMED, v)
 }
 
-fn package_said(r: Option<(Package, usize)>, v: &mut [u64]) -> u8
-    requires { length v.old ≡ 16 }
-    ensures { Replied (package_said r) result v.old v.new }
-{
-    match r {
-        None => values::MALFORMED,
-        Some((p, next)) => {
-            let id = p.package_id;
-            values::says(
-                v,
-                &[
-                    id.start as u64,
-                    id.length as u64,
-                    p.location_start as u64,
-                    next as u64,
-                ],
-            )
-        }
+impl Told for (Package, usize) {
+    ghost numbers = { package_numbers };
+
+    fn told(self, v: &mut [u64; 16]) -> u8 {
+        let (p, next) = self;
+        values::says(
+            v,
+            &[
+                p.package_id.start as u64,
+                p.package_id.length as u64,
+                p.location_start as u64,
+                next as u64,
+            ],
+        )
     }
 }
 
@@ -162,26 +144,22 @@ fn package_said(r: Option<(Package, usize)>, v: &mut [u64]) -> u8
 pub extern "C" fn isdb_package_at(t: &[u8], at: usize, v: &mut [u64; 16]) -> u8
     ensures { Replied (package_said (package_at_of t.now at)) result v.old v.new }
 {
-    let r = plt::package_at(t, at);
-    package_said(r, v)
+    found(plt::package_at(t, at), values::MALFORMED, v)
 }
 
-fn delivery_said(r: Option<(IpDelivery, usize)>, v: &mut [u64]) -> u8
-    requires { length v.old ≡ 16 }
-    ensures { Replied (delivery_said r) result v.old v.new }
-{
-    match r {
-        None => values::MALFORMED,
-        Some((d, next)) => {
-            values::says(
-                v,
-                &[
-                    d.transport_file_id as u64,
-                    d.location_type as u64,
-                    next as u64,
-                ],
-            )
-        }
+impl Told for (IpDelivery, usize) {
+    ghost numbers = { delivery_numbers };
+
+    fn told(self, v: &mut [u64; 16]) -> u8 {
+        let (d, next) = self;
+        values::says(
+            v,
+            &[
+                d.transport_file_id as u64,
+                d.location_type as u64,
+                next as u64,
+            ],
+        )
     }
 }
 
@@ -190,43 +168,42 @@ fn delivery_said(r: Option<(IpDelivery, usize)>, v: &mut [u64]) -> u8
 pub extern "C" fn isdb_delivery_at(t: &[u8], at: usize, v: &mut [u64; 16]) -> u8
     ensures { Replied (delivery_said (delivery_at_of t.now at)) result v.old v.new }
 {
-    let r = plt::delivery_at(t, at);
-    delivery_said(r, v)
+    found(plt::delivery_at(t, at), values::MALFORMED, v)
 }
 
-// Answers a section's header, and these numbers behind it, eight at most.
-fn says_section(v: &mut [u64], h: SectionHeader, more: &[u64]) -> u8
-    requires { length v.old ≡ 16 }
+// Answers a section's header, and these numbers behind it, eight at most; all sixteen are listed, a loop over the eight is no plainer.
+fn says_section(v: &mut [u64; 16], h: SectionHeader, more: &[u64]) -> u8
     ensures { Replied (Reply.says (headed h more.now)) result v.old v.new }
 {
-    let body = h.body;
-    let numbers = [
-        h.table_id as u64,
-        h.extension as u64,
-        h.version as u64,
-        u64::from(h.current),
-        h.section_number as u64,
-        h.last_section_number as u64,
-        body.start as u64,
-        body.length as u64,
-        maybe::number_at(more, 0),
-        maybe::number_at(more, 1),
-        maybe::number_at(more, 2),
-        maybe::number_at(more, 3),
-        maybe::number_at(more, 4),
-        maybe::number_at(more, 5),
-        maybe::number_at(more, 6),
-        maybe::number_at(more, 7),
-    ];
-    values::says(v, &numbers)
+    values::says(
+        v,
+        &[
+            h.table_id as u64,
+            h.extension as u64,
+            h.version as u64,
+            u64::from(h.current),
+            h.section_number as u64,
+            h.last_section_number as u64,
+            h.body.start as u64,
+            h.body.length as u64,
+            maybe::number_at(more, 0),
+            maybe::number_at(more, 1),
+            maybe::number_at(more, 2),
+            maybe::number_at(more, 3),
+            maybe::number_at(more, 4),
+            maybe::number_at(more, 5),
+            maybe::number_at(more, 6),
+            maybe::number_at(more, 7),
+        ],
+    )
 }
 
-fn eit_said(r: Parsed<(SectionHeader, Eit)>, v: &mut [u64]) -> u8
-    requires { length v.old ≡ 16 }
+// The six sections are matched in place: four tell what lies beside the result too, and a generic function for that is no plainer.
+fn eit_said(r: Parsed<(SectionHeader, Eit)>, v: &mut [u64; 16]) -> u8
     ensures { Replied (eit_said r) result v.old v.new }
 {
-    let q = r.result;
-    match q {
+    let Parsed { result, breaks } = r;
+    match result {
         Err(e) => fields::reason(e),
         Ok((h, t)) => {
             says_section(
@@ -238,7 +215,7 @@ fn eit_said(r: Parsed<(SectionHeader, Eit)>, v: &mut [u64]) -> u8
                     t.segment_last_section_number as u64,
                     t.last_table_id as u64,
                     t.events as u64,
-                    r.breaks as u64,
+                    breaks as u64,
                 ],
             )
         }
@@ -250,16 +227,14 @@ fn eit_said(r: Parsed<(SectionHeader, Eit)>, v: &mut [u64]) -> u8
 pub extern "C" fn isdb_eit_parse(section: &[u8], v: &mut [u64; 16]) -> u8
     ensures { Replied (eit_said (eit_of section.now)) result v.old v.new }
 {
-    let r = eit::parse(section);
-    eit_said(r, v)
+    eit_said(eit::parse(section), v)
 }
 
-fn sdt_said(r: Parsed<(SectionHeader, Sdt)>, v: &mut [u64]) -> u8
-    requires { length v.old ≡ 16 }
+fn sdt_said(r: Parsed<(SectionHeader, Sdt)>, v: &mut [u64; 16]) -> u8
     ensures { Replied (sdt_said r) result v.old v.new }
 {
-    let q = r.result;
-    match q {
+    let Parsed { result, breaks } = r;
+    match result {
         Err(e) => fields::reason(e),
         Ok((h, t)) => {
             says_section(
@@ -268,7 +243,7 @@ fn sdt_said(r: Parsed<(SectionHeader, Sdt)>, v: &mut [u64]) -> u8
                 &[
                     t.original_network_id as u64,
                     t.services as u64,
-                    r.breaks as u64,
+                    breaks as u64,
                 ],
             )
         }
@@ -280,28 +255,25 @@ fn sdt_said(r: Parsed<(SectionHeader, Sdt)>, v: &mut [u64]) -> u8
 pub extern "C" fn isdb_sdt_parse(section: &[u8], v: &mut [u64; 16]) -> u8
     ensures { Replied (sdt_said (sdt_of section.now)) result v.old v.new }
 {
-    let r = sdt::parse(section);
-    sdt_said(r, v)
+    sdt_said(sdt::parse(section), v)
 }
 
-fn bit_said(r: Parsed<(SectionHeader, Bit)>, v: &mut [u64]) -> u8
-    requires { length v.old ≡ 16 }
+fn bit_said(r: Parsed<(SectionHeader, Bit)>, v: &mut [u64; 16]) -> u8
     ensures { Replied (bit_said r) result v.old v.new }
 {
-    let q = r.result;
-    match q {
+    let Parsed { result, breaks } = r;
+    match result {
         Err(e) => fields::reason(e),
         Ok((h, t)) => {
-            let d = t.descriptors;
             says_section(
                 v,
                 h,
                 &[
                     u64::from(t.broadcast_view_propriety),
-                    d.start as u64,
-                    d.length as u64,
+                    t.descriptors.start as u64,
+                    t.descriptors.length as u64,
                     t.broadcasters as u64,
-                    r.breaks as u64,
+                    breaks as u64,
                 ],
             )
         }
@@ -313,27 +285,23 @@ fn bit_said(r: Parsed<(SectionHeader, Bit)>, v: &mut [u64]) -> u8
 pub extern "C" fn isdb_bit_parse(section: &[u8], v: &mut [u64; 16]) -> u8
     ensures { Replied (bit_said (bit_of section.now)) result v.old v.new }
 {
-    let r = bit::parse(section);
-    bit_said(r, v)
+    bit_said(bit::parse(section), v)
 }
 
-fn nit_said(r: Result<(SectionHeader, Nit), SectionError>, v: &mut [u64]) -> u8
-    requires { length v.old ≡ 16 }
+fn nit_said(r: Result<(SectionHeader, Nit), SectionError>, v: &mut [u64; 16]) -> u8
     ensures { Replied (nit_said r) result v.old v.new }
 {
     match r {
         Err(e) => fields::reason(e),
         Ok((h, t)) => {
-            let d = t.descriptors;
-            let streams = t.loop_part;
             says_section(
                 v,
                 h,
                 &[
-                    d.start as u64,
-                    d.length as u64,
-                    streams.start as u64,
-                    streams.length as u64,
+                    t.descriptors.start as u64,
+                    t.descriptors.length as u64,
+                    t.loop_part.start as u64,
+                    t.loop_part.length as u64,
                     t.streams as u64,
                 ],
             )
@@ -346,12 +314,10 @@ fn nit_said(r: Result<(SectionHeader, Nit), SectionError>, v: &mut [u64]) -> u8
 pub extern "C" fn isdb_nit_parse(section: &[u8], v: &mut [u64; 16]) -> u8
     ensures { Replied (nit_said (nit_of section.now)) result v.old v.new }
 {
-    let r = nit::parse(section);
-    nit_said(r, v)
+    nit_said(nit::parse(section), v)
 }
 
-fn amt_said(r: Result<(SectionHeader, Amt), SectionError>, v: &mut [u64]) -> u8
-    requires { length v.old ≡ 16 }
+fn amt_said(r: Result<(SectionHeader, Amt), SectionError>, v: &mut [u64; 16]) -> u8
     ensures { Replied (amt_said r) result v.old v.new }
 {
     match r {
@@ -365,22 +331,24 @@ fn amt_said(r: Result<(SectionHeader, Amt), SectionError>, v: &mut [u64]) -> u8
 pub extern "C" fn isdb_amt_parse(section: &[u8], v: &mut [u64; 16]) -> u8
     ensures { Replied (amt_said (amt_of section.now)) result v.old v.new }
 {
-    let r = amt::parse(section);
-    amt_said(r, v)
+    amt_said(amt::parse(section), v)
 }
 
-fn tot_said(r: Parsed<Tot>, v: &mut [u64]) -> u8
-    requires { length v.old ≡ 16 }
+fn tot_said(r: Parsed<Tot>, v: &mut [u64; 16]) -> u8
     ensures { Replied (tot_said r) result v.old v.new }
 {
-    let q = r.result;
-    match q {
+    let Parsed { result, breaks } = r;
+    match result {
         Err(e) => fields::reason(e),
         Ok(t) => {
-            let d = t.descriptors;
             values::says(
                 v,
-                &[t.jst, d.start as u64, d.length as u64, r.breaks as u64],
+                &[
+                    t.jst,
+                    t.descriptors.start as u64,
+                    t.descriptors.length as u64,
+                    breaks as u64,
+                ],
             )
         }
     }
@@ -391,19 +359,16 @@ fn tot_said(r: Parsed<Tot>, v: &mut [u64]) -> u8
 pub extern "C" fn isdb_tot_parse(section: &[u8], v: &mut [u64; 16]) -> u8
     ensures { Replied (tot_said (tot_of section.now)) result v.old v.new }
 {
-    let r = tot::parse(section);
-    tot_said(r, v)
+    tot_said(tot::parse(section), v)
 }
 
-fn event_said(r: EventStep, v: &mut [u64]) -> u8
-    requires { length v.old ≡ 16 }
+fn event_said(r: WalkStep<Event>, v: &mut [u64; 16]) -> u8
     ensures { Replied (event_said r) result v.old v.new }
 {
     match r {
-        EventStep::End => values::NOTHING,
-        EventStep::Malformed => values::MALFORMED,
-        EventStep::Event(x, next) => {
-            let d = x.descriptors;
+        WalkStep::End => values::NOTHING,
+        WalkStep::Malformed => values::MALFORMED,
+        WalkStep::Entry(x, next) => {
             values::says(
                 v,
                 &[
@@ -412,8 +377,8 @@ fn event_said(r: EventStep, v: &mut [u64]) -> u8
                     x.duration as u64,
                     x.running_status as u64,
                     u64::from(x.free_ca),
-                    d.start as u64,
-                    d.length as u64,
+                    x.descriptors.start as u64,
+                    x.descriptors.length as u64,
                     next as u64,
                 ],
             )
@@ -426,19 +391,16 @@ fn event_said(r: EventStep, v: &mut [u64]) -> u8
 pub extern "C" fn isdb_event_at(body: &[u8], at: usize, v: &mut [u64; 16]) -> u8
     ensures { Replied (event_said (event_step body.now at)) result v.old v.new }
 {
-    let r = eit::next_event(body, at);
-    event_said(r, v)
+    event_said(eit::next_event(body, at), v)
 }
 
-fn service_said(r: SdtStep, v: &mut [u64]) -> u8
-    requires { length v.old ≡ 16 }
+fn service_said(r: WalkStep<SdtService>, v: &mut [u64; 16]) -> u8
     ensures { Replied (service_said r) result v.old v.new }
 {
     match r {
-        SdtStep::End => values::NOTHING,
-        SdtStep::Malformed => values::MALFORMED,
-        SdtStep::Service(x, next) => {
-            let d = x.descriptors;
+        WalkStep::End => values::NOTHING,
+        WalkStep::Malformed => values::MALFORMED,
+        WalkStep::Entry(x, next) => {
             values::says(
                 v,
                 &[
@@ -448,8 +410,8 @@ fn service_said(r: SdtStep, v: &mut [u64]) -> u8
                     u64::from(x.eit_present_following),
                     x.running_status as u64,
                     u64::from(x.free_ca),
-                    d.start as u64,
-                    d.length as u64,
+                    x.descriptors.start as u64,
+                    x.descriptors.length as u64,
                     next as u64,
                 ],
             )
@@ -462,25 +424,22 @@ fn service_said(r: SdtStep, v: &mut [u64]) -> u8
 pub extern "C" fn isdb_service_at(body: &[u8], at: usize, v: &mut [u64; 16]) -> u8
     ensures { Replied (service_said (service_step body.now at)) result v.old v.new }
 {
-    let r = sdt::next_service(body, at);
-    service_said(r, v)
+    service_said(sdt::next_service(body, at), v)
 }
 
-fn broadcaster_said(r: BroadcasterStep, v: &mut [u64]) -> u8
-    requires { length v.old ≡ 16 }
+fn broadcaster_said(r: WalkStep<Broadcaster>, v: &mut [u64; 16]) -> u8
     ensures { Replied (broadcaster_said r) result v.old v.new }
 {
     match r {
-        BroadcasterStep::End => values::NOTHING,
-        BroadcasterStep::Malformed => values::MALFORMED,
-        BroadcasterStep::Broadcaster(x, next) => {
-            let d = x.descriptors;
+        WalkStep::End => values::NOTHING,
+        WalkStep::Malformed => values::MALFORMED,
+        WalkStep::Entry(x, next) => {
             values::says(
                 v,
                 &[
                     x.broadcaster_id as u64,
-                    d.start as u64,
-                    d.length as u64,
+                    x.descriptors.start as u64,
+                    x.descriptors.length as u64,
                     next as u64,
                 ],
             )
@@ -493,26 +452,23 @@ fn broadcaster_said(r: BroadcasterStep, v: &mut [u64]) -> u8
 pub extern "C" fn isdb_broadcaster_at(body: &[u8], at: usize, v: &mut [u64; 16]) -> u8
     ensures { Replied (broadcaster_said (broadcaster_step body.now at)) result v.old v.new }
 {
-    let r = bit::next_broadcaster(body, at);
-    broadcaster_said(r, v)
+    broadcaster_said(bit::next_broadcaster(body, at), v)
 }
 
-fn stream_said(r: StreamStep, v: &mut [u64]) -> u8
-    requires { length v.old ≡ 16 }
+fn stream_said(r: WalkStep<NitStream>, v: &mut [u64; 16]) -> u8
     ensures { Replied (stream_said r) result v.old v.new }
 {
     match r {
-        StreamStep::End => values::NOTHING,
-        StreamStep::Malformed => values::MALFORMED,
-        StreamStep::Stream(x, next) => {
-            let d = x.descriptors;
+        WalkStep::End => values::NOTHING,
+        WalkStep::Malformed => values::MALFORMED,
+        WalkStep::Entry(x, next) => {
             values::says(
                 v,
                 &[
                     x.tlv_stream_id as u64,
                     x.original_network_id as u64,
-                    d.start as u64,
-                    d.length as u64,
+                    x.descriptors.start as u64,
+                    x.descriptors.length as u64,
                     next as u64,
                 ],
             )
@@ -525,34 +481,28 @@ fn stream_said(r: StreamStep, v: &mut [u64]) -> u8
 pub extern "C" fn isdb_stream_at(streams: &[u8], at: usize, v: &mut [u64; 16]) -> u8
     ensures { Replied (stream_said (stream_step streams.now at)) result v.old v.new }
 {
-    let r = nit::next_stream(streams, at);
-    stream_said(r, v)
+    stream_said(nit::next_stream(streams, at), v)
 }
 
-fn flow_said(r: Option<(AmtService, usize)>, v: &mut [u64]) -> u8
-    requires { length v.old ≡ 16 }
-    ensures { Replied (flow_said r) result v.old v.new }
-{
-    match r {
-        None => values::MALFORMED,
-        Some((x, next)) => {
-            let src = x.src;
-            let dst = x.dst;
-            values::says(
-                v,
-                &[
-                    x.service_id as u64,
-                    fields::wide_address(src),
-                    fields::address_high(src),
-                    fields::address_low(src),
-                    x.src_mask as u64,
-                    fields::address_high(dst),
-                    fields::address_low(dst),
-                    x.dst_mask as u64,
-                    next as u64,
-                ],
-            )
-        }
+impl Told for (AmtService, usize) {
+    ghost numbers = { amt_service_numbers };
+
+    fn told(self, v: &mut [u64; 16]) -> u8 {
+        let (x, next) = self;
+        values::says(
+            v,
+            &[
+                x.service_id as u64,
+                fields::wide_address(x.src),
+                fields::address_high(x.src),
+                fields::address_low(x.src),
+                x.src_mask as u64,
+                fields::address_high(x.dst),
+                fields::address_low(x.dst),
+                x.dst_mask as u64,
+                next as u64,
+            ],
+        )
     }
 }
 
@@ -561,6 +511,5 @@ fn flow_said(r: Option<(AmtService, usize)>, v: &mut [u64]) -> u8
 pub extern "C" fn isdb_flow_at(body: &[u8], at: usize, v: &mut [u64; 16]) -> u8
     ensures { Replied (flow_said (service_at body.now at)) result v.old v.new }
 {
-    let r = amt::service_at(body, at);
-    flow_said(r, v)
+    found(amt::service_at(body, at), values::MALFORMED, v)
 }

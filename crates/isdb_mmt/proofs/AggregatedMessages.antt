@@ -9,10 +9,10 @@ use Rattle.isdb_tlv.proofs.Guards.{cond_elim}
 use Rattle.isdb_mmt.proofs.Places.{Lies}
 use Rattle.isdb_mmt.specs.Formats.Message.{prefix_width, aggregated_at, aggregated_item, aggregated_from, table_at, table_item, tables_from}
 use Rattle.isdb_mmt.specs.declared.part.Part.{Part}
-use Rattle.isdb_mmt.specs.declared.message.MessageStep.{MessageStep}
-use Rattle.isdb_mmt.specs.declared.message.MessageStep.TheVariants.{End, Malformed, Message}
-use Rattle.isdb_mmt.specs.declared.message.TableStep.{TableStep}
-use Rattle.isdb_mmt.specs.declared.message.TableStep.TheVariants.{End as no_more, Malformed as bad_table, Table as table}
+use Rattle.isdb_mmt.specs.Formats.Steps.{MessageStep}
+use Rattle.isdb_mmt.specs.declared.walk_step.WalkStep.TheVariants.{End, Malformed, Entry as Message}
+use Rattle.isdb_mmt.specs.Formats.Steps.{TableStep}
+use Rattle.isdb_mmt.specs.declared.walk_step.WalkStep.TheVariants.{End as no_more, Malformed as bad_table, Entry as table}
 
 pub width_ge : (long : Bool) → 2 ≤ prefix_width long
 width_ge true = omega arith
@@ -26,6 +26,9 @@ width_le false = omega arith
 pub length_is : (s : List ℕ) → ((i : ℕ) → Fits w8 (get_or s i 0)) → (at : ℕ) (long : Bool) {w r : ℕ} → w ≡ prefix_width long → r ≡ be w s at % 2 ^ 64
     → r ≡ be w s at
 length_is s h at long {w} e n = n ∙ be_whole s h w at (omega (arith, width_le long))
+
+pub length_whole : (s : List ℕ) → ((i : ℕ) → Fits w8 (get_or s i 0)) → (at : ℕ) (long : Bool) → be (prefix_width long) s at % 2 ^ 64 ≡ be (prefix_width long) s at
+length_whole s h at long = length_is s h at long refl refl
 
 abbrev pub AggregatedInside : List ℕ → ℕ → MessageStep → Type 0
 AggregatedInside s at End = Unit {0}

@@ -27,13 +27,13 @@ use Rattle.isdb_mmt.specs.Formats.Location.{location_of}
 use Rattle.isdb_mmt.specs.Decoder.Reassembly.{PartialMessage, TablesFound, parts_of, tables_in, tables_of, tables_of_all, messages_of, cut_of}
 use Rattle.isdb_mmt.specs.Decoder.Kept.{section_of, body_read, Body, Table, empty_table, mpt_table, plt_table, tot_table, truncated_section, a_section, other_table, table_read}
 use Rattle.isdb_mmt.specs.declared.part.Part.{Part}
-use Rattle.isdb_mmt.specs.declared.message.MessageStep.{MessageStep}
-use Rattle.isdb_mmt.specs.declared.message.TableStep.{TableStep}
+use Rattle.isdb_mmt.specs.Formats.Steps.{MessageStep}
+use Rattle.isdb_mmt.specs.Formats.Steps.{TableStep}
 use Rattle.isdb_mmt.specs.declared.message.Content.{Content}
 use Rattle.isdb_mmt.specs.declared.message.Content.TheVariants.{Malformed as bad_message, Nothing, Table as one_table_of, Tables}
 use Rattle.isdb_mmt.specs.declared.mpu.Unit.{Unit as DataUnit}
-use Rattle.isdb_mmt.specs.declared.mpu.UnitStep.{UnitStep}
-use Rattle.isdb_mmt.specs.declared.mpu.UnitStep.TheVariants.{End, Malformed, Unit as found}
+use Rattle.isdb_mmt.specs.Formats.Steps.{UnitStep}
+use Rattle.isdb_mmt.specs.declared.walk_step.WalkStep.TheVariants.{End, Malformed, Entry as found}
 use Rattle.isdb_mmt.specs.declared.table.section.SectionError.{SectionError}
 use Rattle.isdb_mmt.specs.declared.table.section.SectionHeader.{SectionHeader}
 use Rattle.isdb_mmt.specs.declared.table.mpt.MptParsed.{MptParsed}

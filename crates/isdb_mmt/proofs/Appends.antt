@@ -8,8 +8,8 @@ use Rattle.isdb_mmt.specs.Formats.Mpu.{unit_step, units_from, units_of}
 use Rattle.isdb_mmt.specs.Memory.Lent.{over}
 use Rattle.isdb_mmt.specs.Pushes.MediaCommit.{data_in, units_data, CanAppend}
 use Rattle.isdb_mmt.specs.declared.mpu.Unit.{Unit as DataUnit}
-use Rattle.isdb_mmt.specs.declared.mpu.UnitStep.{UnitStep}
-use Rattle.isdb_mmt.specs.declared.mpu.UnitStep.TheVariants.{End, Malformed as not_whole, Unit as found}
+use Rattle.isdb_mmt.specs.Formats.Steps.{UnitStep}
+use Rattle.isdb_mmt.specs.declared.walk_step.WalkStep.TheVariants.{End, Malformed as not_whole, Entry as found}
 use Rattle.isdb_mmt.proofs.Lent.{length_over, over_next, over_none}
 use Rattle.isdb_mmt.proofs.Names.{true_not_false}
 use Rattle.isdb_mmt.proofs.Units.{units_at, units_also, whole_behind}

@@ -1,25 +1,22 @@
 -- One step on the copies: one law for each return of `note`. Assumes nothing.
-use Rattle.std.proofs.Common.{Option, ◌≡◌, ℕ, zero, suc, ◌+◌, ◌*◌, ◌<◌, ◌≤◌, max, Bool, true, false, eqb, ltb, List, [], ◌∷◌, ◌++◌, map, length, get_or, set, sym, refl, ap, ◌∙◌, inr, zero-add, add-one, arith, length-append, get_or-set_other, get_or-set_same, w8, w32, Fits, ltb-false, ltb-true, le-ltb, lt-ltb, eqb-true}
-use lib.Seq.{set_out}
-use borrow.Author.Tests.{eqb-false}
+use Rattle.std.proofs.Common.{◌≡◌, ℕ, zero, suc, ◌+◌, ◌*◌, ◌<◌, ◌≤◌, max, Bool, true, false, ltb, List, [], ◌∷◌, ◌++◌, map, length, get_or, set, sym, refl, ap, ◌∙◌, inr, zero-add, add-one, arith, length-append, w8, w32, Fits, ltb-false, ltb-true, le-ltb}
 use Rattle.isdb_tlv.specs.Fields.{written, Fit}
 use Rattle.isdb_tlv.proofs.Fields.{length_written}
 use Rattle.isdb_tlv.proofs.Guards.{either}
 use Rattle.isdb_mmt.specs.Memory.Lent.{part, over, places_from}
-use Rattle.isdb_mmt.specs.Memory.Layout.{most_sections, table_ids, section_size}
+use Rattle.isdb_mmt.specs.Memory.Layout.{most_sections, section_size}
 use Rattle.isdb_mmt.specs.Memory.Session.{section_place_of, section_fields}
 use Rattle.isdb_mmt.specs.declared.decoder.section.KeptSection.{KeptSection}
 use Rattle.isdb_mmt.proofs.Lent.{part_over, places_apart}
 use Rattle.isdb_mmt.proofs.Names.{true_not_false}
 use Rattle.isdb_mmt.proofs.Stored.{section_back}
 use Rattle.isdb_mmt.proofs.Views.{values_set, values_snoc}
-use Rattle.isdb_mmt.specs.declared.decoder.table_outcome.Recent.{Recent}
 use Rattle.isdb_mmt.specs.declared.decoder.table_outcome.TableAction.{TableAction}
-use Rattle.isdb_mmt.specs.declared.decoder.table_outcome.TableAction.TheVariants.{Nothing, Other, Mpt, Plt, Tot, Put}
+use Rattle.isdb_mmt.specs.declared.decoder.table_outcome.TableAction.TheVariants.{Put}
 use Rattle.isdb_mmt.specs.declared.decoder.table_outcome.TableOutcome.{TableOutcome}
 use Rattle.isdb_mmt.specs.declared.decoder.walk.WalkState.{WalkState}
 use Rattle.isdb_mmt.specs.Pushes.TableOutcome.{index_size, index_of}
-use Rattle.isdb_mmt.specs.Pushes.PendingTables.{most_by_table, most_before, Logged, logged, with_log, places_of, PendingTables, pending_of, recent, put_at, index_after, others_after, mpt_after, plt_after, tot_after, kept_length, pending_after, Room, PutWithin, CanApply, marked, counted_by, kept_with, filled, used_with, WalkedTo, Applied}
+use Rattle.isdb_mmt.specs.Pushes.PendingTables.{most_by_table, Logged, logged, with_log, places_of, PendingTables, pending_of, put_at, index_after, others_after, mpt_after, plt_after, tot_after, kept_length, pending_after, Room, PutWithin, CanApply, marked, counted_by, kept_with, filled, used_with, WalkedTo, Applied}
 use Rattle.isdb_mmt.proofs.TableOutcomes.{length_index}
 
 -- ---- an index with its log
@@ -102,14 +99,6 @@ module _ (ix : List ℕ) (long : length ix ≡ index_size) (x : KeptSection) (fi
 
 -- ---- counts
 
-get_d_most : (l : List ℕ) (i k most : ℕ) → ((j : ℕ) → get_or l j 0 ≤ most) → get_or (set l i (get_or l i 0 + 1)) k 0 ≤ most + 1
-get_d_most l i k most h =
-    either (ltb i (length l))
-    (λ t. either (eqb k i)
-    (λ e. let ki = eqb-true k i e in rw ki (rw (get_or-set_same l i (get_or l i 0 + 1) 0 (ltb-true i (length l) t)) (omega (arith, h i))))
-    (λ e. rw (get_or-set_other l i k (get_or l i 0 + 1) 0 (eqb-false k i e)) (omega (arith, h k))))
-    (λ t. rw (set_out l i (get_or l i 0 + 1) (ltb-false i (length l) t)) (omega (arith, h k)))
-
 -- whatever it is marked with
 pub room_marked : (g : WalkState) (others : List ℕ) (bad : ℕ) (full : Bool) (n k : ℕ) → n ≤ k → bad ≤ k → Room g others n → Room (marked g bad full) others k
 room_marked g others bad full n k h b r =
@@ -146,9 +135,6 @@ module _ (ix log others : List ℕ) (g : WalkState) (t : TableOutcome) (f : ℕ)
   abbrev d : PendingTables
   d = pending_of ix log others g
 
-  pub can_other : (id : ℕ) → (length others ≡ table_ids) × (get_or others id 0 ≤ most_before)
-  can_other id = (can.copies.others_long, can.room.each id)
-
   room_of : (r : WalkState) (os : List ℕ) → r.tables ≡ g.tables + 1 → r.crc_errors ≡ g.crc_errors + t.crc_errors
       → r.malformed ≡ g.malformed + t.malformed → r.version_changes ≡ g.version_changes + t.version_changes
       → r.split_errors ≡ g.split_errors + t.breaks → r.message_malformed ≡ g.message_malformed → ((most k : ℕ) → Room g others most → get_or os k 0 ≤ most + 1)
@@ -167,14 +153,6 @@ module _ (ix log others : List ℕ) (g : WalkState) (t : TableOutcome) (f : ℕ)
   same_others : (most k : ℕ) → Room g others most → get_or others k 0 ≤ most + 1
   same_others most k m = omega (arith, m.each k)
 
-  pub apply_stays : g.full ≡ true → Applied ix log others g t f g ix log others
-  apply_stays e =
-      record {
-        to = record { stays = λ z. z; over = λ z y. true_not_false g.full e z; now = λ z. true_not_false g.full e z; used = can.copies.used };
-        room = λ most m. room_more g others most (most + 1 * most_by_table) (omega arith) m;
-        bad = refl;
-      }
-
   module _ (gf : g.full ≡ false) (c : WalkState) (ec : c ≡ counted_by g t) where
     -- what is applied and not full
     applied_as : (z : TableAction) → t.act ≡ z → (r : WalkState) (ix' log' others' : List ℕ) → r.full ≡ g.full → pending_of ix' log' others' r ≡ applied_by d t z f
@@ -186,57 +164,6 @@ module _ (ix log others : List ℕ) (g : WalkState) (t : TableOutcome) (f : ℕ)
           now = λ y. (gf, q ∙ ap (λ (w : TableAction). applied_by d t w f) (sym ez));
           used = u;
         }
-
-    pub apply_nothing : t.act ≡ Nothing → Applied ix log others g t f c ix log others
-    apply_nothing ez =
-        let e : max g.longest 0 ≡ g.longest = omega arith in
-        rw ec
-        (record {
-          to = applied_as Nothing ez (counted_by g t) ix log others refl (rw e) can.copies.used;
-          room = room_of (counted_by g t) others refl refl refl refl refl refl same_others;
-          bad = refl;
-        })
-
-    pub apply_other : (id : ℕ) → t.act ≡ Other id → (os : List ℕ) → os ≡ set others id (get_or others id 0 + 1) → Applied ix log others g t f c ix log os
-    apply_other id ez os eo =
-        let e : max g.longest 0 ≡ g.longest = omega arith in
-        rw (ec, eo)
-        (record {
-          to = applied_as (Other id) ez (counted_by g t) ix log (set others id (get_or others id 0 + 1)) refl (rw e) can.copies.used;
-          room =
-              room_of (counted_by g t) (set others id (get_or others id 0 + 1)) refl refl refl refl refl refl
-              (λ most k m. get_d_most others id k most m.each);
-          bad = refl;
-        })
-
-    module _ (v n : ℕ) (q : Option Recent) (eq : q ≡ recent v f n) (r : WalkState) where
-      pub apply_mpt : t.act ≡ Mpt v n → r ≡ kept_with c c.used q c.plt c.tot n → Applied ix log others g t f r ix log others
-      apply_mpt ez er =
-          rw (er, ec, eq)
-          (record {
-            to = applied_as (Mpt v n) ez (kept_with (counted_by g t) g.used (recent v f n) g.plt g.tot n) ix log others refl refl can.copies.used;
-            room = room_of (kept_with (counted_by g t) g.used (recent v f n) g.plt g.tot n) others refl refl refl refl refl refl same_others;
-            bad = refl;
-          })
-
-      pub apply_plt : t.act ≡ Plt v n → r ≡ kept_with c c.used c.mpt q c.tot n → Applied ix log others g t f r ix log others
-      apply_plt ez er =
-          rw (er, ec, eq)
-          (record {
-            to = applied_as (Plt v n) ez (kept_with (counted_by g t) g.used g.mpt (recent v f n) g.tot n) ix log others refl refl can.copies.used;
-            room = room_of (kept_with (counted_by g t) g.used g.mpt (recent v f n) g.tot n) others refl refl refl refl refl refl same_others;
-            bad = refl;
-          })
-
-    pub apply_tot : (n : ℕ) (q : Option Recent) → q ≡ recent 0 f n → (r : WalkState) → t.act ≡ Tot n → r ≡ kept_with c c.used c.mpt c.plt q n
-        → Applied ix log others g t f r ix log others
-    apply_tot n q eq r ez er =
-        rw (er, ec, eq)
-        (record {
-          to = applied_as (Tot n) ez (kept_with (counted_by g t) g.used g.mpt g.plt (recent 0 f n) n) ix log others refl refl can.copies.used;
-          room = room_of (kept_with (counted_by g t) g.used g.mpt g.plt (recent 0 f n) n) others refl refl refl refl refl refl same_others;
-          bad = refl;
-        })
 
     module _ (i : ℕ) (x : KeptSection) (ez : t.act ≡ Put i x) where
       pub put_within : i ≤ g.used
@@ -295,9 +222,3 @@ module _ (ix log others : List ℕ) (g : WalkState) (t : TableOutcome) (f : ℕ)
             room = room_of r0 others refl refl refl refl refl refl same_others;
             bad = refl;
           })
-
-pub used_same : (used i : ℕ) → i < used → used ≡ used_with used i
-used_same used i h = rw (lt-ltb i used h)
-
-pub used_next : (used i : ℕ) → used ≤ i → i + 1 ≡ used_with used i
-used_next used i h = rw (le-ltb i used h)

@@ -1,9 +1,9 @@
 -- The asset that a packet id carries: one law for each return. Assumes nothing.
+use Rattle.std.specs.Option.{option_eq}
+use Rattle.std.proofs.Common.{eqb}
 use Rattle.std.proofs.Common.{◌≡◌, ℕ, zero, suc, ◌+◌, ◌-◌, ◌*◌, ◌<◌, ◌≤◌, Bool, true, false, ltb, List, [], ◌∷◌, length, sym, refl, ap, ◌∙◌, arith, ltb-false, lt-ltb}
 use Rattle.std.specs.Prelude.{Option, Some, None, Result, Ok, Err, ⊤}
 use Rattle.isdb_mmt.specs.declared.decoder.refusal.Refusal.{Refusal}
-use Rattle.isdb_mmt.specs.declared.decoder.refusal.Refusal.TheVariants.{NotASession}
-use Rattle.isdb_tlv.specs.Guards.{◌=?◌}
 use Rattle.isdb_tlv.proofs.Guards.{either}
 use Rattle.isdb_mmt.specs.Decoder.Packet.{Bytes}
 use Rattle.isdb_mmt.specs.Formats.Part.{part_of}
@@ -17,7 +17,6 @@ use Rattle.isdb_mmt.specs.Answers.KeptParts.{AllInUse}
 use Rattle.isdb_mmt.specs.declared.part.Part.{Part}
 use Rattle.isdb_mmt.specs.declared.table.mpt.Asset.{Asset}
 use Rattle.isdb_mmt.specs.declared.table.mpt.Mpt.{Mpt}
-use Rattle.isdb_mmt.specs.declared.table.mpt.MptParsed.{MptParsed}
 use Rattle.isdb_mmt.specs.declared.decoder.head.Used.{Used}
 use Rattle.isdb_mmt.specs.declared.decoder.readings.CarriedAsset.{CarriedAsset}
 use Rattle.isdb_mmt.proofs.Lent.{length_names}
@@ -26,8 +25,9 @@ use Rattle.isdb_mmt.proofs.KeptParts.{session_reached}
 
 -- ---- the first asset of an MPT
 
-pub this_some : (p : ℕ) (q : Option ℕ) (x : ℕ) → q ≡ Some x → (x =? p) ≡ is_this p q
-this_some p q x e = rw e refl
+this_equal : (p : ℕ) (q : Option ℕ) → option_eq eqb q (Some p) ≡ is_this p q
+this_equal p None = refl
+this_equal p (Some x) = refl
 
 module _ (p : ℕ) (b : Bytes) where
   -- one turn, of so many assets
@@ -57,26 +57,14 @@ module _ (p : ℕ) (b : Bytes) where
       pub carried_bad : d ≡ None → None ≡ y
       carried_bad e = sym (inv ∙ step_bad left at h (sym ed ∙ e))
 
-      module _ (a : Asset) (next : ℕ) (e : d ≡ Some (a, next)) (v : Option ℕ) (ev : v ≡ first_packet_id (locations_of a.locations b a.locations_start)) (q : Bool) (eq : q ≡ is_this p v) where
+      module _ (a : Asset) (next : ℕ) (e : d ≡ Some (a, next)) (v : Option ℕ) (ev : v ≡ first_packet_id (locations_of a.locations b a.locations_start)) (q : Bool) (eq : q ≡ option_eq eqb v (Some p)) where
         pub carried_hit : q ≡ true → Some a ≡ y
-        carried_hit t = sym (inv ∙ step_hit a next q (eq ∙ ap (is_this p) ev) left at h (sym ed ∙ e) t)
+        carried_hit t = sym (inv ∙ step_hit a next q (eq ∙ this_equal p v ∙ ap (is_this p) ev) left at h (sym ed ∙ e) t)
 
         pub carried_on : q ≡ false → y ≡ first_carried p b (assets_from (left - 1) b next).found
-        carried_on t = inv ∙ step_on a next q (eq ∙ ap (is_this p) ev) left at h (sym ed ∙ e) t
+        carried_on t = inv ∙ step_on a next q (eq ∙ this_equal p v ∙ ap (is_this p) ev) left at h (sym ed ∙ e) t
 
 -- ---- one MPT
-
-module _ (b : Bytes) (id : ℕ) (m : Part) (p : ℕ) (x : MptParsed) (ex : x ≡ mpt_of b) where
-  pub in_bad : x.mpt ≡ None → Err NotASession ≡ asset_in p id m b (mpt_of b).mpt (Ok None)
-  in_bad e = rw (← ex, e) refl
-
-  module _ (t : Mpt) (e : x.mpt ≡ Some t) (f : Option Asset) (ef : f ≡ first_carried p b (assets_from t.assets b t.start).found) where
-    pub in_none : f ≡ None → Ok None ≡ asset_in p id m b (mpt_of b).mpt (Ok None)
-    in_none d = rw (← ex, e, ← ef, d) refl
-
-    pub in_one : (a : Asset) → f ≡ Some a → (v : Option ℕ) → v ≡ service_id_of b t.package_id
-        → Ok (Some (record { control_id = id; mpt = m; service_id = v; asset = a })) ≡ asset_in p id m b (mpt_of b).mpt (Ok None)
-    in_one a d v ev = rw (← ex, e, ← ef, d, ev) refl
 
 -- ---- the control ids in order
 

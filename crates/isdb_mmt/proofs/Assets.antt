@@ -72,22 +72,30 @@ module _ (s : List ℕ) where
   end_within (suc n) at h = behind_within (locations_end n s) (end_within n) at (location_of (drop at s)) h (takes (drop at s))
 
 -- k breaks before these
-abbrev pub plus : ℕ → Loop Asset → AssetLoop
+unfoldable pub plus : ℕ → Loop Asset → AssetLoop
 plus k l = record { whole = l.whole; breaks = k + l.breaks }
 
 pub plus_zero : (l : Loop Asset) → plus 0 l ≡ loop_told l
+unfolding plus
 plus_zero l = rw zero-add
 
 -- the turns of the loop over n assets
 module _ (s : List ℕ) (at k : ℕ) where
   pub loop_end : (n : ℕ) → 0 < n → asset_at_of s at ≡ None → plus k (assets_from n s at) ≡ record { whole = false; breaks = k }
+  unfolding plus
   loop_end n h e = rw (run_stop (λ p. asset_item s (asset_at_of s p)) (λ p. ended true) at n {r = ended false} h (rw e), add-zero)
 
-  pub loop_on : (n : ℕ) {a : Asset} {next b : ℕ} → 0 < n → asset_at_of s at ≡ Some (a, next) → b ≡ broken (part_of s a.descriptors)
-      → plus (k + b) (assets_from (n - 1) s next) ≡ plus k (assets_from n s at)
-  loop_on n {a} {next} h e d =
+  pub loop_on : (n i : ℕ) {r : AssetLoop} {a : Asset} {next b : ℕ} → plus k (assets_from (n - i) s at) ≡ r → i < n
+      → asset_at_of s at ≡ Some (a, next) → b ≡ broken (part_of s a.descriptors) → plus (k + b) (assets_from (n - (i + 1)) s next) ≡ r
+  unfolding plus
+  loop_on n i {r} {a} {next} w h e d =
       let also : Loop Asset → Loop Asset = also_described s a.descriptors a in
-      rw (run_more (λ p. asset_item s (asset_at_of s p)) (λ p. ended true) at n {next = next} {f = also} h (rw e), d, add_assoc)
+      let z : n - (i + 1) ≡ n - i - 1 = omega arith in
+      rw (z, d, add_assoc) (rw (run_more (λ p. asset_item s (asset_at_of s p)) (λ p. ended true) at (n - i) {next = next} {f = also} (omega arith) (rw e)) at w)
+
+  pub loop_done : (n i : ℕ) → n ≤ i → plus k (assets_from (n - i) s at) ≡ record { whole = true; breaks = k }
+  unfolding plus
+  loop_done n i h = let e : n - i ≡ 0 = omega arith in rw (e, add-zero)
 
 -- n assets have n descriptor loops that break at most
 module _ (s : List ℕ) where

@@ -26,7 +26,7 @@ use Rattle.isdb_mmt.specs.Pushes.Leaves.{packet_leaves}
 use Rattle.isdb_tlv.specs.Guards.{◌<?◌, ◌≤?◌}
 use Rattle.isdb_mmt.specs.Decoder.Needs.{needs}
 use Rattle.isdb_mmt.specs.Pushes.Push.{Input, packet_of, most_bytes, has_places, has_areas, has_outputs, asks_of, asks_later, asks, leaves_of, reply_of, handed as handed_by}
-use Rattle.isdb_mmt.specs.Answers.Readings.{counters_read, time_read, count_read, next_media_read, next_control_read, next_key_read, media_read, held_read, control_read, section_read, mpt_read, plt_read, tot_read, asset_read, answer_number, TableTold, refused, nothing, these, told_by}
+use Rattle.isdb_mmt.specs.Answers.Readings.{counters_read, time_read, count_read, next_media_read, next_control_read, next_key_read, media_read, held_read, control_read, section_read, mpt_read, plt_read, tot_read, asset_read, TableTold, refused, nothing, these, told_by}
 use Rattle.isdb_mmt.specs.Answers.TableReadingLaws.{section_bytes, mpt_bytes, hands_out, AsKept}
 use Rattle.isdb_mmt.specs.Theorems.Calls.{kept_in, dropped_in, lost_in, held_in, Reading, counters, time, count, next_media_of, next_control_of, next_key_of, media_of, held, control_of, mpt, plt, tot, section, asset_of, reading_number, Call, push, read, after, pushes, accepted, handed, AllBytes, decoder, PushDetermined, Tells, none_kept, kept, After, Demand3, AllAsModel, AnswersAsModel}
 use Rattle.isdb_mmt.specs.declared.decoder.limits.Limits.{Limits}
@@ -45,6 +45,7 @@ use Rattle.isdb_mmt.proofs.Accepted.{push_moved, push_gave}
 use Rattle.isdb_mmt.proofs.Said.{dropped_said, lost_said, held_said_lem, kept_said}
 use Rattle.isdb_mmt.proofs.NoneDamaged.{as_kept}
 use Rattle.isdb_mmt.proofs.Demand.{demand}
+use Rattle.isdb_mmt.specs.Memory.Refusals.{answer_number}
 
 -- ---- a push, accepted or not
 

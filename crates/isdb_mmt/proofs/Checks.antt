@@ -1,7 +1,6 @@
 -- Laws of question 5: what a test of one count, one length or one place says of the whole, and what an answer yes says.
 -- Assumes nothing.
-use Rattle.std.proofs.Common.{◌≡◌, ℕ, zero, suc, ◌+◌, ◌-◌, ◌*◌, ◌<◌, ◌≤◌, Bool, true, false, cond, not, leb, max, fold, sum, List, [], ◌∷◌, ◌++◌, map, length, get_or, take, drop, sym, refl, ap, ◌∙◌, add-zero, mul-zero, mul-suc, arith, length-take-le, w8, Fits, eqb-true, le-leb, leb-true}
-use Rattle.std.proofs.lemmas.List.Sums.{sum_by-cons}
+use Rattle.std.proofs.Common.{◌≡◌, ℕ, zero, suc, ◌+◌, ◌-◌, ◌*◌, ◌<◌, ◌≤◌, Bool, true, false, cond, not, leb, max, fold, List, [], ◌∷◌, ◌++◌, map, length, get_or, take, drop, sym, refl, ap, ◌∙◌, add-zero, mul-zero, mul-suc, arith, length-take-le, w8, Fits, eqb-true, le-leb, leb-true}
 use lib.Bits.{bit_or, or_add_and, and_le_l, and_le_r}
 use Rattle.isdb_mmt.specs.Memory.Lent.{part, flag, places_from, names_from, distinct, every}
 use Rattle.isdb_mmt.specs.Memory.Session.{Session, limits_of, used_of, latest_of, counters_of, media_place_of, held_object_at, stats_of, section_place_of}
@@ -43,17 +42,13 @@ module _ (p : List ℕ) (bytes : (k : ℕ) → Fits w8 (get_or p k 0)) where
   high_fits : (at : ℕ) → be 4 p at < 2097152 → count_fits_of (be 8 p at) ≡ true
   high_fits at h = le-leb (be 8 p at) most_count (omega (arith, be_add 4 4 at p, be_lt p bytes 4 (at + 4)))
 
-  pub high_all : (n at : ℕ) → sum (names_from n 8 at p) < 2097152 → every count_fits_of (counts_from n at p) ≡ true
+  pub high_all : (halves n at : ℕ) → fold bit_or halves (names_from n 8 at p) < 2097152 → (halves < 2097152) × (every count_fits_of (counts_from n at p) ≡ true)
   unfolding every counts_from names_from
-  high_all zero at h = refl
-  high_all (suc n) at h =
-      let k : be 4 p at + sum (names_from n 8 (at + 8) p) < 2097152 = rw (sum_by-cons (λ (y : ℕ). y) (be 4 p at) (names_from n 8 (at + 8) p)) at h in
-      rw (high_fits at (omega arith)) (high_all n (at + 8) (omega arith))
-
-  pub high_sum : (n at : ℕ) → sum (names_from n 8 at p) ≤ n * 4294967295
-  unfolding names_from
-  high_sum zero at = omega arith
-  high_sum (suc n) at = rw sum_by-cons (omega (arith, be_lt p bytes 4 at, high_sum n (at + 8)))
+  high_all halves zero at h = (h, refl)
+  high_all halves (suc n) at h =
+      let k = high_all (bit_or halves (be 4 p at)) n (at + 8) h in
+      let o = or_low halves (be 4 p at) in
+      (omega arith, rw (high_fits at (omega arith)) k.1)
 
 -- a media place: its length, and its counts
 module _ (l : Limits) (p : List ℕ) (h r : Bool) (n : ℕ) (eh : h ≡ flag p held_place) (en : n ≡ be 4 p (object_place + 25))

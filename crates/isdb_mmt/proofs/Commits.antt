@@ -1,18 +1,14 @@
 -- After the commit the areas have what index and log stood for. Assumes nothing.
 use Rattle.std.specs.Prelude.{Option, None, Some}
-use Rattle.std.proofs.Common.{◌≡◌, ℕ, zero, suc, ◌+◌, ◌-◌, ◌*◌, ◌<◌, ◌≤◌, false, eqb, List, [], ◌∷◌, ◌++◌, map, length, get_or, take, drop, sym, refl, ap, ◌∙◌, add-zero, mul-le-mul_right, zero-add, add-one, arith, length-append, length-take, drop-cons, eq-eqb, ne_eqb}
+use Rattle.std.proofs.Common.{◌≡◌, ℕ, zero, suc, ◌+◌, ◌-◌, ◌*◌, ◌<◌, ◌≤◌, eqb, List, [], ◌∷◌, ◌++◌, map, length, get_or, drop, sym, refl, ap, ◌∙◌, add-zero, mul-le-mul_right, zero-add, add-one, arith, length-append, length-take, drop-cons}
 use borrow.Author.Tests.{eqb-false}
 use Rattle.isdb_tlv.proofs.Guards.{either}
 use Rattle.isdb_mmt.specs.Decoder.Packet.{Bytes}
 use Rattle.isdb_mmt.specs.Memory.Lent.{part, over, indexed, places_from}
-use Rattle.isdb_mmt.specs.Memory.Layout.{used_place, section_places, section_size, most_sections}
-use Rattle.isdb_mmt.specs.Memory.Session.{used_fields, section_place_of}
-use Rattle.isdb_mmt.specs.Pushes.MediaPush.{with_used}
-use Rattle.isdb_tlv.specs.Fields.{written}
-use Rattle.isdb_tlv.proofs.Fields.{length_written}
-use Rattle.isdb_mmt.specs.declared.decoder.section.KeptSection.{KeptSection}
+use Rattle.isdb_mmt.specs.Memory.Layout.{section_size, most_sections}
+use Rattle.isdb_mmt.specs.Memory.Session.{section_place_of}
 use Rattle.isdb_mmt.specs.Pushes.TableOutcome.{place_at, index_of, recent_length}
-use Rattle.isdb_mmt.proofs.Limits.{whole_area, areas_next}
+use Rattle.isdb_mmt.proofs.Limits.{areas_next}
 use Rattle.isdb_mmt.proofs.Lent.{length_over, over_next, over_same}
 use Rattle.isdb_mmt.proofs.Views.{area_apart}
 use Rattle.isdb_mmt.specs.Pushes.PendingTables.{Logged, logged, with_log, bytes_at, committed_entry, committed_recent}
@@ -20,12 +16,9 @@ use Rattle.isdb_mmt.specs.Formats.Part.{part_of}
 use Rattle.isdb_mmt.specs.Pushes.Placed.{behind}
 use Rattle.isdb_mmt.specs.Pushes.Leaves.{bytes_over, kept_over}
 use Rattle.isdb_mmt.specs.declared.part.Part.{Part}
-use Rattle.isdb_mmt.specs.declared.decoder.head.Used.{Used}
-use Rattle.isdb_mmt.specs.declared.decoder.limits.Limits.{Limits}
 use Rattle.isdb_mmt.specs.declared.decoder.table_outcome.Recent.{Recent}
-use Rattle.isdb_mmt.specs.declared.decoder.walk.WalkState.{WalkState}
 use Rattle.isdb_mmt.proofs.Joined.{pieces}
-use Rattle.isdb_mmt.specs.Pushes.Commit.{put_one, put_tables, put_recent, put_areas, EntryFits, AllFit, logged_from, CanPut, CanStore, CanStoreOne, CanStoreRecent, CanStoreAreas, CanStoreState}
+use Rattle.isdb_mmt.specs.Pushes.Commit.{put_one, put_tables, put_recent, EntryFits, AllFit, logged_from, CanPut, CanStore, CanStoreOne}
 
 module _ (area : ℕ) (m : Bytes) where
   -- one table
@@ -128,29 +121,6 @@ module _ (area : ℕ) (m : Bytes) where
       (λ z. rw z (sym (ap (λ (b : Bytes). over (i * area) b t) (sym (h r.length f)) ∙ over_same (i * area) r.length t)))
       (λ z. rw z)
 
--- ---- the loop
-
-module _ (tables ix log : List ℕ) (i area : ℕ) (m : Bytes) (can : CanStoreOne tables ix log i area m) (f : ℕ) (ef : f ≡ get_or log i 0) where
-  abbrev entry_here : Logged
-  entry_here = logged (place_at ix i) (get_or log i 0)
-
-  pub one_none : f ≡ 0 → tables ≡ put_one (i * area) entry_here m tables
-  one_none z = rw (eq-eqb (get_or log i 0) 0 (sym ef ∙ z))
-
-  module _ (z : f ≡ 0 → ⊥) (x : KeptSection) (ex : x ≡ place_at ix i) where
-    abbrev part_here : Part
-    part_here = record { start = f - 1; length = x.length }
-
-    pub one_can : CanPut tables (i * area) m part_here
-    one_can =
-        let s : x.length ≤ area = rw ex can.fits.small in
-        record { room = omega (arith, can.room) }
-
-    pub one_put : (t : Bytes) → t ≡ over (i * area) (part_of m part_here) tables → t ≡ put_one (i * area) entry_here m tables
-    one_put t et =
-        let q : eqb (get_or log i 0) 0 ≡ false = ne_eqb (get_or log i 0) 0 (λ y. z (ef ∙ y)) in
-        et ∙ rw (q, ex, ef)
-
 -- ---- a part of a message in two pieces
 
 module _ (s : List ℕ) (at : ℕ) (a b : Bytes) (p : Part) (can : CanPut s at (a ++ b) p) (x : Bytes) (ex : x ≡ part_of a p) (q : Part) (eq : q ≡ behind (length a) p) where
@@ -176,14 +146,7 @@ module _ (s : List ℕ) (at : ℕ) (a b : Bytes) (p : Part) (can : CanPut s at (
     put_done s' s'' e e' =
         e' ∙ ap (λ (z : List ℕ). over (at + length x) y z) e ∙ over_next at x y s put_both ∙ ap (λ (z : Bytes). over at z s) put_whole
 
--- ---- the state
-
-module _ (state ix : List ℕ) (u : Used) (can : CanStoreState state ix u) where
-  pub rows_fit : (s : List ℕ) → s ≡ with_used u state → (b : List ℕ) → b ≡ take (section_size * u.sections) ix → section_places + length b ≤ length s
-  rows_fit s e b eb =
-      let n : length (written (used_fields u)) ≡ 12 = length_written (used_fields u) in
-      let k : length (with_used u state) ≡ length state = length_over used_place (written (used_fields u)) state (omega (arith, can.long)) in
-      rw (e, k, eb) (omega (arith, length-take (section_size * u.sections) ix, can.long, can.few))
+-- ---- the loop
 
 pub record Storing (t₀ ix log : List ℕ) (used area : ℕ) (m : Bytes) (t : List ℕ) (i : ℕ) : Type 0 where
   pub up_to : i ≤ used
@@ -247,24 +210,3 @@ store_can tables ix log used area m few logs room f =
       room = room;
       each = λ i h. rw (zero-add i) at (all_each area m ix log used 0 (rw e f) i h);
     }
-
--- ---- all areas
-
-pub areas_mpt : (t ix log : List ℕ) (g : WalkState) (l : Limits) (i : ℕ) (m : Bytes) → CanStoreAreas t ix log g l i m → (n k : ℕ) (t3 : List ℕ)
-    → n ≡ length t → k ≡ n → length t3 ≡ k → CanStoreRecent t3 g.mpt (l.sections + i) l.table_area m
-areas_mpt t ix log g l i m can n k t3 e1 e2 e3 =
-    let q = whole_area (l.sections + i) (l.sections + l.control_ids + 2) l.table_area (length t) (omega (arith, can.place)) can.room in
-    record { room = omega arith; small = can.mpt }
-
-pub areas_done : (t ix log : List ℕ) (g : WalkState) (l : Limits) (i : ℕ) (m : Bytes) (t1 t2 t3 t4 : List ℕ)
-    → t1 ≡ put_tables l.table_area 0 (logged_from g.used 0 ix log) m t
-    → t2 ≡ put_recent ((l.sections + l.control_ids) * l.table_area) g.plt m t1
-    → t3 ≡ put_recent ((l.sections + l.control_ids + 1) * l.table_area) g.tot m t2
-    → t4 ≡ put_recent ((l.sections + i) * l.table_area) g.mpt m t3
-    → t4 ≡ put_areas l i g (logged_from g.used 0 ix log) m t
-areas_done t ix log g l i m t1 t2 t3 t4 e1 e2 e3 e4 =
-    e4
-    ∙ ap (λ (z : Bytes). put_recent ((l.sections + i) * l.table_area) g.mpt m z)
-    (e3
-    ∙ ap (λ (z : Bytes). put_recent ((l.sections + l.control_ids + 1) * l.table_area) g.tot m z)
-    (e2 ∙ ap (λ (z : Bytes). put_recent ((l.sections + l.control_ids) * l.table_area) g.plt m z) e1))

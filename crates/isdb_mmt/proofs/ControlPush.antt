@@ -1,6 +1,6 @@
 -- A control packet: what is asked and left is the model's. Assumes nothing.
 use Rattle.std.specs.Prelude.{None}
-use Rattle.std.proofs.Common.{◌≡◌, ℕ, ◌+◌, ◌*◌, ◌<◌, ◌≤◌, true, false, ltb, List, [], ◌++◌, map, length, get_or, take, drop, replicate, sym, refl, ap, ◌∙◌, subst, add-zero, mul-le-mul_right, arith, w8, Fits as FitsIn, ltb-false, ltb-true, le-ltb, le-leb}
+use Rattle.std.proofs.Common.{◌≡◌, ℕ, ◌+◌, ◌*◌, ◌<◌, ◌≤◌, true, false, ltb, List, map, length, get_or, take, drop, replicate, sym, refl, ap, ◌∙◌, subst, add-zero, mul-le-mul_right, arith, w8, Fits as FitsIn, ltb-false, ltb-true, le-ltb, le-leb}
 use native.Mathlib.Nat.{zero-max}
 use lib.ListN.{length-replicate}
 use borrow.Author.Tests.{lt-leb}
@@ -29,7 +29,7 @@ use Rattle.isdb_mmt.specs.Pushes.TableOutcome.{index_size, index_of}
 use Rattle.isdb_mmt.specs.Pushes.Placed.{table_bytes, placed_sections}
 use Rattle.isdb_mmt.specs.Pushes.TableState.{TableState}
 use Rattle.isdb_mmt.specs.Pushes.PendingTables.{section_read, Logged, with_log, pending_of, Areas, committed, Versions, Walked, CanWalkSections}
-use Rattle.isdb_mmt.specs.Pushes.Commit.{put_tables, logged_from, AllFit, CanStore}
+use Rattle.isdb_mmt.specs.Pushes.Commit.{put_tables, AllFit}
 use Rattle.isdb_mmt.specs.Pushes.Start.{walk_start, tables_ask, signal_of, counters_with, with_sections_used, CanLeave, SectionsLeft}
 use Rattle.isdb_mmt.specs.declared.decoder.limits.Limits.{Limits}
 use Rattle.isdb_mmt.specs.declared.decoder.counts.Counters.{Counters}
@@ -421,18 +421,3 @@ module _ (state others objects messages tables : List ℕ) (b : Bytes) (can : Ca
             → SectionsLeft state tables ix₂ log₂ mine₂ c r b state' others' tables' → QuietPushed s (signal_of b) 0 (lent state' others' objects messages tables')
         push_taken h state' others' tables' left =
             taken (length b + 1) r ix₂ log₂ mine₂ w₀ x ex₀ q li lg lm (λ i. omega (arith, h i)) c counted_is state' others' tables' left
-
--- ---- the commit
-
-module _ (state others tables ix log mine : List ℕ) (g : WalkState) (b : Bytes) (can : CanLeave state others tables ix log mine g b) (l : Limits)
-    (el : l ≡ limits_of state) (x : Bytes) (ex : x ≡ []) where
-  pub leave_areas : CanStore tables ix log g.used l.table_area (x ++ b)
-  leave_areas = rw (el, ex) can.areas
-
-  pub leave_done : (u : Used) → u ≡ used_of state → (tables' : List ℕ)
-      → tables' ≡ put_tables l.table_area 0 (logged_from g.used 0 ix log) (x ++ b) tables → (others' : List ℕ) → others' ≡ mine
-      → (c k : Counters) → k ≡ counters_with c g → (state' : List ℕ)
-      → state' ≡ over counters_place (written (counters_fields k)) (over section_places (take (section_size * g.used) ix) (with_used (with_sections_used u g.used) state))
-      → SectionsLeft state tables ix log mine c g b state' others' tables'
-  leave_done u eu tables' et others' eo c k ek state' es =
-      record { areas = et ∙ rw (el, ex); counts = eo; places = es ∙ rw (ek, eu) }

@@ -1,15 +1,9 @@
 -- The count of a packet, in the state's bytes. Assumes nothing.
-use Rattle.std.specs.Prelude.{Option, Some}
-use Rattle.std.proofs.Common.{◌≡◌, ℕ, ◌+◌, ◌≤◌, true, List, sym, refl, ap, ◌∙◌, subst, add-zero}
-use Rattle.isdb_tlv.specs.Fields.{written}
+use Rattle.std.proofs.Common.{◌≡◌, ℕ, ◌+◌, ◌≤◌, List, sym, refl, subst, add-zero}
 use Rattle.isdb_mmt.specs.Decoder.Kept.{with_packet_counts}
 use Rattle.isdb_mmt.specs.Decoder.Model.{packet_counted}
-use Rattle.isdb_mmt.specs.Memory.Layout.{time_place, counters_place}
-use Rattle.isdb_mmt.specs.Memory.Lent.{over}
-use Rattle.isdb_mmt.specs.Memory.Session.{Session, counters_of, counters_fields, time_fields}
+use Rattle.isdb_mmt.specs.Memory.Session.{Session, counters_of}
 use Rattle.isdb_mmt.specs.Memory.Check.{lengths_of, Sound, packet_counts, table_counts}
-use Rattle.isdb_mmt.specs.Pushes.Leaves.{with_counters, with_time}
-use Rattle.isdb_mmt.specs.Pushes.Route.{time_given}
 use Rattle.isdb_mmt.specs.Pushes.Counted.{Countable, StateCountable}
 use Rattle.isdb_mmt.specs.Pushes.Fragments.{CanCount}
 use Rattle.isdb_mmt.specs.declared.decoder.counts.Counters.{Counters}
@@ -55,22 +49,3 @@ counted_alone c = rw (add-zero c.ip_errors, add-zero c.non_mmtp, add-zero c.ntp)
 module _ (l : List ℕ) (c : Counters) (e : c ≡ counters_of l) where
   pub countable : (ip non time : ℕ) → StateCountable l ip non time → Countable c ip non time
   countable ip non time h = subst (λ (x : Counters). Countable x ip non time) (sym e) h.counts
-
-  -- stored over what the state has become
-  pub counted_over : (ip non time : ℕ) (d : Counters) → d ≡ (packet_counted c ip non time)
-      → (m m' : List ℕ) → m' ≡ over counters_place (written (counters_fields d)) m
-      → m' ≡ with_counters (packet_counted (counters_of l) ip non time) m
-  counted_over ip non time d h m m' k =
-      k ∙ ap (λ (x : Counters). over counters_place (written (counters_fields x)) m)
-      (h ∙ ap (λ (x : Counters). packet_counted x ip non time) e)
-
-  pub counted_after : (ip non time : ℕ) (d : Counters) → d ≡ (packet_counted c ip non time)
-      → (t : Option ℕ) (m m' : List ℕ) → m ≡ with_time (time_given t) l → m' ≡ over counters_place (written (counters_fields d)) m
-      → m' ≡ with_counters (packet_counted (counters_of l) ip non time) (with_time (time_given t) l)
-  counted_after ip non time d h t m m' j k =
-      counted_over ip non time d h m m' k
-      ∙ ap (λ (x : List ℕ). with_counters (packet_counted (counters_of l) ip non time) x) j
-
-pub time_seen_lem : (l l' : List ℕ) (t : Option ℕ) (v : ℕ) → t ≡ Some v
-    → l' ≡ over time_place (written (time_fields (record { seen = true; timestamp = v }))) l → l' ≡ with_time (time_given t) l
-time_seen_lem l l' t v e h = h ∙ ap (λ (x : Option ℕ). with_time (time_given x) l) (sym e)

@@ -17,8 +17,8 @@ use Rattle.isdb_mmt.specs.Decoder.Kept.{declared_section}
 use Rattle.isdb_mmt.specs.WholeValues.WholeLists.{whole_raw}
 use Rattle.isdb_mmt.specs.WholeValues.Walks.{LoopTheorem, TotTheorem, RowsTheorem, ExtendedTheorem, UnitsTheorem}
 use Rattle.isdb_mmt.specs.declared.timestamp.Extended.{Extended}
-use Rattle.isdb_mmt.specs.declared.timestamp.MpuStep.{MpuStep}
-use Rattle.isdb_mmt.specs.declared.timestamp.MpuStep.TheVariants.{End as no_mpu, Broken as broken_mpu, Mpu}
+use Rattle.isdb_mmt.specs.Formats.Steps.{MpuStep}
+use Rattle.isdb_mmt.specs.declared.walk_step.WalkStep.TheVariants.{End as no_mpu, Malformed as broken_mpu, Entry as an_mpu}
 use Rattle.isdb_mmt.specs.declared.desc.Step.{Step}
 use Rattle.isdb_mmt.specs.declared.desc.Step.TheVariants.{End, Broken, Raw}
 use Rattle.isdb_mmt.specs.declared.desc.Descriptor.{Descriptor}
@@ -122,7 +122,7 @@ module _ (s : List ℕ) (e : Extended) where
   on_told : (at : ℕ) (d : MpuStep) → MpuInside s own at d → On (length s) at (mpu_told s e d)
   on_told at no_mpu w = tt
   on_told at broken_mpu w = tt
-  on_told at (Mpu q l d n units next) w = (omega (arith, w.ahead, w.within), w.ahead)
+  on_told at (an_mpu m next) w = (omega (arith, w.ahead, w.within), w.ahead)
 
   on_mpu : (at : ℕ) → On (length s) at (mpu_seen_of s e at)
   on_mpu at = on_told at (mpu_at s own at) (mpu_inside s own at)
@@ -130,7 +130,7 @@ module _ (s : List ℕ) (e : Extended) where
   mpu_turn : (at : ℕ) (d : MpuStep) → mpu_at s own at ≡ d → mpus_whole s own at ≡ whole_on (mpus_whole s own) (mpu_told s e d)
   mpu_turn at no_mpu h = whole_end s own at h
   mpu_turn at broken_mpu h = whole_broken s own at h
-  mpu_turn at (Mpu q l d n units next) h = whole_on_lem s own at h
+  mpu_turn at (an_mpu m next) h = whole_on_lem s own at h
 
   pub mpus_end : (at : ℕ) → mpus_whole s own at ≡ true → Ends (mpu_seen_of s e) at (to_end (mpu_seen_of s e) (length s) at).found at_end
   mpus_end at w =
@@ -240,9 +240,10 @@ module _ (s : List ℕ) (e : Extended) where
   units_whole = whole_by (unit_seen s e) (λ n at. at + n * size ≤ length s) unit_leads
 
 pub units : UnitsTheorem
-units s e at q l d n next u h =
+units s e at next m h =
     let w = mpu_lies s e.own_pts_offset h in
-    counts (unit_seen (part_of s u) e) n 0
-    (units_whole (part_of s u) e n 0
+    let u = m.units in
+    counts (unit_seen (part_of s u) e) m.access_units 0
+    (units_whole (part_of s u) e m.access_units 0
     (omega
     (arith, w.within, w.counts, w.ends, length-take u.length (drop u.start s), length-drop u.start s)))

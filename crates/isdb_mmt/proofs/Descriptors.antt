@@ -79,19 +79,21 @@ module _ (s : List ℕ) where
       walk_at (λ p. item (step_at s p)) (record { found = []; broke = None }) (length s) (λ p. ahead_of p (step_at s p) (step_inside p)) at
 
 -- k descriptors before these
-abbrev pub plus : ℕ → Split → Counted
+unfoldable pub plus : ℕ → Split → Counted
 plus k l = record { count = k + length l.found; broken = is_some l.broke }
 
 pub plus_zero : (l : Split) → plus 0 l ≡ counted l
-unfolding counted
+unfolding plus counted
 plus_zero l = rw zero-add
 
 -- the turns of the count
 module _ (s : List ℕ) (at k : ℕ) {r : Counted} (e : plus k (split_from s at) ≡ r) where
   pub count_end : step_at s at ≡ End → record { count = k; broken = false } ≡ r
+  unfolding plus
   count_end d = rw (split_at s at, d, add-zero) at e
 
   pub count_broken : {p : ℕ} → step_at s at ≡ Broken p → record { count = k; broken = true } ≡ r
+  unfolding plus
   count_broken d = rw (split_at s at, d, add-zero) at e
 
   pub count_last : (d : Step) → d ≡ step_at s at → ((tag : ℕ) (body : Part) (to : ℕ) → d ≡ Raw tag body to → ⊥) → ((p : ℕ) → d ≡ Broken p → ⊥)
@@ -101,6 +103,7 @@ module _ (s : List ℕ) (at k : ℕ) {r : Counted} (e : plus k (split_from s at)
   count_last (Raw tag body to) d h b = absurd (h tag body to refl)
 
   pub count_on : {tag next : ℕ} {body : Part} → step_at s at ≡ Raw tag body next → plus (k + 1) (split_from s next) ≡ r
+  unfolding plus
   count_on {next = next} d =
       let n = length (split_from s next).found in
       let i : k + 1 + n ≡ k + suc n = omega arith in
@@ -156,5 +159,6 @@ module _ (tag : ℕ) (s : List ℕ) (at : ℕ) where
       pub first_found : not (is_other_of d) ≡ true → first_of tag s at ≡ Some (d, body)
       first_found n = rw (first_same, n)
 
-      pub first_kept : not (is_other_of d) ≡ false → first_of tag s at ≡ first_of tag s next
-      first_kept n = rw (first_same, n)
+    -- one of the tag that could not be decoded
+    pub first_kept : t ≡ tag → is_other_of (descriptor_of t (part_of s body)) ≡ true → first_of tag s at ≡ first_of tag s next
+    first_kept h n = rw (first_same h refl, n)

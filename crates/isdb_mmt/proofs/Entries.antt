@@ -1,7 +1,7 @@
 -- The entries of a table's loop: each leads on to a place ahead and lies within the loop, so that steps from one to the next go
 -- over all of them. Assumes nothing.
 use Rattle.std.specs.Prelude.{Err, Ok, Result, is_some}
-use Rattle.std.proofs.Common.{◌≡◌, ℕ, zero, suc, ◌+◌, ◌-◌, ◌<◌, ◌≤◌, true, false, ltb, leb, List, length, refl, add-zero, add_assoc, zero-add, arith, ltb-false, leb-false, leb-true}
+use Rattle.std.proofs.Common.{◌≡◌, ℕ, zero, suc, ◌+◌, ◌-◌, ◌^◌, ◌<◌, ◌≤◌, true, false, ltb, leb, List, length, refl, add-zero, add_assoc, zero-add, arith, w64, Fits, ltb-false, leb-false, leb-true}
 use Rattle.isdb_tlv.specs.Walk.{turn}
 use Rattle.isdb_tlv.proofs.Walk.{Ahead, walk_at}
 use Rattle.isdb_tlv.proofs.Guards.{cond_elim}
@@ -11,8 +11,8 @@ use Rattle.isdb_mmt.specs.Formats.Section.{length12, in_section, entry_at, entry
 use Rattle.isdb_mmt.specs.declared.table.section.SectionHeader.{SectionHeader}
 use Rattle.isdb_mmt.specs.declared.table.section.SectionError.{SectionError}
 use Rattle.isdb_mmt.specs.declared.table.section.Entry.{Entry}
-use Rattle.isdb_mmt.specs.declared.table.section.EntryStep.{EntryStep}
-use Rattle.isdb_mmt.specs.declared.table.section.EntryStep.TheVariants.{End, Malformed as malformed, Entry as entry}
+use Rattle.isdb_mmt.specs.Formats.Steps.{EntryStep}
+use Rattle.isdb_mmt.specs.declared.walk_step.WalkStep.TheVariants.{End, Malformed as malformed, Entry as entry}
 use Rattle.isdb_mmt.specs.declared.table.section.Entries.{Entries}
 
 -- what holds of every refusal, and of what is read of the body of every section, holds of what a table is read as
@@ -95,24 +95,32 @@ module _ (s : List ℕ) (k : ℕ) where
   unfolding entries_told
   breaks_le at e = rw e (breaks_within (suc (length s - at)) at (omega arith))
 
+-- with one loop before them the breaks are still a number of 64 bits
+pub breaks_fit : (b s : List ℕ) (k n : ℕ) {m : ℕ} {r : Entries} → m ≡ broken b → r ≡ entries_told (entries_from s k (n + 2)) → length s < 2 ^ 64
+    → Fits w64 (m + r.breaks)
+breaks_fit b s k n d e h = record { fits = omega (arith, broken_le b d, breaks_le s k (n + 2) e) }
+
 -- n entries before these, and b descriptor loops that broke
-abbrev pub plus : ℕ → ℕ → Loop Entry → Entries
+unfoldable pub plus : ℕ → ℕ → Loop Entry → Entries
 plus n b l = record { count = n + length l.found; breaks = b + l.breaks; whole = l.whole }
 
 pub plus_zero : (l : Loop Entry) → plus 0 0 l ≡ entries_told l
-unfolding entries_told
+unfolding plus entries_told
 plus_zero l = rw (zero-add (length l.found), zero-add l.breaks)
 
 -- the turns of the count
 module _ (s : List ℕ) (k at n b : ℕ) {r : Entries} (e : plus n b (entries_from s k at) ≡ r) where
   pub count_end : entry_at s k at ≡ End → record { count = n; breaks = b; whole = true } ≡ r
+  unfolding plus
   count_end d = rw (entries_at s k at, d, add-zero n, add-zero b) at e
 
   pub count_malformed : entry_at s k at ≡ malformed → record { count = n; breaks = b; whole = false } ≡ r
+  unfolding plus
   count_malformed d = rw (entries_at s k at, d, add-zero n, add-zero b) at e
 
   pub count_on : {x : Entry} {next m : ℕ} → entry_at s k at ≡ entry x next → m ≡ broken (part_of s x.descriptors)
       → plus (n + 1) (b + m) (entries_from s k next) ≡ r
+  unfolding plus
   count_on {x} {next} {m} d h =
       let l = entries_from s k next in
       let i : n + 1 + length l.found ≡ n + suc (length l.found) = omega arith in

@@ -1,6 +1,6 @@
 -- A number that is read in a part of some bytes: it is the one at that place of the whole, and none of it is cut off. Assumes
 -- nothing.
-use Rattle.std.proofs.Common.{◌≡◌, ℕ, ◌+◌, ◌%◌, ◌^◌, ◌<◌, ◌≤◌, List, length, get_or, take, drop, sym, ◌∙◌, add-zero, arith, length-take, w8, Fits}
+use Rattle.std.proofs.Common.{◌≡◌, ℕ, ◌+◌, ◌%◌, ◌^◌, ◌<◌, ◌≤◌, List, length, get_or, take, drop, sym, ◌∙◌, add-zero, arith, length-take, w8, w32, Fits}
 use Rattle.isdb_tlv.specs.Bytes.{be}
 use Rattle.isdb_tlv.proofs.Numbers.{be_lt, be_drop, be_take, be_whole}
 use Rattle.isdb_tlv.proofs.Fields.{be_one}
@@ -22,6 +22,10 @@ module _ (s : List ℕ) (at : ℕ) {b : List ℕ} (d : b ≡ drop at s) where
 
     pub long_field_lt : r < 256 ^ w
     long_field_lt = rw long_field (be_lt s h w (at + i))
+
+  -- a number of three bytes has less than 32 bits
+  pub three_fit : ((i : ℕ) → Fits w8 (get_or s i 0)) → (i : ℕ) {r : ℕ} → r ≡ be 3 b i % 2 ^ 64 → Fits w32 r
+  three_fit h i e = record { fits = omega (arith, long_field_lt h 3 i (omega arith) e) }
 
 -- in the first n bytes
 pub long_within : (s : List ℕ) → ((i : ℕ) → Fits w8 (get_or s i 0)) → (n : ℕ) {b : List ℕ} → b ≡ take n s

@@ -1,5 +1,5 @@
 -- A message packet with which no message is whole: what is asked and stored is what the model asks and leaves. Assumes nothing.
-use Rattle.std.proofs.Common.{◌≡◌, ℕ, ◌+◌, ◌*◌, ◌<◌, ◌≤◌, false, ltb, List, [], map, length, sym, refl, ap, ◌∙◌, subst, inr, add-zero, arith, ltb-false, le-ltb, lt-ltb}
+use Rattle.std.proofs.Common.{◌≡◌, ℕ, ◌+◌, ◌*◌, ◌<◌, ◌≤◌, false, ltb, List, [], map, length, sym, refl, ap, ◌∙◌, subst, inr, add-zero, arith, ltb-false}
 use Rattle.isdb_tlv.specs.Guards.{◌<?◌}
 use Rattle.std.specs.Prelude.{if◌then◌else◌, Option, is_some}
 use Rattle.isdb_tlv.specs.Fields.{written}
@@ -7,12 +7,12 @@ use Rattle.isdb_tlv.proofs.Fields.{length_written}
 use Rattle.isdb_tlv.proofs.Guards.{either}
 use Rattle.isdb_mmt.specs.Decoder.Packet.{message_packet, Bytes, MessagePacket, message}
 use Rattle.isdb_mmt.specs.Memory.Lent.{part, over, names_from, place_for_name}
-use Rattle.isdb_mmt.specs.Memory.Layout.{used_place, latest_place, counters_place, control_places, control_size, most_control_ids, section_places, section_size}
-use Rattle.isdb_mmt.specs.Memory.Session.{Session, limits_of, used_of, used_fields, latest_of, latest_fields, counters_of, counters_fields, control_fields, control_at}
+use Rattle.isdb_mmt.specs.Memory.Layout.{used_place, counters_place, control_places, control_size, most_control_ids, section_places, section_size}
+use Rattle.isdb_mmt.specs.Memory.Session.{Session, limits_of, used_of, used_fields, latest_of, counters_of, counters_fields, control_fields}
 use Rattle.isdb_mmt.specs.Memory.Check.{PlacesThere, Sound, lengths_of}
 use Rattle.isdb_mmt.specs.Pushes.Leaves.{control_place_for, used_for, with_control, with_sections, with_latest, with_counters, state_of_tables, bytes_over, kept_over, latest_over, message_in, message_at, message_leaves, packet_leaves}
-use Rattle.isdb_mmt.specs.Pushes.Fragments.{laid_by, area_by, fragment_counted, CanCount, fragment_outcome, completes, joined_by, control_with}
-use Rattle.isdb_mmt.specs.Pushes.FragmentPush.{blank_place, place_in, PlaceForThere, normal_latest, with_more, with_reassembly, with_counts, place_next, state_next, CanStoreReassembly, CanJoinAt, JoinedAt, CanJoin, length_if, received_fragment}
+use Rattle.isdb_mmt.specs.Pushes.Fragments.{laid_by, area_by, fragment_counted, fragment_outcome, completes, joined_by, control_with}
+use Rattle.isdb_mmt.specs.Pushes.FragmentPush.{place_in, PlaceForThere, normal_latest, with_more, with_reassembly, with_counts, place_next, state_next, CanJoinAt, JoinedAt, CanJoin, length_if, received_fragment}
 use Rattle.isdb_mmt.specs.Decoder.Reassembly.{PartialMessage, cut_of_all}
 use Rattle.isdb_mmt.specs.Decoder.Model.{State, Control as ControlState, control_of, reassembly_of, pushed, packet_counted, reassembly_counted, gives}
 use Rattle.isdb_mmt.specs.Memory.View.{kept_table_at, view_by, view, given}
@@ -53,37 +53,7 @@ place_for_is l x u id r ex eu e =
     ∙ ap (λ (y : Used). place_for_name (names_from y.control_ids control_size control_places l) x.control_ids id) eu
     ∙ ap (λ (y : Limits). place_for_name (names_from (used_of l).control_ids control_size control_places l) y.control_ids id) ex
 
-pub old_there : (t : PlaceFor) (i : ℕ) → PlaceForThere t → t ≡ Own i → i < most_control_ids
-old_there t i h e = rw e at h
-
-pub old_place : (l : List ℕ) (t : PlaceFor) (i : ℕ) (r : Control) → t ≡ Own i → r ≡ control_at l i → r ≡ place_in l t
-unfolding place_in
-old_place l t i r e k = rw e k
-
-pub new_place : (l : List ℕ) (t : PlaceFor) (i : ℕ) (r : Control) → t ≡ Free i → r ≡ blank_place → r ≡ place_in l t
-unfolding place_in
-new_place l t i r e k = rw e k
-
-pub full_place : (l : List ℕ) (t : PlaceFor) (r : Control) → t ≡ NoneFree → r ≡ blank_place → r ≡ place_in l t
-unfolding place_in
-full_place l t r e k = rw e k
-
 -- ---- the calls: stores one behind the other
-
-pub reassembly_stored : (l m m' : List ℕ) (i : ℕ) (c : Control) (u : Used) → m ≡ over (control_places + control_size * i) (written (control_fields c)) l
-    → m' ≡ over used_place (written (used_fields u)) m → m' ≡ with_reassembly i c u l
-reassembly_stored l m m' i c u e f = f ∙ ap (λ (y : List ℕ). over used_place (written (used_fields u)) y) e
-
-pub counts_stored : (l m m' : List ℕ) (k : Counters) (x : Latest) → m ≡ over counters_place (written (counters_fields k)) l
-    → m' ≡ over latest_place (written (latest_fields x)) m → m' ≡ with_counts k x l
-counts_stored l m m' k x e f = f ∙ ap (λ (y : List ℕ). over latest_place (written (latest_fields x)) y) e
-
-module _ (l : List ℕ) (i k : ℕ) (h : CanStoreReassembly l i k) where
-  pub can_count : (a : Counters) → a ≡ counters_of l → CanCount a
-  can_count a e = subst CanCount (sym e) h.counts
-
-  pub few_used : (u : Used) → u ≡ used_of l → u.control_ids ≤ most_control_ids
-  few_used u e = subst (λ (y : Used). y.control_ids ≤ most_control_ids) (sym e) h.used
 
 pub next_stored : (l m m' : List ℕ) (i k : ℕ) (d : Control) (f : FragmentOutcome) (a b : Counters) (x y : Latest) (u v : Used)
     → a ≡ counters_of l → b ≡ fragment_counted f a → x ≡ latest_of l → y ≡ normal_latest x → u ≡ used_of l → v ≡ with_more k u
@@ -94,39 +64,6 @@ next_stored l m m' i k d f a b x y u v ea eb ex ey eu ev em en =
     ∙ ap (λ (z : Counters). with_counts z y m) (eb ∙ ap (fragment_counted f) ea)
     ∙ ap (λ (z : Latest). with_counts (fragment_counted f (counters_of l)) z m) (ey ∙ ap normal_latest ex)
     ∙ ap (with_counts (fragment_counted f (counters_of l)) (normal_latest (latest_of l))) (em ∙ ap (λ (z : Used). with_reassembly i d z l) (ev ∙ ap (with_more k) eu))
-
--- ---- the calls: a fragment at its place
-
-module _ (l m : List ℕ) (i k : ℕ) (b : Bytes) (h : CanJoinAt l m i k b) (x : Limits) (ex : x ≡ limits_of l) (c : Control) (f : FragmentOutcome) (a : ℕ)
-    (ea : a ≡ area_by f c b) where
-  area_is : x.message_area ≡ (limits_of l).message_area
-  area_is = ap (λ (y : Limits). y.message_area) ex
-
-  pub area_fits : a ≤ x.message_area → a < 4294967296
-  area_fits w = omega (arith, area_is, h.area)
-
-  pub joins_within : a ≤ x.message_area → i * x.message_area + area_by f c b ≤ length m
-  joins_within w = rw area_is (omega (arith, rw area_is at w, h.room))
-
-  module _ (id n : ℕ) where
-    pub no_area : x.message_area < a → JoinedAt l m i k id n b c f 9 l m
-    no_area w =
-        record {
-          number = sym (ap (λ t. if◌then◌else◌ {A = ℕ} t 9 0) (lt-ltb (limits_of l).message_area (area_by f c b) (rw (area_is, ea) at w)));
-          same = λ z. (refl, refl);
-          state = λ z. absurd (omega arith);
-          messages = λ z. absurd (omega arith);
-        }
-
-    pub area_joined : (d : Control) (l' m' : List ℕ) → a ≤ x.message_area → d ≡ place_next id n c f b → l' ≡ state_next i k d f l
-        → m' ≡ laid_by f (i * x.message_area) c b m → JoinedAt l m i k id n b c f 0 l' m'
-    area_joined d l' m' w ed el em =
-        record {
-          number = sym (ap (λ t. if◌then◌else◌ {A = ℕ} t 9 0) (le-ltb (limits_of l).message_area (area_by f c b) (rw (area_is, ea) at w)));
-          same = λ z. absurd (z refl);
-          state = λ z. el ∙ ap (λ (y : Control). state_next i k y f l) ed;
-          messages = λ z. rw area_is at em;
-        }
 
 -- ---- what the model makes of the packet
 

@@ -1,6 +1,6 @@
 -- What becomes of a fragment, by the place of its id, is what the model does. Assumes nothing.
 use Rattle.std.specs.Prelude.{Option, None, Some, is_some}
-use Rattle.std.proofs.Common.{◌≡◌, ℕ, ◌+◌, ◌-◌, ◌*◌, ◌<◌, ◌≤◌, Bool, true, false, cond, not, ◌&&◌, ltb, leb, ◌++◌, length, drop, sym, refl, ap, ◌∙◌, arith, length-append, length-drop, ltb-false, ltb-true, le-ltb, le-leb}
+use Rattle.std.proofs.Common.{◌≡◌, ℕ, ◌+◌, ◌-◌, ◌*◌, ◌<◌, ◌≤◌, Bool, true, false, cond, not, ◌&&◌, ltb, leb, ◌++◌, length, drop, sym, refl, ap, ◌∙◌, arith, length-append, length-drop, ltb-false, ltb-true, le-leb}
 use borrow.Author.Tests.{lt-leb, not-true, not-false}
 use Rattle.isdb_tlv.proofs.Guards.{cond_elim}
 use Rattle.isdb_mmt.specs.Decoder.Packet.{Bytes, MessagePacket}
@@ -21,16 +21,6 @@ use Rattle.isdb_mmt.specs.declared.decoder.messages.FragmentOutcome.TheVariants.
 use Rattle.isdb_mmt.specs.declared.decoder.messages.Joined.{Joined}
 use Rattle.isdb_mmt.proofs.Lent.{over_same, over_grown}
 use Rattle.isdb_mmt.proofs.Names.{true_not_false}
-
--- ---- the code's tests
-
-pub outcome_by_lem : (c : Control) (n : ℕ) (b : Bytes) (x : Fragment) (d : Division) (r : FragmentOutcome) → 2 ≤ length b → x ≡ flags_in b → x.division ≡ d
-    → r ≡ by_division d c n b → r ≡ fragment_outcome c n b
-unfolding fragment_outcome
-outcome_by_lem c n b x d r h e f g =
-    g
-    ∙ ap (λ (y : Division). by_division y c n b) (sym f ∙ ap (λ (y : Fragment). y.division) e)
-    ∙ sym (ap (λ (t : Bool). cond t Short (by_division (flags_in b).division c n b)) (le-ltb _ _ h))
 
 -- ---- the gap rule
 
@@ -308,24 +298,9 @@ module _ (i area : ℕ) (c : Control) (b l : Bytes) (f : FragmentOutcome) where
       let w : i * area + grown_length c b ≤ length l = rw e at h in
       omega (arith, ap (λ (y : Bytes). length y) q, length-drop 2 b)
 
-  pub first_laid : (d m : Bytes) → f ≡ First → d ≡ drop 2 b → m ≡ over (i * area + 0) d l → m ≡ laid_by f (i * area) c b l
-  unfolding laid_by
-  first_laid d m e q k = let z : i * area + 0 ≡ i * area = omega arith in rw (e, ← q) (rw z at k)
-
-  pub grown_laid : (d m : Bytes) → f ≡ Grown → d ≡ drop 2 b → m ≡ over (i * area + c.length) d l → m ≡ laid_by f (i * area) c b l
-  unfolding laid_by
-  grown_laid d m e q k = rw (e, ← q) k
-
 -- ---- lengths, by the data alone
 
-pub grown_is : (c : Control) (b d : Bytes) → d ≡ drop 2 b → c.length + length d ≡ grown_length c b
-grown_is c b d q = ap (λ (y : Bytes). c.length + length y) q ∙ ap (λ k. c.length + k) (length-drop 2 b)
-
 module _ (f : FragmentOutcome) (c : Control) (b : Bytes) where
-  pub first_area : (d : Bytes) → f ≡ First → d ≡ drop 2 b → length d ≡ area_by f c b
-  unfolding area_by
-  first_area d e q = ap (λ (y : Bytes). length y) q ∙ rw e (length-drop 2 b)
-
   pub first_joined : (x : Fragment) (n : ℕ) (r : Joined) → f ≡ First → n ≡ area_by f c b → x ≡ flags_in b
       → r ≡ joined_with x.long_length x.aggregated n → Some r ≡ joined_by f c b
   unfolding area_by joined_by

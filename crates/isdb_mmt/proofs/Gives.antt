@@ -20,8 +20,8 @@ use Rattle.isdb_mmt.specs.declared.mpu.FragmentationIndicator.TheVariants.{Compl
 use Rattle.isdb_mmt.specs.declared.mpu.MfuHeader.{MfuHeader}
 use Rattle.isdb_mmt.specs.declared.mpu.PayloadHeader.{PayloadHeader}
 use Rattle.isdb_mmt.specs.declared.mpu.Unit.{Unit as DataUnit}
-use Rattle.isdb_mmt.specs.declared.mpu.UnitStep.{UnitStep}
-use Rattle.isdb_mmt.specs.declared.mpu.UnitStep.TheVariants.{End, Malformed as not_whole, Unit as found}
+use Rattle.isdb_mmt.specs.Formats.Steps.{UnitStep}
+use Rattle.isdb_mmt.specs.declared.walk_step.WalkStep.TheVariants.{End, Malformed as not_whole, Entry as found}
 use Rattle.isdb_mmt.specs.declared.decoder.media.Object.{Object}
 use Rattle.isdb_mmt.specs.declared.decoder.readings.HeldObject.{HeldObject}
 use Rattle.isdb_mmt.proofs.Lent.{length_over, over_next, over_none}

@@ -1,10 +1,10 @@
 -- A message in two pieces, one behind the other: its bytes, its parts, and a table gathered out of both. Assumes nothing.
-use Rattle.std.proofs.Common.{Option, ◌≡◌, ℕ, ◌+◌, ◌-◌, ◌<◌, ◌≤◌, ltb, List, [], ◌∷◌, ◌++◌, length, get_or, take, drop, sym, refl, ap, ◌∙◌, append-nil, zero-add, arith, length-append, length-drop, drop_of_length-le, take_all, get_or-append-add, w8, w64, Fits, ltb-false, ltb-true}
+use Rattle.std.proofs.Common.{Option, ◌≡◌, ℕ, ◌+◌, ◌-◌, ◌<◌, ◌≤◌, ltb, List, [], ◌++◌, length, get_or, take, drop, sym, ap, ◌∙◌, append-nil, zero-add, arith, length-append, length-drop, drop_of_length-le, take_all, get_or-append-add, w8, Fits, ltb-false, ltb-true}
 use lib.ListN.{get_or-append}
 use lib.Seq.{take-nil, take-append-le, drop-append-le, take-append-add, drop-append-add}
 use Rattle.isdb_tlv.specs.Bytes.{be}
 use Rattle.isdb_tlv.proofs.Guards.{either}
-use Rattle.isdb_mmt.specs.Memory.Layout.{most_message_area, most_table_area}
+use Rattle.isdb_mmt.specs.Memory.Layout.{most_table_area}
 use Rattle.isdb_mmt.specs.Decoder.Packet.{Bytes}
 use Rattle.isdb_mmt.specs.Formats.Part.{part_of}
 use Rattle.isdb_mmt.specs.Memory.Lent.{over}
@@ -19,12 +19,6 @@ use Rattle.isdb_mmt.proofs.Lent.{part_over, over_next}
 use Rattle.isdb_mmt.proofs.TableOutcomes.{byte_at}
 
 module _ (a b : Bytes) where
-  pub size_fits : length (a ++ b) ≤ most_message_area → Fits w64 (length a + length b)
-  size_fits h = omega (arith, length-append a b)
-
-  pub size_is : length a + length b ≡ length (a ++ b)
-  size_is = sym (length-append a b)
-
   pub byte_left : (i : ℕ) → i < length a → get_or a i 0 ≡ get_or (a ++ b) i 0
   byte_left i h = sym (get_or-append a b 0 i h)
 
@@ -81,18 +75,8 @@ module _ (a b : Bytes) where
 
 -- ---- a table in two pieces
 
-empty_is : (l : Bytes) → length l ≡ 0 → l ≡ []
-empty_is [] e = refl
-empty_is (x ∷ l) e = absurd (omega arith)
-
 module _ (ix : List ℕ) (used : ℕ) (a b : Bytes) (can : CanDecide ix used a b) where
   module _ (ks : List KeptSection) (m p : Option Recent) (r : TableOutcome) where
-    pub outcome_first : length b ≡ 0 → r ≡ table_outcome ks m p (table_read a) → r ≡ table_outcome ks m p (table_read (a ++ b))
-    outcome_first e er = er ∙ ap (λ (l : Bytes). table_outcome ks m p (table_read l)) (sym (append-nil a) ∙ ap (λ (l : Bytes). a ++ l) (sym (empty_is b e)))
-
-    pub outcome_second : length a ≡ 0 → r ≡ table_outcome ks m p (table_read b) → r ≡ table_outcome ks m p (table_read (a ++ b))
-    outcome_second e er = er ∙ ap (λ (l : Bytes). table_outcome ks m p (table_read (l ++ b))) (sym (empty_is a e))
-
     pub outcome_both : (assembled : List ℕ) → length assembled ≡ most_table_area → (s s' t : List ℕ) → s ≡ over 0 a assembled → s' ≡ over (length a) b s → t ≡ take (length a + length b) s'
         → r ≡ table_outcome ks m p (table_read t) → r ≡ table_outcome ks m p (table_read (a ++ b))
     outcome_both assembled long s s' t es es' et er =

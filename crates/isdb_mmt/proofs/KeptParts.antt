@@ -1,6 +1,6 @@
 -- Where kept tables lie, and whether they parse: one law for each return. Assumes nothing.
-use Rattle.std.proofs.Common.{◌≡◌, ℕ, ◌+◌, ◌*◌, ◌<◌, true, false, sym, refl, ap, ◌∙◌, arith, w64, Fits}
-use Rattle.std.specs.Prelude.{Result, Ok, ⊤, Err, None, Some, Option}
+use Rattle.std.proofs.Common.{◌≡◌, ℕ, ◌*◌, ◌<◌, false, sym, refl, ap, ◌∙◌, arith, w64, Fits}
+use Rattle.std.specs.Prelude.{Result, Ok, ⊤, Err, Some, Option}
 use Rattle.isdb_mmt.specs.declared.decoder.refusal.Refusal.{Refusal}
 use Rattle.isdb_mmt.specs.Decoder.Packet.{Bytes}
 use Rattle.isdb_mmt.specs.Formats.Part.{part_of}
@@ -9,17 +9,12 @@ use Rattle.isdb_mmt.specs.Memory.Lent.{names_from, found_from}
 use Rattle.isdb_mmt.specs.Memory.Session.{Session, limits_of, used_of}
 use Rattle.isdb_mmt.specs.Memory.Check.{lengths_of, Sound}
 use Rattle.isdb_mmt.specs.Formats.Section.{long_section_of}
-use Rattle.isdb_mmt.specs.Decoder.Kept.{body_read, parses_as, mpt_parses, plt_parses, tot_parses}
-use Rattle.isdb_mmt.specs.Formats.Mpt.{mpt_of}
-use Rattle.isdb_mmt.specs.Formats.Plt.{plt_of}
-use Rattle.isdb_mmt.specs.Formats.Tot.{tot_of}
+use Rattle.isdb_mmt.specs.Decoder.Kept.{body_read, parses_as}
 use Rattle.isdb_mmt.specs.Pushes.TableOutcome.{body_from}
 use Rattle.isdb_mmt.specs.Memory.Lending.{session_asked}
+use Rattle.isdb_mmt.specs.Memory.Opening.{lent}
+use Rattle.std.proofs.Common.{List}
 use Rattle.isdb_mmt.specs.Answers.KeptParts.{Reachable, AnArea, MptReachable}
-use Rattle.isdb_mmt.specs.declared.table.tot.Tot.{Tot as TotRead, Tot}
-use Rattle.isdb_mmt.specs.declared.table.mpt.Mpt.{Mpt as MptRead}
-use Rattle.isdb_mmt.specs.declared.table.mpt.MptParsed.{MptParsed}
-use Rattle.isdb_mmt.specs.declared.table.plt.Plt.{Plt as PltRead, Plt}
 use Rattle.isdb_mmt.specs.declared.table.section.SectionHeader.{SectionHeader}
 use Rattle.isdb_mmt.specs.declared.table.section.SectionError.{SectionError}
 use Rattle.isdb_mmt.specs.declared.decoder.table_outcome.BodyRead.{BodyRead}
@@ -30,7 +25,6 @@ use Rattle.isdb_mmt.proofs.ReadSteps.{was_sound}
 use Rattle.isdb_mmt.proofs.Checks.{sound_session}
 use Rattle.isdb_mmt.proofs.Limits.{areas_fit, passed}
 use Rattle.isdb_mmt.proofs.TableOutcomes.{found_within, body_from_lem}
-use Rattle.isdb_mmt.specs.declared.table.section.Parsed.{Parsed}
 
 -- ---- whether a section parses
 
@@ -46,29 +40,6 @@ module _ (b : Bytes) (id : ℕ) (l : Result SectionHeader SectionError) (el : l 
   pub parses_bad : (x : SectionError) → l ≡ Err x → false ≡ parses_as id b
   unfolding parses_as
   parses_bad x e = rw (← el, e) refl
-
--- ---- whether an MPT, a PLT and a TOT do
-
-module _ (b : Bytes) (x : MptParsed) (ex : x ≡ mpt_of b) where
-  pub no_mpt_lem : x.mpt ≡ None → false ≡ mpt_parses (mpt_of b).mpt
-  no_mpt_lem e = rw (← ex, e) refl
-
-  pub an_mpt : (t : MptRead) → x.mpt ≡ Some t → true ≡ mpt_parses (mpt_of b).mpt
-  an_mpt t e = rw (← ex, e) refl
-
-module _ (b : Bytes) (x : Option Plt) (ex : x ≡ plt_of b) where
-  pub no_plt_lem : x ≡ None → false ≡ plt_parses (plt_of b)
-  no_plt_lem e = rw (← ex, e) refl
-
-  pub a_plt : (t : PltRead) → x ≡ Some t → true ≡ plt_parses (plt_of b)
-  a_plt t e = rw (← ex, e) refl
-
-module _ (b : Bytes) (x : Parsed Tot) (ex : x ≡ tot_of b) where
-  pub no_tot_lem : (e : SectionError) → x.result ≡ Err e → false ≡ tot_parses (tot_of b).result
-  no_tot_lem r e = rw (← ex, e) refl
-
-  pub a_tot : (t : TotRead) → x.result ≡ Ok t → true ≡ tot_parses (tot_of b).result
-  a_tot t e = rw (← ex, e) refl
 
 -- ---- areas
 
@@ -108,30 +79,12 @@ module _ (s : Bytes) (can : Reachable s) where
               omega (arith, found_in_use control_size u.control_ids control_places name s f ef i e, can.there.controls, ap (λ (z : Used). z.control_ids) eu);
         }
 
-  -- the PLT and the TOT
-  module _ (l : Limits) (el : l ≡ limits_of s) where
-    pub plt_number : Fits w64 (l.sections + l.control_ids)
-    plt_number = rw el (record { fits = omega (arith, can.sections, can.controls) })
-
-    pub tot_number : Fits w64 (l.sections + l.control_ids + 1)
-    tot_number = rw el (record { fits = omega (arith, can.sections, can.controls) })
-
-    pub plt_area : AnArea l (l.sections + l.control_ids)
-    plt_area = rw el (record { number = omega (arith, can.sections, can.controls); size = can.area })
-
-    pub tot_area : AnArea l (l.sections + l.control_ids + 1)
-    tot_area = rw el (record { number = omega (arith, can.sections, can.controls); size = can.area })
-
--- the MPT of a control place
-module _ (s : Bytes) (i : ℕ) (can : MptReachable s i) (l : Limits) (el : l ≡ limits_of s) where
-  pub mpt_number : Fits w64 (l.sections + i)
-  mpt_number = rw el (record { fits = omega (arith, can.session.sections, can.place) })
-
-  pub mpt_area : AnArea l (l.sections + i)
-  mpt_area = rw el (record { number = omega (arith, can.session.sections, can.place); size = can.session.area })
-
 -- ---- a reading of a session that question 5 lets pass
 
 module _ (s : Session) (a : Result ⊤ Refusal) (ea : a ≡ session_asked s) (u : ⊤) (ok : a ≡ Ok u) where
   pub session_reached : Reachable s.state
   session_reached = reaches s (sound_session s (was_sound s a ea u ok))
+
+pub asked_reached : (st others objects messages tables : List ℕ) (r : Result ⊤ Refusal) (u : ⊤) → r ≡ session_asked (lent st others objects messages tables)
+    → r ≡ Ok u → Reachable st
+asked_reached st others objects messages tables r u e k = session_reached (lent st others objects messages tables) r e u k

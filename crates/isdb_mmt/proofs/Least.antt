@@ -1,28 +1,18 @@
 -- The least of some names in a range: the scan, turn by turn, what it finds, and names one after the other. Assumes nothing.
-use Rattle.std.proofs.Common.{◌≡◌, ℕ, zero, suc, ◌+◌, ◌-◌, ◌<◌, ◌≤◌, true, false, eqb, ltb, leb, ◌⊎◌, List, [], ◌∷◌, length, sym, refl, ap, ◌∙◌, subst, inl, inr, ⊎_elim, arith, ltb-false, ltb-true, le-ltb, lt-ltb, eq-eqb, eqb-true, le-leb, leb-false, leb-true}
+use Rattle.std.proofs.Common.{◌≡◌, ℕ, zero, suc, ◌+◌, ◌<◌, ◌≤◌, true, false, eqb, ltb, leb, ◌⊎◌, List, [], ◌∷◌, length, sym, refl, ap, ◌∙◌, subst, inl, inr, ⊎_elim, arith, ltb-false, ltb-true, le-ltb, eq-eqb, eqb-true, le-leb, leb-false, leb-true}
 use lib.Arith.{lt_of_le-ne}
+use Rattle.std.proofs.Common.{Bool, ◌&&◌, lt-ltb, min, filter, fold}
+use Rattle.std.specs.List.{reduce}
 use borrow.Author.Tests.{lt-leb, eqb-false}
-use Rattle.isdb_tlv.specs.Bytes.{be}
 use Rattle.isdb_tlv.specs.Guards.{◌<?◌, ◌≤?◌}
 use Rattle.std.specs.Prelude.{if◌then◌else◌, None, Option, Some}
 use Rattle.isdb_tlv.proofs.Guards.{either}
-use Rattle.isdb_mmt.specs.Memory.Lent.{names_from, among, distinct}
+use Rattle.isdb_mmt.specs.Memory.Lent.{among, distinct}
 use Rattle.isdb_mmt.specs.Answers.Readings.{lesser, least_from, most_name, then_above, ascending_from, ascending}
 use Rattle.isdb_mmt.specs.Answers.ReadingLaws.{rises, InOrder, Least}
-use Rattle.isdb_mmt.proofs.Names.{true_not_false, next, end}
+use Rattle.isdb_mmt.proofs.Names.{true_not_false}
 
 -- ---- one name
-
-module _ (x : Option ℕ) (y : ℕ) where
-  pub lesser_none : x ≡ None → Some y ≡ lesser x y
-  lesser_none e = rw e
-
-  module _ (z : ℕ) (e : x ≡ Some z) where
-    pub lesser_less : y < z → Some y ≡ lesser x y
-    lesser_less h = rw (e, lt-ltb y z h)
-
-    pub lesser_not : z ≤ y → Some z ≡ lesser x y
-    lesser_not h = rw (e, le-ltb y z h)
 
 -- the least so far with one more name
 abbrev pub with_name : Option ℕ → ℕ → ℕ → ℕ → Option ℕ
@@ -32,19 +22,36 @@ pub least_step : (x : Option ℕ) (a b y : ℕ) (ys : List ℕ) → least_from x
 unfolding least_from
 least_step x a b y ys = either (ltb y a) (λ t. rw t) (λ f. either (ltb b y) (λ t. rw (f, t)) (λ g. rw (f, g)))
 
--- ---- one turn
+-- ---- all of them
 
-module _ (l : List ℕ) (size n i p a b : ℕ) (y x : Option ℕ) (inv : y ≡ least_from x a b (names_from (n - i) size p l)) where
-  pub least_next : i < n → (v : ℕ) → v ≡ be 4 l p → (x' : Option ℕ) → x' ≡ with_name x a b v
-      → y ≡ least_from x' a b (names_from (n - (i + 1)) size (p + size) l)
-  least_next h v d x' e = inv ∙ rw (next l size n i p h, e, d) (least_step x a b (be 4 l p) (names_from (n - (i + 1)) size (p + size) l))
+abbrev pub within : ℕ → ℕ → ℕ → Bool
+within a b y = (a ≤? y) && (y ≤? b)
 
-  pub least_end : n ≤ i → x ≡ y
-  unfolding least_from
-  least_end h = sym (inv ∙ rw (end l size n i p h))
+least_some : (names : List ℕ) (z a b : ℕ) → least_from (Some z) a b names ≡ Some (fold min z (filter (within a b) names))
+unfolding least_from
+least_some [] z a b = refl
+least_some (y ∷ ys) z a b =
+    either (leb a y)
+    (λ t.
+    either (leb y b)
+    (λ u.
+    rw (t, u, le-ltb y a (leb-true a y t), le-ltb b y (leb-true y b u))
+    (either (ltb y z)
+    (λ m. let e : min z y ≡ y = omega (arith, ltb-true y z m) in rw m (least_some ys y a b ∙ ap (λ k. Some (fold min k (filter (within a b) ys))) (sym e)))
+    (λ m. let e : min z y ≡ z = omega (arith, ltb-false y z m) in rw m (least_some ys z a b ∙ ap (λ k. Some (fold min k (filter (within a b) ys))) (sym e)))))
+    (λ u. rw (t, u, le-ltb y a (leb-true a y t), lt-ltb b y (leb-false y b u)) (least_some ys z a b)))
+    (λ t. rw (t, lt-ltb y a (leb-false a y t)) (least_some ys z a b))
 
-pub least_start : (l : List ℕ) (size n at a b : ℕ) → least_from None a b (names_from n size at l) ≡ least_from None a b (names_from (n - 0) size at l)
-least_start l size n at a b = let e : n - 0 ≡ n = omega arith in rw e
+pub least_min : (names : List ℕ) (a b : ℕ) → reduce min (filter (within a b) names) ≡ least_from None a b names
+unfolding least_from
+least_min [] a b = refl
+least_min (y ∷ ys) a b =
+    either (leb a y)
+    (λ t.
+    either (leb y b)
+    (λ u. rw (t, u, le-ltb y a (leb-true a y t), le-ltb b y (leb-true y b u)) (sym (least_some ys y a b)))
+    (λ u. rw (t, u, le-ltb y a (leb-true a y t), lt-ltb b y (leb-false y b u)) (least_min ys a b)))
+    (λ t. rw (t, lt-ltb y a (leb-false a y t)) (least_min ys a b))
 
 -- ---- what the scan finds
 

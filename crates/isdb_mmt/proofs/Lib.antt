@@ -1,5 +1,6 @@
 -- Laws that belong to no one function, a file a subject.
 pub mod Floats
+pub mod Refusals
 pub mod Locations
 pub mod Timestamps
 pub mod Descriptors

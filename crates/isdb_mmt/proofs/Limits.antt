@@ -3,13 +3,14 @@
 use Rattle.std.proofs.Common.{◌≡◌, ℕ, suc, ◌+◌, ◌*◌, ◌<◌, ◌≤◌, true, sym, ap, ◌∙◌, mul-le-mul_right, mul-le-mul, arith, w64, Fits, ltb-false, leb-true}
 use Rattle.isdb_tlv.specs.Guards.{◌<?◌}
 use Rattle.isdb_mmt.specs.Memory.Layout.{most_media_ids, most_control_ids, most_sections, most_mfu_area, most_message_area, most_table_area, most_packets, state_size}
-use Rattle.isdb_mmt.specs.Memory.Limits.{in_range, places_in_range, areas_in_range, packets_in_range, lengths_for, long_enough, needed_of, need_number, asked, Agreement}
+use Rattle.isdb_mmt.specs.Memory.Limits.{in_range, places_in_range, areas_in_range, packets_in_range, lengths_for, long_enough, needed_of, asked, Agreement}
 use Rattle.isdb_mmt.specs.declared.decoder.limits.Limits.{Limits}
 use Rattle.isdb_mmt.specs.declared.decoder.limits.Lengths.{Lengths}
-use Rattle.isdb_mmt.specs.declared.decoder.limits.Need.{Need}
-use Rattle.isdb_mmt.specs.declared.decoder.limits.Need.TheVariants.{Bytes as bytes, Refused}
 use Rattle.isdb_tlv.proofs.Guards.{either}
 use Rattle.isdb_mmt.proofs.Guards.{was_left, was_guarded, was_asked}
+use Rattle.isdb_mmt.specs.Memory.Refusals.{answer_number}
+use Rattle.isdb_mmt.specs.declared.decoder.refusal.Refusal.{Refusal}
+use Rattle.std.specs.Prelude.{Result, Ok, Err}
 
 -- 1 to `most`
 abbrev pub Within : ℕ → ℕ → Type 0
@@ -89,7 +90,7 @@ passed l lent e =
 
 -- ---- what is needed and what is asked
 
-needs_number : (l : Limits) (lent : Lengths) → long_enough (lengths_for l) lent ≡ true → asked l lent ≡ need_number (needed_of l)
+needs_number : (l : Limits) (lent : Lengths) → long_enough (lengths_for l) lent ≡ true → asked l lent ≡ answer_number (needed_of l)
 unfolding asked needed_of
 needs_number l lent e =
     either (places_in_range l)
@@ -99,9 +100,9 @@ needs_number l lent e =
     (λ p. rw p)
 
 -- the lengths of a need
-abbrev lengths_in : Lengths → Need → Lengths
-lengths_in m (bytes n) = n
-lengths_in m (Refused k) = m
+abbrev lengths_in : Lengths → Result Lengths Refusal → Lengths
+lengths_in m (Ok n) = n
+lengths_in m (Err r) = m
 
 needs_bytes : (l : Limits) → lengths_in (lengths_for l) (needed_of l) ≡ lengths_for l
 unfolding needed_of
@@ -118,6 +119,6 @@ agreement l lent =
       enough =
           λ n e h.
           let d : n ≡ lengths_for l = ap (lengths_in (lengths_for l)) (sym e) ∙ needs_bytes l in
-          needs_number l lent (rw d at h) ∙ ap need_number e;
+          needs_number l lent (rw d at h) ∙ ap answer_number e;
       number = needs_number l lent;
     }

@@ -1,29 +1,24 @@
 -- The effect of a payload's units: one turn of its walk, and that no sum overflows. Assumes nothing.
 use Rattle.std.specs.Prelude.{None, Some, Option, is_some}
-use Rattle.std.proofs.Common.{◌≡◌, ℕ, zero, suc, ◌+◌, ◌-◌, ◌<◌, ◌≤◌, min, max, Bool, true, false, leb, List, [], ◌∷◌, length, drop, sym, refl, ap, ◌∙◌, arith, length-take, w64, Fits}
+use Rattle.std.proofs.Common.{◌≡◌, ℕ, zero, suc, ◌+◌, ◌-◌, ◌<◌, ◌≤◌, min, max, Bool, true, false, leb, List, [], ◌∷◌, length, drop, sym, refl, ◌∙◌, arith, length-take}
 use Rattle.isdb_tlv.proofs.Guards.{cond_elim}
 use Rattle.isdb_mmt.specs.Formats.Part.{part_of}
-use Rattle.isdb_mmt.specs.Decoder.Maps.{one}
 use Rattle.isdb_tlv.specs.Walk.{also}
 use Rattle.isdb_mmt.specs.Formats.Mpu.{unit_step, units_from, units_of}
 use Rattle.isdb_mmt.specs.Decoder.Objects.{most_object}
-use Rattle.isdb_mmt.specs.Pushes.MediaEffect.{unit_object, complete_unit, head_unit, dropped_unit, grown_to, grown_by, grown_unit, with_unit, with_each_unit, units_effect, Roomy, Light, Ready}
+use Rattle.isdb_mmt.specs.Pushes.MediaEffect.{unit_object, complete_unit, head_unit, dropped_unit, grown_to, grown_by, grown_unit, with_unit, with_each_unit, units_effect, Roomy, Ready}
 use Rattle.isdb_mmt.specs.declared.part.Part.{Part}
 use Rattle.isdb_mmt.specs.declared.mpu.FragmentationIndicator.{FragmentationIndicator}
 use Rattle.isdb_mmt.specs.declared.mpu.FragmentationIndicator.TheVariants.{Complete, Head, Middle, Last}
 use Rattle.isdb_mmt.specs.declared.mpu.Unit.{Unit as DataUnit}
-use Rattle.isdb_mmt.specs.declared.mpu.UnitStep.{UnitStep}
-use Rattle.isdb_mmt.specs.declared.mpu.UnitStep.TheVariants.{End, Malformed as not_whole, Unit as found}
+use Rattle.isdb_mmt.specs.Formats.Steps.{UnitStep}
+use Rattle.isdb_mmt.specs.declared.walk_step.WalkStep.TheVariants.{End, Malformed as not_whole, Entry as found}
 use Rattle.isdb_mmt.specs.declared.decoder.media.Object.{Object}
 use Rattle.isdb_mmt.specs.declared.decoder.reassembler.MediaEffect.{MediaEffect}
 use Rattle.isdb_mmt.proofs.Units.{unit_lies, units_at}
 use Rattle.isdb_mmt.proofs.Maps.{one_le}
 
 -- ---- one turn
-
--- a count below 2 ^ 32 has room for one more
-pub one_fits : (n x : ℕ) (b : Bool) → n < 4294967296 → x ≡ one b → Fits w64 (n + x)
-one_fits n x b h e = record { fits = omega (arith, one_le b, e) }
 
 module _ (t : MediaEffect) (at next n : ℕ) (r : Roomy t at) (h : at + n ≤ next) (b : at < next) where
   roomy_dropped : (p : Part) → Roomy (dropped_unit t p) next
@@ -138,15 +133,6 @@ module _ (q : List ℕ) (timed aggregated : Bool) (f : FragmentationIndicator) (
 
       pub going_less : length q - next < length q - at
       going_less = let d = data_ahead q timed aggregated at next u x ex e in omega arith
-
-      pub going_small : (b : List ℕ) → b ≡ part_of q u.«data» → Light t (length b)
-      going_small b eb =
-          let d = data_ahead q timed aggregated at next u x ex e in
-          let k : length b ≡ length (part_of q u.«data») = ap length eb in
-          let r = g.room in
-          let l = g.long in
-          let w = g.within in
-          record { drops = omega arith; records = omega arith; bytes = omega arith; unit = omega arith }
 
       pub going_next : (b : List ℕ) → b ≡ part_of q u.«data» → (t' : MediaEffect) → t' ≡ with_unit f mpu rap t u (length b)
           → WalkState q timed aggregated f mpu rap start next t'

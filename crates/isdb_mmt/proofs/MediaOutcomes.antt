@@ -1,13 +1,12 @@
 -- The outcome of a media packet is what the model does with it; the place after it is that of the model's asset. Assumes nothing.
 use Rattle.std.specs.Prelude.{None, Some, Option}
-use Rattle.std.proofs.Common.{◌≡◌, ℕ, ◌+◌, ◌<◌, ◌≤◌, max, Bool, true, false, cond, not, ◌&&◌, List, [], length, sym, refl, ap, ◌∙◌, subst, arith, length-take, w64, Fits}
+use Rattle.std.proofs.Common.{◌≡◌, ℕ, ◌+◌, ◌<◌, ◌≤◌, max, Bool, true, false, cond, not, ◌&&◌, List, [], length, sym, refl, ap, ◌∙◌, subst, arith, length-take}
 use Rattle.isdb_tlv.specs.Bytes.{be}
 use Rattle.isdb_tlv.specs.declared.mmtp.Header.{Header}
 use Rattle.isdb_mmt.specs.Decoder.Packet.{Bytes, PayloadUnit, MpuPacket, header_in, payload_units, units_for, units_read, media_of, clear, readable}
 use Rattle.isdb_mmt.specs.Decoder.Maps.{one}
 use Rattle.isdb_mmt.specs.Formats.Mpu.{payload_header, declared_of, units_of, lost_from}
 use Rattle.isdb_mmt.specs.Decoder.Objects.{Asset, most_object, malformed_payload, after_headers, asset_after}
-use Rattle.isdb_mmt.specs.Memory.Layout.{most_count}
 use Rattle.isdb_mmt.specs.Memory.View.{asset_of_place}
 use Rattle.isdb_mmt.specs.Pushes.MediaPush.{place_for_asset}
 use Rattle.isdb_mmt.specs.Pushes.MediaEffect.{with_each_unit, units_effect, Roomy, Ready}
@@ -134,9 +133,6 @@ outcome_small p n scrambled rap b r can e =
     small_by (start_of p n) rap b (roomy_start p n can.object) can.long scrambled (payload_header b) in
     let w : Roomy r.units 65537 = subst (λ (x : MediaOutcome). Roomy x.units 65537) (sym e) s in
     record { drops = omega (arith, w.drops); records = w.records; bytes = omega (arith, w.bytes) }
-
-pub sum_fits : (n x : ℕ) → n ≤ most_count → x ≤ 4294967295 → Fits w64 (n + x)
-sum_fits n x h k = record { fits = omega arith }
 
 pub adds_made : (p : Media) (n : ℕ) (scrambled bad : Bool) (h : Option PayloadHeader) (t : MediaEffect) (l o1 o2 o3 o4 o5 : ℕ) (b1 b2 b3 b4 : Bool)
     → l ≡ lost_in p n → o1 ≡ one scrambled → b1 ≡ completes_in h → b2 ≡ scrambled && b1 → o2 ≡ one b2 → b3 ≡ new_in p h → o3 ≡ one b3

@@ -15,10 +15,10 @@ use Rattle.isdb_mmt.specs.Decoder.Kept.{table_read}
 use Rattle.isdb_mmt.specs.declared.part.Part.{Part}
 use Rattle.isdb_mmt.specs.declared.message.Content.{Content}
 use Rattle.isdb_mmt.specs.declared.message.Content.TheVariants.{Malformed as bad_message, Nothing as nothing, Table as one_table_of, Tables}
-use Rattle.isdb_mmt.specs.declared.message.MessageStep.{MessageStep}
-use Rattle.isdb_mmt.specs.declared.message.MessageStep.TheVariants.{End as no_more, Malformed as past_end, Message as message_step}
-use Rattle.isdb_mmt.specs.declared.message.TableStep.{TableStep}
-use Rattle.isdb_mmt.specs.declared.message.TableStep.TheVariants.{End as no_more, Malformed as bad_table, Table as table_step_of}
+use Rattle.isdb_mmt.specs.Formats.Steps.{MessageStep}
+use Rattle.isdb_mmt.specs.declared.walk_step.WalkStep.TheVariants.{End as no_more, Malformed as past_end, Entry as message_step}
+use Rattle.isdb_mmt.specs.Formats.Steps.{TableStep}
+use Rattle.isdb_mmt.specs.declared.walk_step.WalkStep.TheVariants.{End as no_more, Malformed as bad_table, Entry as table_step_of}
 use Rattle.isdb_mmt.specs.declared.decoder.table_outcome.TableOutcome.{TableOutcome}
 use Rattle.isdb_mmt.specs.declared.decoder.walk.WalkState.{WalkState}
 use Rattle.isdb_mmt.specs.Pushes.Placed.{join_of, placed, placed_in, placed_of, placed_of_all, placed_from, malformed_from, placed_cut, behind}

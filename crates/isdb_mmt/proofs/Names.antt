@@ -1,6 +1,6 @@
 -- The laws of names: finding one, and that none stands twice. Assumes nothing.
 use Rattle.std.specs.Prelude.{None, Option, Some}
-use Rattle.std.proofs.Common.{◌≡◌, ℕ, zero, suc, ◌+◌, ◌-◌, ◌*◌, ◌/◌, ◌%◌, ◌^◌, ◌<◌, ◌≤◌, Bool, true, false, cond, T, eqb, ◌⊎◌, List, [], ◌∷◌, ◌++◌, length, get_or, set, sym, refl, ap, ◌∙◌, subst, inl, inr, ⊎_elim, mul-le-mul_right, zero-add, add-one, arith, length-set, get_or-set_other, get_or-set_same, le-ltb, lt-ltb, eq-eqb, ne_eqb, eqb-true}
+use Rattle.std.proofs.Common.{◌≡◌, ℕ, zero, suc, ◌+◌, ◌-◌, ◌*◌, ◌/◌, ◌%◌, ◌^◌, ◌<◌, ◌≤◌, Bool, true, false, cond, T, eqb, ◌⊎◌, List, [], ◌∷◌, ◌++◌, length, get_or, set, sym, refl, ap, ◌∙◌, subst, inl, inr, ⊎_elim, zero-add, add-one, arith, length-set, get_or-set_other, get_or-set_same, le-ltb, lt-ltb, eq-eqb, ne_eqb, eqb-true}
 use borrow.Author.Tests.{eqb-false}
 use Rattle.isdb_tlv.specs.Bytes.{be, with_bit_of}
 use Rattle.isdb_tlv.proofs.Messages.{bit_set}
@@ -19,12 +19,6 @@ there None = false
 abbrev pub index_in : Option ℕ → ℕ
 index_in (Some i) = i
 index_in None = 0
-
--- the next place starts within the memory that has them all
-pub next_in : (at size n i p m : ℕ) → at + n * size ≤ m → i < n → p ≡ at + i * size → (p + size ≤ m) × (p + size ≡ at + (i + 1) * size)
-next_in at size n i p m h b e =
-    let k : (i + 1) * size ≤ n * size = mul-le-mul_right size (omega arith) in
-    (omega arith, omega arith)
 
 module _ (l : List ℕ) (size n i p : ℕ) where
   pub next : i < n → names_from (n - i) size p l ≡ be 4 l p ∷ names_from (n - (i + 1)) size (p + size) l

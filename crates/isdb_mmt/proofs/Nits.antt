@@ -36,8 +36,8 @@ module _ (s : List ℕ) where
     pub bcd_on : d ≤ 9 → bcd_from (i + 1) s ≡ Some (v * 10 + d)
     bcd_on l = rw (add-one, e, ← h, le-ltb 9 d l)
 
-    pub bcd_none : (n : ℕ) → i < n → 9 < d → bcd_from n s ≡ None
-    bcd_none n b l =
-        let f : bcd_from (i + 1) s ≡ None = rw (add-one, e, ← h, lt-ltb 9 d l) in
-        let k : i + 1 + (n - (i + 1)) ≡ n = omega arith in
-        rw k at (stays (i + 1) (n - (i + 1)) f)
+  pub bcd_none : (n i : ℕ) {v : ℕ} → bcd_from i s ≡ Some v → i < n → 9 < digit s i → bcd_from n s ≡ None
+  bcd_none n i e b l =
+      let f : bcd_from (i + 1) s ≡ None = rw (add-one, e, lt-ltb 9 (digit s i) l) in
+      let k : i + 1 + (n - (i + 1)) ≡ n = omega arith in
+      rw k at (stays (i + 1) (n - (i + 1)) f)

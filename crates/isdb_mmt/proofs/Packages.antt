@@ -1,7 +1,7 @@
 -- The packages and the IP deliveries of a PLT, one behind another: a loop which counts them down goes over all of them.
 -- Assumes nothing.
 use Rattle.std.specs.Prelude.{None, Option, Some}
-use Rattle.std.proofs.Common.{◌≡◌, ℕ, ◌+◌, ◌-◌, ◌<◌, ◌≤◌, true, false, not, eqb, ltb, List, length, get_or, drop, refl, arith, get_or-drop, w8, Fits}
+use Rattle.std.proofs.Common.{◌≡◌, ℕ, ◌+◌, ◌-◌, ◌<◌, ◌≤◌, false, not, eqb, ltb, List, length, get_or, drop, arith, get_or-drop, w8, Fits}
 use Rattle.isdb_tlv.proofs.Guards.{cond_elim}
 use Rattle.isdb_tlv.proofs.Walk.{run_stop, run_more}
 use Rattle.isdb_mmt.specs.Formats.Plt.{package_at_of, behind_package, packages_end, delivery_size, delivery_at_of, delivery_item, deliveries_whole}
@@ -36,10 +36,6 @@ module _ (s : List ℕ) (at : ℕ) where
   end_on n {p} {next} h e = run_more (λ q. behind_package (package_at_of s q)) Some at n {next = next} {f = λ end. end} h (rw e)
 
   -- the turns of the loop that asks whether n deliveries are whole
-  pub whole_zero : deliveries_whole 0 s at ≡ true
-  unfolding deliveries_whole
-  whole_zero = refl
-
   pub whole_none : (n : ℕ) → 0 < n → delivery_at_of s at ≡ None → deliveries_whole n s at ≡ false
   unfolding deliveries_whole
   whole_none n h e = all_stop (λ p. delivery_item (delivery_at_of s p)) at n h (rw e)

@@ -25,7 +25,7 @@ use Rattle.isdb_mmt.specs.declared.decoder.place.PlaceFor.TheVariants.{Own}
 use Rattle.isdb_mmt.specs.declared.decoder.media.Media.{Media}
 use Rattle.isdb_mmt.specs.declared.decoder.reassembler.MediaEffect.{MediaEffect}
 use Rattle.isdb_mmt.specs.declared.decoder.reassembler.MediaOutcome.{MediaOutcome}
-use Rattle.isdb_mmt.specs.declared.decoder.records.Answer.{Answer}
+use Rattle.isdb_mmt.specs.Pushes.Answer.{Answer}
 use Rattle.isdb_mmt.specs.declared.decoder.plain.Plain.TheVariants.{Grown}
 use Rattle.isdb_mmt.proofs.Names.{true_not_false}
 use Rattle.isdb_mmt.proofs.Limits.{passed}

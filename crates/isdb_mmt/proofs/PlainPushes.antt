@@ -1,5 +1,5 @@
 -- A plain packet pushed: it is answered, committed and handed out as every media packet is. Assumes nothing.
-use Rattle.std.specs.Prelude.{None, Option, Some, is_some}
+use Rattle.std.specs.Prelude.{None, Option, Some, is_some, Result, Ok, ⊤}
 use Rattle.std.proofs.Common.{◌≡◌, ℕ, ◌+◌, ◌-◌, ◌*◌, ◌≤◌, Bool, true, false, not, ◌&&◌, List, [], ◌∷◌, length, get_or, drop, sym, refl, ap, ◌∙◌, subst, arith, length-drop, w32, Fits, le-ltb, eq-eqb}
 use Rattle.isdb_tlv.specs.Guards.{◌<?◌}
 use Rattle.isdb_tlv.specs.Bytes.{be}
@@ -14,7 +14,7 @@ use Rattle.isdb_mmt.specs.Formats.Mpu.{payload_header_fields, declared_of, units
 use Rattle.isdb_mmt.specs.Memory.Layout.{table_ids}
 use Rattle.isdb_mmt.specs.Memory.Session.{Session, limits_of, counters_of, media_at}
 use Rattle.isdb_mmt.specs.Memory.Check.{sound, lengths_of}
-use Rattle.isdb_mmt.specs.Memory.Octets.{Octets}
+use Rattle.isdb_mmt.specs.Memory.Octets.{Octets, Lent}
 use Rattle.isdb_mmt.specs.Memory.Opening.{lent}
 use Rattle.isdb_mmt.specs.Pushes.Records.{object_for, row_size, row_fields, rows_from, data_from}
 use Rattle.isdb_mmt.specs.Pushes.MediaPush.{no_object, media_place_for, MediaPushed}
@@ -34,7 +34,7 @@ use Rattle.isdb_mmt.specs.declared.decoder.media.Object.{Object}
 use Rattle.isdb_mmt.specs.declared.decoder.media.Media.{Media}
 use Rattle.isdb_mmt.specs.declared.decoder.reassembler.MediaEffect.{MediaEffect}
 use Rattle.isdb_mmt.specs.declared.decoder.reassembler.MediaOutcome.{MediaOutcome}
-use Rattle.isdb_mmt.specs.declared.decoder.records.Answer.{Answer}
+use Rattle.isdb_mmt.specs.Pushes.Answer.{Answer}
 use Rattle.isdb_mmt.specs.declared.decoder.plain.Plain.{Plain}
 use Rattle.isdb_mmt.specs.declared.decoder.plain.Plain.TheVariants.{No, Yes, Grown}
 use Rattle.isdb_mmt.proofs.Guards.{yes}
@@ -45,6 +45,9 @@ use Rattle.isdb_mmt.proofs.MediaPushes.{can_all, pushed_yes}
 use Rattle.isdb_mmt.proofs.Taking.{media_pushed}
 use Rattle.isdb_mmt.proofs.Pushing.{push_taken}
 use Rattle.isdb_mmt.proofs.PlainTests.{mpu_facts, plain_media, unit_facts, unit_header, whole_facts, declared_long, unit_there, unit_here, one_unit, unit_data, unit_length, header_at, NextFacts, next_facts, own_id}
+use Rattle.isdb_mmt.specs.Memory.Lending.{session_asked}
+use Rattle.isdb_mmt.specs.declared.decoder.refusal.Refusal.{Refusal}
+use Rattle.isdb_mmt.proofs.ReadSteps.{was_sound}
 
 -- ---- what it does to its place
 
@@ -405,50 +408,42 @@ module _ (kind : ℕ) (b : Bytes) (r : Bool) (er : r ≡ is_mpu kind b) (yes-mpu
         whole_packet : (records bytes : ℕ) → MediaPushed s rows out (media_of h p) 0 records bytes s' rows' out'
             → Pushed s (x rows out) 0 records bytes s' rows' out'
         whole_packet records bytes m =
-            push_taken s (x rows out) true (sym sound_here) refl short may em yes-may can.lent.state can.lent.objects can.lent.messages
-            can.lent.tables o (accepted records bytes) s' rows' out'
+            push_taken s (x rows out) sound_here short may em yes-may can.lent o 0 records bytes s' rows' out'
             (subst (λ (y : Packet). PacketPushed s rows out y 0 records bytes s' rows' out') (sym packet_is)
             (media_pushed s can.session rows out (media_of h p) 0 records bytes s' rows' out' m))
 
 -- ---- the call
 
-module _ (st ot ob me ta : List ℕ) where
-  abbrev given : Session
-  given = lent st ot ob me ta
+module _ (s : Session) where
+  can_with : length s.others ≡ table_ids → sound s ≡ true → Lent s → CanTryPlain s
+  can_with n e o = record { session = sound_session s e; others_long = n; lent = o }
 
-  can_with : length ot ≡ table_ids → sound given ≡ true → Octets st → Octets ob → Octets me → Octets ta → CanTryPlain given
-  can_with n e o1 o2 o3 o4 =
-      record {
-        session = sound_session given e;
-        others_long = n;
-        lent = record { state = o1; objects = o2; messages = o3; tables = o4 };
-      }
+  pub can_try_known : (known : Bool) → MayBeKnown known s → not known ≡ false → Lent s → CanTryPlain s
+  can_try_known known may e o = can_with may.others (may.session (yes refl e)) o
 
-  pub can_try_known : (known : Bool) → MayBeKnown known given → not known ≡ false → Octets st → Octets ob → Octets me → Octets ta → CanTryPlain given
-  can_try_known known may e o1 o2 o3 o4 = can_with may.others (may.session (yes refl e)) o1 o2 o3 o4
+  pub can_try_asked : length s.others ≡ table_ids → (r : Result ⊤ Refusal) → r ≡ session_asked s → (u : ⊤) → r ≡ Ok u → Lent s → CanTryPlain s
+  can_try_asked n r er u e o = can_with n (was_sound s r er u e) o
 
-  pub can_try_asked : length ot ≡ table_ids → (r : Bool) → r ≡ sound given → not r ≡ false → Octets st → Octets ob → Octets me → Octets ta → CanTryPlain given
-  can_try_asked n r er e o1 o2 o3 o4 = can_with n (yes er e) o1 o2 o3 o4
-
-  module _ (kind : ℕ) (b rows out : Bytes) (t : Plain) (st' ob' : List ℕ) (rows' out' : Bytes) (w : PlainPushed given (input kind b rows out) t (lent st' ot ob' me ta) rows' out') where
-    pub plain_taken : (n : ℕ) → t ≡ Yes n → (a : Answer) → a ≡ accepted 1 n
-        → Pushed given (input kind b rows out) a.number a.records a.bytes (lent st' ot ob' me ta) rows' out'
+  module _ (kind : ℕ) (b rows out : Bytes) (t : Plain) (s' : Session) (rows' out' : Bytes) (w : PlainPushed s (input kind b rows out) t s' rows' out') where
+    pub plain_taken : (n : ℕ) → t ≡ Yes n → (a : Answer) → a ≡ accepted 1 n → Pushed s (input kind b rows out) a.number a.records a.bytes s' rows' out'
     plain_taken n e a ea = rw ea (w.taken n e)
 
-    pub plain_grown : t ≡ Grown → (a : Answer) → a ≡ accepted 0 0
-        → Pushed given (input kind b rows out) a.number a.records a.bytes (lent st' ot ob' me ta) rows' out'
+    pub plain_grown : t ≡ Grown → (a : Answer) → a ≡ accepted 0 0 → Pushed s (input kind b rows out) a.number a.records a.bytes s' rows' out'
     plain_grown e a ea = rw ea (w.grown e)
 
     module _ (no_plain : t ≡ No) where
-      as_before : (lent st' ot ob' me ta ≡ given) × ((rows' ≡ rows) × (out' ≡ out))
+      as_before : (s' ≡ s) × ((rows' ≡ rows) × (out' ≡ out))
       as_before = w.same no_plain
 
-      pub still_known : (known : Bool) → MayBeKnown known given → not known ≡ false → MayBeKnown true (lent st' ot ob' me ta)
-      still_known known may e = record { others = may.others; session = λ z. ap sound as_before.0 ∙ may.session (yes refl e) }
+      still : sound s ≡ true → length s.others ≡ table_ids → MayBeKnown true s'
+      still e n = record { others = ap (λ (y : Session). length y.others) as_before.0 ∙ n; session = λ z. ap sound as_before.0 ∙ e }
 
-      pub still_asked : length ot ≡ table_ids → (r : Bool) → r ≡ sound given → not r ≡ false → MayBeKnown true (lent st' ot ob' me ta)
-      still_asked n r er e = record { others = n; session = λ z. ap sound as_before.0 ∙ yes er e }
+      pub still_known : (known : Bool) → MayBeKnown known s → not known ≡ false → MayBeKnown true s'
+      still_known known may e = still (may.session (yes refl e)) may.others
 
-      pub then_pushed : (n k l : ℕ) (s'' : Session) (rows'' out'' : Bytes) → Pushed (lent st' ot ob' me ta) (input kind b rows' out') n k l s'' rows'' out''
-          → Pushed given (input kind b rows out) n k l s'' rows'' out''
+      pub still_asked : length s.others ≡ table_ids → (r : Result ⊤ Refusal) → r ≡ session_asked s → (u : ⊤) → r ≡ Ok u → MayBeKnown true s'
+      still_asked n r er u e = still (was_sound s r er u e) n
+
+      pub then_pushed : (n k l : ℕ) (s'' : Session) (rows'' out'' : Bytes) → Pushed s' (input kind b rows' out') n k l s'' rows'' out''
+          → Pushed s (input kind b rows out) n k l s'' rows'' out''
       then_pushed n k l s'' rows'' out'' p = rw (as_before.0, as_before.1.0, as_before.1.1) at p

@@ -1,7 +1,7 @@
 -- The tests that tell a plain packet: what each return of the code says, and what an answer yes says of the packet, its payload and its
 -- place. Assumes nothing.
 use Rattle.std.specs.Prelude.{None, Option, Some}
-use Rattle.std.proofs.Common.{◌≡◌, ℕ, zero, suc, ◌+◌, ◌-◌, ◌*◌, ◌/◌, ◌%◌, ◌<◌, ◌≤◌, Bool, true, false, not, eqb, ltb, leb, List, [], ◌∷◌, length, get_or, take, drop, sym, refl, ap, ◌∙◌, add-zero, mul-zero, mul-suc, arith, length-drop, length-take-le, get_or-drop, take_all, get_or-take, drop-drop, w32, w64, Fits, ltb-false, le-ltb, lt-ltb, eq-eqb, ne_eqb, eqb-true, le-leb, leb-false}
+use Rattle.std.proofs.Common.{◌≡◌, ℕ, zero, suc, ◌+◌, ◌-◌, ◌*◌, ◌/◌, ◌%◌, ◌<◌, ◌≤◌, Bool, true, false, not, eqb, ltb, leb, List, [], ◌∷◌, length, get_or, take, drop, sym, refl, ap, ◌∙◌, add-zero, mul-zero, mul-suc, arith, length-drop, length-take-le, get_or-drop, take_all, get_or-take, drop-drop, w32, w64, Fits, ltb-false, le-ltb, eqb-true, le-leb, leb-false}
 use borrow.Author.Tests.{lt-leb, eqb-false}
 use Rattle.isdb_tlv.specs.Bytes.{be}
 use Rattle.isdb_tlv.proofs.Numbers.{be_take, be_drop}
@@ -28,45 +28,16 @@ use Rattle.isdb_mmt.specs.declared.mpu.FragmentationIndicator.{FragmentationIndi
 use Rattle.isdb_mmt.specs.declared.mpu.FragmentationIndicator.TheVariants.{Complete, Middle}
 use Rattle.isdb_mmt.specs.declared.mpu.PayloadHeader.{PayloadHeader}
 use Rattle.isdb_mmt.specs.declared.mpu.Unit.{Unit as DataUnit}
-use Rattle.isdb_mmt.specs.declared.mpu.UnitStep.TheVariants.{End, Unit as found}
+use Rattle.isdb_mmt.specs.declared.walk_step.WalkStep.TheVariants.{End, Entry as found}
 use Rattle.isdb_mmt.specs.declared.decoder.media.Media.{Media}
 use Rattle.isdb_mmt.specs.declared.decoder.place.PlaceFor.TheVariants.{Own}
-use Rattle.isdb_mmt.proofs.Guards.{no, yes, was_left, was_guarded}
+use Rattle.isdb_mmt.proofs.Guards.{yes, was_left, was_guarded}
 use Rattle.isdb_mmt.proofs.Lent.{name_of}
 use Rattle.isdb_mmt.proofs.Names.{true_not_false, there, index_in, place_for_old}
 use Rattle.isdb_mmt.proofs.PlacesFor.{place_for_was_old}
 use Rattle.isdb_mmt.proofs.Units.{units_also, units_at}
 
 -- ---- the packet
-
-module _ (kind : ℕ) (b : Bytes) where
-  pub not_compressed : (kind ≡ 3 → ⊥) → false ≡ is_mpu kind b
-  unfolding is_mpu
-  not_compressed h = rw (ne_eqb kind 3 h)
-
-  module _ (k : kind ≡ 3) where
-    pub too_short : length b < 15 → false ≡ is_mpu kind b
-    unfolding is_mpu
-    too_short h = rw (eq-eqb kind 3 k, lt-ltb (length b) 15 h)
-
-    module _ (l : 15 ≤ length b) where
-      pub with_header : (get_or b 2 0 ≡ 0x61 → ⊥) → false ≡ is_mpu kind b
-      unfolding is_mpu
-      with_header h = rw (eq-eqb kind 3 k, le-ltb (length b) 15 l, ne_eqb (get_or b 2 0) 0x61 h)
-
-      module _ (t : get_or b 2 0 ≡ 0x61) where
-        pub with_counter : 32 ≤ get_or b 3 0 → false ≡ is_mpu kind b
-        unfolding is_mpu
-        with_counter h = rw (eq-eqb kind 3 k, le-ltb (length b) 15 l, eq-eqb (get_or b 2 0) 0x61 t, le-leb 32 (get_or b 3 0) h)
-
-        module _ (v : get_or b 3 0 < 32) where
-          pub with_extension : get_or b 3 0 / 2 % 2 ≡ 1 → false ≡ is_mpu kind b
-          unfolding is_mpu
-          with_extension h = rw (eq-eqb kind 3 k, le-ltb (length b) 15 l, eq-eqb (get_or b 2 0) 0x61 t, lt-leb 32 (get_or b 3 0) v, eq-eqb (get_or b 3 0 / 2 % 2) 1 h)
-
-          pub by_payload : (get_or b 3 0 / 2 % 2 ≡ 1 → ⊥) → eqb (get_or b 4 0 % 64) 0 ≡ is_mpu kind b
-          unfolding is_mpu
-          by_payload h = rw (eq-eqb kind 3 k, le-ltb (length b) 15 l, eq-eqb (get_or b 2 0) 0x61 t, lt-leb 32 (get_or b 3 0) v, ne_eqb (get_or b 3 0 / 2 % 2) 1 h)
 
 -- what is known of it
 pub record MpuFacts (kind : ℕ) (b : Bytes) : Type 0 where
@@ -137,25 +108,6 @@ module _ (kind : ℕ) (b : Bytes) (f : MpuFacts kind b) where
       ∙ ap media header_read
 
 -- ---- the payload
-
-module _ (flags : ℕ) (p : Bytes) where
-  pub no_header : length p < 22 → false ≡ is_unit flags p
-  unfolding is_unit
-  no_header h = rw (lt-ltb (length p) 22 h)
-
-  module _ (l : 22 ≤ length p) (n : ℕ) (e : n ≡ be 2 p 0) where
-    pub no_unit_lem : n < 20 → false ≡ is_unit flags p
-    unfolding is_unit
-    no_unit_lem h = rw (le-ltb (length p) 22 l, ← e, lt-ltb n 20 h)
-
-    module _ (s : 20 ≤ n) where
-      pub cut_off : length p < n + 2 → false ≡ is_unit flags p
-      unfolding is_unit
-      cut_off h = rw (le-ltb (length p) 22 l, ← e, le-ltb n 20 s, lt-ltb (length p) (n + 2) h)
-
-      pub by_flags : n + 2 ≤ length p → eqb (get_or p 2 0) flags ≡ is_unit flags p
-      unfolding is_unit
-      by_flags h = rw (le-ltb (length p) 22 l, ← e, le-ltb n 20 s, le-ltb (length p) (n + 2) h)
 
 pub record UnitFacts (flags : ℕ) (p : Bytes) : Type 0 where
   pub long : 22 ≤ length p
@@ -258,25 +210,6 @@ module _ (q : Bytes) (long : 22 ≤ length q) where
 
 -- ---- the place
 
-module _ (p : List ℕ) (n mpu : ℕ) (x : Bool) (ex : x ≡ flag p 4) where
-  pub none_seen : not x ≡ true → false ≡ is_next (media_place_of p) n mpu
-  unfolding is_next media_place_of
-  none_seen t = rw (no ex t)
-
-  module _ (t : not x ≡ false) (y : Bool) (ey : y ≡ flag p 9) where
-    pub no_mpu_lem : not y ≡ true → false ≡ is_next (media_place_of p) n mpu
-    unfolding is_next media_place_of
-    no_mpu_lem u = rw (yes ex t, no ey u)
-
-    module _ (u : not y ≡ false) (m : ℕ) (em : m ≡ be 4 p 10) where
-      pub other_mpu : (m ≡ mpu → ⊥) → false ≡ is_next (media_place_of p) n mpu
-      unfolding is_next media_place_of
-      other_mpu d = rw (yes ex t, yes ey u, ← em, ne_eqb m mpu d)
-
-      pub by_number : m ≡ mpu → (o : ℕ) → o ≡ be 4 p 5 → (r : Bool) → r ≡ follows o n → r ≡ is_next (media_place_of p) n mpu
-      unfolding is_next media_place_of
-      by_number d o eo r er = rw (yes ex t, yes ey u, ← em, eq-eqb m mpu d, ← eo) er
-
 pub record NextFacts (m : Media) (n mpu : ℕ) : Type 0 where
   pub seen : m.seen ≡ true
   pub mpu_seen : m.mpu_seen ≡ true
@@ -295,20 +228,6 @@ pub next_index : (l : List ℕ) (id n mpu i : ℕ) (f : Option ℕ) → NextAt l
 next_index l id n mpu i f w e = let h : NextAt l id n mpu (Some i) = rw e at w in h.1.1
 
 -- the object that it holds
-module _ (p : List ℕ) (x : Bool) (ex : x ≡ flag p held_place) where
-  pub none_held : not x ≡ true → false ≡ growing (media_place_of p)
-  unfolding growing media_place_of held_object_at
-  none_held t = rw (no ex t)
-
-  module _ (t : not x ≡ false) (y : Bool) (ey : y ≡ flag p (object_place + 5)) where
-    pub not_timed : not y ≡ true → false ≡ growing (media_place_of p)
-    unfolding growing media_place_of held_object_at
-    not_timed u = rw (yes ex t, no ey u)
-
-    pub by_item : not y ≡ false → (z : Bool) → z ≡ flag p (object_place + 20) → not z ≡ growing (media_place_of p)
-    unfolding growing media_place_of held_object_at
-    by_item u z ez = rw (yes ex t, yes ey u, ez)
-
 pub record GrowingFacts (m : Media) : Type 0 where
   pub held : m.held ≡ true
   pub timed : m.object.timed ≡ true

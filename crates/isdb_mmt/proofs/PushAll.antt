@@ -19,7 +19,7 @@ use Rattle.isdb_mmt.specs.Pushes.Records.{row_size}
 use Rattle.isdb_mmt.specs.Pushes.Push.{Input, input, asks, Pushed, leaves_of, Reply, reply_of}
 use Rattle.isdb_mmt.specs.Pushes.PushAll.{line_size, line_fields, header_size, Run, ran, halt_at, pushed_each, nothing_taken, AllPushed, run_of, input_at, progress_after, after_packet}
 use Rattle.isdb_mmt.specs.Pushes.PushAllSteps.{pushed_from, ProgressFits, asked_once, AtTurn, TookPacket, Turned, MayBeKnown, PushedBehind, HasRest, OnePushed}
-use Rattle.isdb_mmt.specs.declared.decoder.records.Answer.{Answer}
+use Rattle.isdb_mmt.specs.Pushes.Answer.{Answer}
 use Rattle.isdb_mmt.specs.declared.decoder.many.Progress.{Progress}
 use Rattle.isdb_mmt.specs.declared.decoder.many.Pushes.{Pushes}
 use Rattle.isdb_mmt.specs.declared.decoder.many.Halt.{Halt}
@@ -34,19 +34,14 @@ use Rattle.isdb_mmt.proofs.Accepted.{push_lent}
 use Rattle.isdb_mmt.proofs.RoomTest.{were_asked}
 use Rattle.isdb_mmt.proofs.Names.{true_not_false}
 use Rattle.isdb_mmt.proofs.Calls.{push_determined}
+use Rattle.isdb_mmt.specs.Memory.Refusals.{refusal_of}
+use Rattle.isdb_mmt.specs.Memory.Lending.{session_asked}
 
 -- ---- whether there is a session
 
-module _ (s : Session) where
-  pub known_session : (known : Bool) → MayBeKnown known s → known ≡ true → true ≡ sound s
-  known_session known h t = sym (h.session t)
-
-  pub asked_session : (r : Bool) → r ≡ sound_in s.state s.others (lengths_of s) → r ≡ sound s
-  unfolding sound
-  asked_session r e = e
-
-  pub unknown_session : length s.others ≡ table_ids → MayBeKnown false s
-  unknown_session h = record { others = h; session = λ e. true_not_false false e refl }
+pub known_session : (s : Session) (known : Bool) → MayBeKnown known s → known ≡ true → Ok tt ≡ session_asked s
+unfolding session_asked
+known_session s known h t = rw (h.session t)
 
 -- ---- a packet's line
 
@@ -139,11 +134,9 @@ module _ (known : Bool) (c : Run) (p : TlvPacket) (h : HasRest known c) where
 -- ---- all steps
 
 pub at_turn_first : (known : Bool) (s : Session) (input : Bytes) (rows out lines : Bytes) → length s.others ≡ table_ids → known ≡ asked_once s (length input)
-    → Octets s.state → Octets s.objects → Octets s.messages → Octets s.tables
-    → length rows < count_of_usize → length out < count_of_usize → length lines < count_of_usize
+    → Lent s → length rows < count_of_usize → length out < count_of_usize → length lines < count_of_usize
     → AtTurn known input (run_of s rows out lines nothing_taken)
-at_turn_first known s input rows out lines h e o1 o2 o3 o4 n1 n2 n3 =
-    let l : Lent s = record { state = o1; objects = o2; messages = o3; tables = o4 } in
+at_turn_first known s input rows out lines h e l n1 n2 n3 =
     record {
       others = h;
       lent = l;
@@ -199,12 +192,12 @@ module _ (known : Bool) (input : Bytes) (most : ℕ) (c : Run) (h : AtTurn known
 
         module _ (a : Answer) (s' : Session) (rows' out' lines' : Bytes) (q : OnePushed c packet a s' rows' out' lines') where
           halts_refused : (a.number ≡ 0 → ⊥)
-              → ran (run_of s' rows' out' lines' c.progress) (Refused a.number) ≡ pushed_from input most c
+              → ran (run_of s' rows' out' lines' c.progress) (Refused (refusal_of a.number)) ≡ pushed_from input most c
           unfolding pushed_each
           halts_refused z =
               let f : eqb (asks c.session (input_at c packet)) 0 ≡ false = ne_eqb _ 0 (λ e. z (q.number ∙ e)) in
-              ap (λ (y : Run). ran y (Refused a.number)) (q.same z)
-              ∙ ap (λ (m : ℕ). ran c (Refused m)) q.number
+              ap (λ (y : Run). ran y (Refused (refusal_of a.number))) (q.same z)
+              ∙ ap (λ (m : ℕ). ran c (Refused (refusal_of m))) q.number
               ∙ sym (rw (first_packet, sym ef ∙ ff, f))
 
           module _ (z : a.number ≡ 0) where
@@ -295,7 +288,7 @@ module _ (known : Bool) (input : Bytes) (c : Run) (h : AtTurn known input c) (fu
     own_bytes : OnePushed c (record { kind = kind; bytes = take n (drop start input) }) a s' rows' out' lines'
     own_bytes = rw eb at q
 
-    pub turn_refused : (a.number ≡ 0 → ⊥) → Turned known input most c (Err (Refused a.number)) s' rows' out' lines'
+    pub turn_refused : (a.number ≡ 0 → ⊥) → Turned known input most c (Err (Refused (refusal_of a.number))) s' rows' out' lines'
     turn_refused z = halts_refused known input most c h k ek kind start n next d full ef ff a s' rows' out' lines' own_bytes z
 
     module _ (z : a.number ≡ 0) where
@@ -314,11 +307,6 @@ module _ (known : Bool) (input : Bytes) (c : Run) (h : AtTurn known input c) (fu
 pub record Running (known : Bool) (input : Bytes) (most : ℕ) (c₀ c : Run) : Type 0 where
   pub holds : AtTurn known input c
   pub same : pushed_from input most c₀ ≡ pushed_from input most c
-  pub state : length c.session.state ≡ length c₀.session.state
-  pub others : length c.session.others ≡ length c₀.session.others
-  pub objects : length c.session.objects ≡ length c₀.session.objects
-  pub messages : length c.session.messages ≡ length c₀.session.messages
-  pub tables : length c.session.tables ≡ length c₀.session.tables
   pub rows : length c.rows ≡ length c₀.rows
   pub out : length c.out ≡ length c₀.out
   pub lines : length c.lines ≡ length c₀.lines
@@ -328,11 +316,6 @@ running_first known input most c h =
     record {
       holds = h;
       same = refl;
-      state = refl;
-      others = refl;
-      objects = refl;
-      messages = refl;
-      tables = refl;
       rows = refl;
       out = refl;
       lines = refl;
@@ -349,23 +332,16 @@ module _ (known : Bool) (input : Bytes) (most : ℕ) (c₀ c : Run) (h : Running
   pub turn_less : (y : Progress) → t ≡ Ok y → length input - y.at < length input - c.progress.at
   turn_less y e = (is_taken y e).ahead
 
-  pub running_next : (y : Progress) → t ≡ Ok y → length s'.state ≡ length c.session.state → length s'.others ≡ length c.session.others
-      → length s'.objects ≡ length c.session.objects → length s'.messages ≡ length c.session.messages
-      → length s'.tables ≡ length c.session.tables → length rows' ≡ length c.rows → length out' ≡ length c.out
-      → length lines' ≡ length c.lines → Running known input most c₀ (run_of s' rows' out' lines' y)
-  running_next y e e1 e2 e3 e4 e5 e6 e7 e8 =
+  pub running_next : (y : Progress) → t ≡ Ok y → length rows' ≡ length c.rows → length out' ≡ length c.out → length lines' ≡ length c.lines
+      → Running known input most c₀ (run_of s' rows' out' lines' y)
+  running_next y e e1 e2 e3 =
       let d = is_taken y e in
       record {
         holds = d.holds;
         same = h.same ∙ d.same;
-        state = e1 ∙ h.state;
-        others = e2 ∙ h.others;
-        objects = e3 ∙ h.objects;
-        messages = e4 ∙ h.messages;
-        tables = e5 ∙ h.tables;
-        rows = e6 ∙ h.rows;
-        out = e7 ∙ h.out;
-        lines = e8 ∙ h.lines;
+        rows = e1 ∙ h.rows;
+        out = e2 ∙ h.out;
+        lines = e3 ∙ h.lines;
       }
 
   pub runs_halted : (w : Halt) → t ≡ Err w → ran (run_of s' rows' out' lines' c.progress) w ≡ pushed_from input most c₀

@@ -32,6 +32,8 @@ use Rattle.isdb_mmt.proofs.SoundFits.{rows_read}
 use Rattle.isdb_mmt.proofs.Accepted.{push_lent}
 use Rattle.isdb_mmt.proofs.PacketLeaves.{taken}
 use Rattle.isdb_mmt.proofs.Calls.{reply_number, demand_3}
+use Rattle.isdb_mmt.specs.Memory.Refusals.{refusal_of}
+use Rattle.isdb_mmt.proofs.Refusals.{asks_told}
 
 -- ---- a buffer, the first `k` bytes of which are settled, and what the next one leaves of the rest
 
@@ -112,7 +114,7 @@ module _ (c : Run) (p : TlvPacket) where
   unfolding reply_of
   refused_reply f = rw f
 
-  came_refused : eqb (asks c.session x) 0 ≡ false → Came c (ran c (Refused (asks c.session x))) c.session ((x, y) ∷ [])
+  came_refused : eqb (asks c.session x) 0 ≡ false → Came c (ran c (Refused (refusal_of (asks c.session x)))) c.session ((x, y) ∷ [])
   unfolding all_rows all_data all_lines accepted record_count data_count refusals
   came_refused f =
       rw (refused_reply f)
@@ -124,7 +126,7 @@ module _ (c : Run) (p : TlvPacket) where
         packets = rw f (omega arith);
         records = omega arith;
         bytes = omega arith;
-        number = rw f;
+        number = rw (f, asks_told c.session x f);
       })
 
   module _ (z : asks c.session x ≡ 0) (h : Settled c) where

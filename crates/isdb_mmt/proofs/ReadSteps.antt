@@ -1,20 +1,19 @@
 -- What a reading answers, question by question, and the places that it looks at. Assumes nothing.
-use Rattle.std.proofs.Common.{◌≡◌, ℕ, ◌+◌, ◌*◌, ◌<◌, ◌≤◌, Bool, true, false, eqb, List, [], ◌∷◌, length, sym, refl, ap, ◌∙◌, arith, w64, Fits}
+use Rattle.std.proofs.Common.{◌≡◌, ℕ, ◌+◌, ◌<◌, ◌≤◌, Bool, true, false, eqb, List, [], ◌∷◌, length, sym, refl, ap, ◌∙◌, arith}
 use Rattle.std.specs.Prelude.{Result, Ok, Err, ⊤, if◌then◌else◌, Option, Some}
 use Rattle.isdb_mmt.specs.declared.decoder.refusal.Refusal.{Refusal}
 use Rattle.isdb_mmt.specs.declared.decoder.refusal.Refusal.TheVariants.{NotASession}
 use Rattle.isdb_tlv.proofs.Guards.{either}
 use Rattle.isdb_mmt.specs.Memory.Lent.{names_from, found_from}
-use Rattle.isdb_mmt.specs.Memory.Layout.{most_media_ids, most_mfu_area}
+use Rattle.isdb_mmt.specs.Memory.Layout.{most_mfu_area}
 use Rattle.isdb_mmt.specs.Memory.Session.{Session, limits_of}
+use Rattle.isdb_mmt.specs.Memory.Opening.{lent}
 use Rattle.isdb_mmt.specs.Memory.Check.{lengths_of, sound, PlacesThere}
-use Rattle.isdb_mmt.specs.Memory.View.{item_given}
 use Rattle.isdb_mmt.specs.Memory.Lending.{session_asked}
-use Rattle.isdb_mmt.specs.Answers.Readings.{u32_if}
 use Rattle.isdb_mmt.specs.declared.decoder.limits.Limits.{Limits}
 use Rattle.isdb_mmt.proofs.Lent.{length_names}
 use Rattle.isdb_mmt.proofs.Names.{true_not_false, there, index_in}
-use Rattle.isdb_mmt.proofs.Limits.{areas_fit, passed}
+use Rattle.isdb_mmt.proofs.Limits.{passed}
 use Rattle.isdb_mmt.proofs.Checks.{sound_session}
 
 -- ---- question 5
@@ -37,14 +36,30 @@ module _ (s : Session) (r : Result ⊤ Refusal) (er : r ≡ session_asked s) (u 
   pub area_most : (l : Limits) → l ≡ limits_of s.state → l.mfu_area ≤ most_mfu_area
   area_most l el = rw el (passed (limits_of s.state) (lengths_of s) (sound_session s was_sound).limits).ranges.object.1
 
--- ---- areas
+absurd_refusal : {A : Type 0} {f : Refusal} → ◌≡◌ {A = Result ⊤ Refusal} (Ok tt) (Err f) → A
+absurd_refusal e = let z : ◌≡◌ {A = ℕ} 0 1 = cc in absurd (omega arith)
 
-pub object_place_lem : (i area : ℕ) → (i < most_media_ids) × (area ≤ most_mfu_area) → Fits w64 (i * area)
-object_place_lem i area h = areas_fit i area (omega (arith, h.0)) h.1
+abbrev reason : Result ⊤ Refusal → Refusal
+reason (Ok x) = NotASession
+reason (Err f) = f
 
-pub item_is : (t : Bool) (i : ℕ) → u32_if t i ≡ item_given t i
-item_is true i = refl
-item_is false i = refl
+-- no session: the reason is that
+module _ (s : Session) (r : Result ⊤ Refusal) (er : r ≡ session_asked s) (f : Refusal) (e : r ≡ Err f) where
+  pub no_session : (sound s ≡ false) × (f ≡ NotASession)
+  unfolding session_asked
+  no_session = go (sound s) (sym er ∙ e)
+    where
+      go : (q : Bool) → ◌≡◌ {A = Result ⊤ Refusal} (if q then Ok (tt {0}) else Err NotASession) (Err f) → (q ≡ false) × (f ≡ NotASession)
+      go true d = absurd_refusal d
+      go false d = (refl, sym (ap reason d))
+
+-- the same of the buffers by themselves, as a reading has them
+module _ (st others objects messages tables : List ℕ) (r : Result ⊤ Refusal) (u : ⊤) (e : r ≡ session_asked (lent st others objects messages tables)) (k : r ≡ Ok u) where
+  pub asked_there : PlacesThere st
+  asked_there = places_there (lent st others objects messages tables) r e u k
+
+  pub asked_area : (limits_of st).mfu_area ≤ most_mfu_area
+  asked_area = area_most (lent st others objects messages tables) r e u k (limits_of st) refl
 
 -- ---- a place that is found is one of those in use
 

@@ -13,6 +13,10 @@ use Rattle.isdb_mmt.specs.declared.decoder.limits.Lengths.{Lengths}
 use Rattle.isdb_mmt.specs.declared.decoder.media.Media.{Media}
 use Rattle.isdb_mmt.proofs.Guards.{yes, guard_holds, guard_fails, was_both, was_guarded}
 use Rattle.isdb_mmt.proofs.Checks.{every_both, sound_is}
+use Rattle.isdb_mmt.proofs.ReadSteps.{was_sound, no_session}
+use Rattle.isdb_mmt.specs.Memory.Lending.{session_asked}
+use Rattle.isdb_mmt.specs.declared.decoder.refusal.Refusal.{Refusal}
+use Rattle.std.specs.Prelude.{Result, Ok, Err, ⊤}
 
 pub media_room : (p : List ℕ) (r : Bool) → r ≡ every (at_most roomy_count) (counts_from 9 stats_place p) → r ≡ stats_at_most roomy_count (media_place_of p)
 unfolding stats_at_most media_place_of stats_of counts_from
@@ -30,21 +34,14 @@ module _ (s : Session) (n : ℕ) where
   unfolding asked_once
   once_long h = rw (lt-leb n most_input h)
 
-  module _ (h : n ≤ most_input) (a : Bool) (ea : a ≡ sound_in s.state s.others (lengths_of s)) where
-    passes : a ≡ sound s
-    unfolding sound
-    passes = ea
-
-    pub once_unsound : not a ≡ true → false ≡ asked_once s n
+  module _ (h : n ≤ most_input) (r : Result ⊤ Refusal) (er : r ≡ session_asked s) where
+    pub once_unsound : (f : Refusal) → r ≡ Err f → false ≡ asked_once s n
     unfolding asked_once
-    once_unsound t = rw (le-leb n most_input h) (guard_fails _ passes t)
+    once_unsound f e = rw (le-leb n most_input h, (no_session s r er f e).0)
 
-    pub once_room : not a ≡ false → (b : Bool) → b ≡ counts_at_most roomy_count s.state s.others → b ≡ asked_once s n
+    pub once_room : (u : ⊤) → r ≡ Ok u → (b : Bool) → b ≡ counts_at_most roomy_count s.state s.others → b ≡ asked_once s n
     unfolding asked_once
-    once_room ta b eb = rw (le-leb n most_input h) (guard_holds passes ta eb)
-
-pub once_there : (l others : List ℕ) (lent : Lengths) (a : Bool) → a ≡ sound_in l others lent → not a ≡ false → lent.state ≡ length l → PlacesThere l
-once_there l others lent a ea ta long = (sound_is l others lent long (yes ea ta)).there
+    once_room u e b eb = rw (le-leb n most_input h, was_sound s r er u e) eb
 
 -- ---- and back
 

@@ -27,8 +27,8 @@ use Rattle.isdb_mmt.specs.WholeValues.WholeSections.{described, flow_told, flow_
 use Rattle.isdb_mmt.specs.WholeValues.Walks.{FlowsWalk, EventsWalk, ServicesWalk, BroadcastersWalk, StreamsWalk, AmtTheorem, EitTheorem, SdtTheorem, BitTheorem, NitTheorem}
 use Rattle.isdb_mmt.specs.declared.table.section.SectionHeader.{SectionHeader}
 use Rattle.isdb_mmt.specs.declared.table.section.Entry.{Entry}
-use Rattle.isdb_mmt.specs.declared.table.section.EntryStep.{EntryStep}
-use Rattle.isdb_mmt.specs.declared.table.section.EntryStep.TheVariants.{End as no_entry, Malformed as bad_entry, Entry as entry}
+use Rattle.isdb_mmt.specs.Formats.Steps.{EntryStep}
+use Rattle.isdb_mmt.specs.declared.walk_step.WalkStep.TheVariants.{End as no_entry, Malformed as bad_entry, Entry as entry}
 use Rattle.isdb_mmt.proofs.Names.{true_not_false}
 use Rattle.isdb_mmt.proofs.Entries.{section_elim, Inside, entry_inside, entries_at}
 use Rattle.isdb_mmt.proofs.Steps.{also_some, Leads, counts, whole_by, On, same_found, ends_whole}

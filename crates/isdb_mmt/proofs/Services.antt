@@ -1,6 +1,6 @@
 -- The services of an AMT, one behind another: a loop which counts them down goes over all of them. Assumes nothing.
 use Rattle.std.specs.Prelude.{None, Some}
-use Rattle.std.proofs.Common.{◌≡◌, ℕ, ◌-◌, ◌<◌, ◌≤◌, Bool, true, false, List, refl, arith}
+use Rattle.std.proofs.Common.{◌≡◌, ℕ, ◌-◌, ◌<◌, ◌≤◌, Bool, true, false, List, arith}
 use Rattle.isdb_mmt.specs.Formats.Amt.{address_size, service_at, service_item, services_whole}
 use Rattle.isdb_mmt.proofs.Steps.{all_stop, all_more}
 use Rattle.isdb_mmt.specs.declared.table.amt.AmtService.{AmtService}
@@ -12,9 +12,9 @@ size_le false e = omega arith
 
 -- the turns of the loop that asks whether n services are whole
 module _ (s : List ℕ) (at : ℕ) where
-  pub whole_zero : services_whole 0 s at ≡ true
+  pub whole_done : (n i : ℕ) → n ≤ i → services_whole (n - i) s at ≡ true
   unfolding services_whole
-  whole_zero = refl
+  whole_done n i h = let e : n - i ≡ 0 = omega arith in rw e
 
   pub whole_none : (n : ℕ) → 0 < n → service_at s at ≡ None → services_whole n s at ≡ false
   unfolding services_whole

@@ -14,7 +14,7 @@ use Rattle.isdb_mmt.specs.WholeValues.WholeDescriptors.{unit_seen, units_in, mpu
 use Rattle.isdb_mmt.specs.Standards.StdB60Sections.{All}
 use Rattle.isdb_mmt.specs.declared.desc.Descriptor.TheVariants.{ExtendedTimestamp}
 use Rattle.isdb_mmt.specs.declared.timestamp.Extended.{Extended}
-use Rattle.isdb_mmt.specs.declared.timestamp.MpuStep.TheVariants.{End as no_mpu, Mpu}
+use Rattle.isdb_mmt.specs.declared.walk_step.WalkStep.TheVariants.{End as no_mpu, Entry as an_mpu}
 use Rattle.isdb_mmt.proofs.BytesAt.{FoundAt, located_whole, located_part, located_within, located_front, located_rest, field_read, first_read, byte_read}
 use Rattle.isdb_mmt.proofs.BytesBehind.{found_is}
 use Rattle.isdb_mmt.proofs.Timestamps.{whole_end, whole_on_lem}
@@ -89,7 +89,14 @@ module _ {s : List ℕ} {at : ℕ} (o : PtsOffsets) (m : SentMpu) (c : MpuConfor
   mpu_length = rw (length-append, length_written (mpu_fields m), units_size o m.units)
 
   mpu_step : mpu_at s (is_own o) at
-      ≡ Mpu m.sequence_number m.leap_indicator m.decoding_time_offset (length m.units) (part_at (at + 8) (length units))
+      ≡ an_mpu
+      (record {
+        mpu_sequence_number = m.sequence_number;
+        leap_indicator = m.leap_indicator;
+        decoding_time_offset = m.decoding_time_offset;
+        access_units = length m.units;
+        units = part_at (at + 8) (length units);
+      })
       (at + length (mpu_sent o m))
   unfolding mpu_at
   mpu_step =

@@ -16,8 +16,8 @@ use Rattle.isdb_mmt.specs.Decoder.GivenTables.{tables_given}
 use Rattle.isdb_mmt.specs.Decoder.Objects.{gap}
 use Rattle.isdb_mmt.specs.Formats.Mpu.{follows}
 use Rattle.isdb_mmt.specs.Standards.StdB60Sections.{All}
-use Rattle.isdb_mmt.specs.declared.message.MessageStep.TheVariants.{End, Message}
-use Rattle.isdb_mmt.specs.declared.message.TableStep.TheVariants.{End as no_more, Table as table}
+use Rattle.isdb_mmt.specs.declared.walk_step.WalkStep.TheVariants.{End, Entry as Message}
+use Rattle.isdb_mmt.specs.declared.walk_step.WalkStep.TheVariants.{End as no_more, Entry as table}
 use Rattle.isdb_mmt.proofs.AggregatedMessages.{width_ge, aggregated_at_lem, tables_at}
 use Rattle.isdb_mmt.proofs.BytesAt.{FoundAt, located_whole, located_first, located_last, located_part, located_within, located_front}
 use Rattle.isdb_mmt.proofs.BytesAt.{located_rest, field_read, first_read, byte_read}

@@ -16,7 +16,7 @@ use Rattle.isdb_mmt.specs.Decoder.Packet.{payload_unit, payload_units, units_for
 use Rattle.isdb_mmt.specs.Standards.StdB60Sections.{All}
 use Rattle.isdb_mmt.specs.declared.mpu.PayloadHeader.{PayloadHeader}
 use Rattle.isdb_mmt.specs.declared.mpu.Unit.{Unit as DataUnit}
-use Rattle.isdb_mmt.specs.declared.mpu.UnitStep.TheVariants.{End, Unit as found}
+use Rattle.isdb_mmt.specs.declared.walk_step.WalkStep.TheVariants.{End, Entry as found}
 use Rattle.isdb_mmt.proofs.Units.{units_at}
 use Rattle.isdb_mmt.proofs.BytesAt.{FoundAt, located_first, located_last, located_part, located_front, located_rest}
 use Rattle.isdb_mmt.proofs.BytesAt.{field_read, first_read}

@@ -19,7 +19,7 @@ use Rattle.isdb_mmt.specs.Standards.StdB60Sections.{SentService, service_entry, 
 use Rattle.isdb_mmt.specs.Standards.StdB60Sections.{SentBroadcaster, broadcaster_entry, BroadcasterConforming, SentBit, bit_fields, bit_body_sent, BitConforming, broadcaster_seen, broadcaster_value, BitTheorem}
 use Rattle.isdb_mmt.specs.Standards.StdB60Sections.{SentStream, stream_entry, StreamConforming, SentNit, nit_streams, nit_body_sent, NitConforming, stream_seen, stream_value, NitTheorem}
 use Rattle.isdb_mmt.specs.declared.table.section.Entry.{Entry}
-use Rattle.isdb_mmt.specs.declared.table.section.EntryStep.TheVariants.{End, Entry as entry}
+use Rattle.isdb_mmt.specs.declared.walk_step.WalkStep.TheVariants.{End, Entry as entry}
 use Rattle.isdb_mmt.proofs.Entries.{entries_at}
 use Rattle.isdb_mmt.proofs.StdB60.{length_field, length_read, upper_read, loop_whole, sections}
 use Rattle.isdb_mmt.proofs.BytesAt.{FoundAt, located_first, located_last, last_ends, located_part, located_within, located_front, located_rest, field_read, high_byte}

@@ -4,6 +4,9 @@ use Rattle.std.specs.Prelude.{Err, None, Ok, Option, Result, Some}
 use Rattle.std.proofs.Common.{◌≡◌, ℕ, zero, suc, ◌+◌, ◌*◌, ◌%◌, ◌<◌, ◌≤◌, Bool, true, false, cond, not, eqb, List, [], ◌∷◌, map, length, get_or, take, sym, refl, ap, ◌∙◌, add-zero, mul-zero, zero-add, arith, length-take, w16, w32, w64, Fits, le-ltb, lt-ltb, eq-eqb, ne_eqb}
 use lib.ListN.{length-map}
 use borrow.Author.Tests.{not-true, not-false}
+use borrow.Author.Tests.{lt-leb, eqb-false}
+use Rattle.std.proofs.Common.{leb, ◌≢◌}
+use Rattle.std.proofs.lemmas.Bool.{leb-false}
 use Rattle.isdb_tlv.specs.Bytes.{be}
 use Rattle.isdb_tlv.proofs.Guards.{either}
 use Rattle.isdb_mmt.specs.Formats.Part.{part_of}
@@ -36,7 +39,7 @@ use Rattle.isdb_mmt.proofs.Lent.{names_of, length_places}
 use Rattle.isdb_mmt.proofs.Names.{true_not_false, there, index_in}
 use Rattle.isdb_mmt.specs.declared.decoder.table_outcome.BodyRead.{BodyRead}
 use Rattle.isdb_mmt.specs.declared.decoder.table_outcome.Recent.{Recent}
-use Rattle.isdb_mmt.specs.declared.decoder.table_outcome.TableAction.TheVariants.{Nothing, Mpt, Plt, Tot, Put}
+use Rattle.isdb_mmt.specs.declared.decoder.table_outcome.TableAction.TheVariants.{Nothing, Mpt, Plt, Put}
 use Rattle.isdb_mmt.specs.declared.decoder.table_outcome.TableOutcome.{TableOutcome}
 use Rattle.isdb_mmt.specs.Pushes.TableOutcome.{index_of, place_at, keys_of, no_section, body_from, outcome, changes_to, body_put, version_by, version_for, body_outcome, version_outcome, section_outcome, long_outcome, mpt_outcome, plt_outcome, tot_outcome, table_outcome}
 
@@ -206,6 +209,22 @@ pub long_is : (ks : List KeptSection) (m p : Option Recent) (b : Bytes) → tabl
 unfolding table_outcome long_outcome
 long_is ks m p b = either (length b <? 7) (λ t. rw t) (λ f. rw f)
 
+-- the ids of long tables
+pub long_by_id : (ks : List KeptSection) (m p : Option Recent) (id : ℕ) (b : Bytes) → 139 ≤ id → id ≤ 160 → id ≢ 156 → id ≢ 158
+    → (r : TableOutcome) → r ≡ long_outcome ks b → r ≡ table_outcome ks m p (table_by_id id b)
+unfolding table_by_id
+long_by_id ks m p id b low high a c r er =
+    let l = er ∙ sym (long_is ks m p b) in
+    rw (le-ltb id 17 (omega arith), lt-leb id 32 (omega arith), ne_eqb id 128 (omega arith), ne_eqb id 161 (omega arith), le-ltb id 139 low)
+    (either (leb id 155) (λ t. rw t l) (λ f.
+    let o : 155 < id = leb-false id 155 f in
+    either (eqb id 157) (λ t. rw (f, t) l) (λ g.
+    let n : id ≢ 157 = eqb-false id 157 g in
+    either (eqb id 159) (λ t. rw (f, g, t) l) (λ h.
+    let k : id ≢ 159 = eqb-false id 159 h in
+    let e : id ≡ 160 = omega arith in
+    rw (f, g, h, eq-eqb id 160 e) l))))
+
 pub long_short : (ks : List KeptSection) (t : Bytes) → length t < 7 → (r : TableOutcome) → r ≡ outcome 0 1 0 0 Nothing → r ≡ long_outcome ks t
 unfolding long_outcome
 long_short ks t h r er = er ∙ rw (lt-ltb (length t) 7 h)
@@ -217,9 +236,6 @@ long_section ks t h r er = er ∙ rw (le-ltb (length t) 7 h)
 -- ---- the others
 
 module _ (m : Option Recent) (t : Bytes) (x : MptParsed) (ex : x ≡ mpt_of t) where
-  pub mpt_none : x.mpt ≡ None → outcome 0 1 0 x.breaks Nothing ≡ mpt_outcome m (mpt_parses (mpt_of t).mpt) (mpt_of t).breaks (declared_table t)
-  mpt_none e = rw (← ex, e)
-
   pub mpt_some : (y : MptRead) → x.mpt ≡ Some y → (n : ℕ) → n ≡ be 2 t 2 → (d : Bytes) → d ≡ take (n + 4) t → (v : ℕ) → v ≡ be 1 d 1 → (c : ℕ) → c ≡ one (changes_to m v)
       → outcome 0 0 c x.breaks (Mpt v (length d)) ≡ mpt_outcome m (mpt_parses (mpt_of t).mpt) (mpt_of t).breaks (declared_table t)
   mpt_some y e n en d ed v ev c ec =
@@ -228,9 +244,6 @@ module _ (m : Option Recent) (t : Bytes) (x : MptParsed) (ex : x ≡ mpt_of t) w
       rw (← ex, e, q, w, ec)
 
 module _ (p : Option Recent) (t : Bytes) (x : Option PltRead) (ex : x ≡ plt_of t) where
-  pub plt_none : x ≡ None → (r : TableOutcome) → r ≡ outcome 0 1 0 0 Nothing → r ≡ plt_outcome p (plt_parses (plt_of t)) (declared_table t)
-  plt_none e r er = er ∙ rw (← ex, e)
-
   pub plt_some : (y : PltRead) → x ≡ Some y → (n : ℕ) → n ≡ be 2 t 2 → (d : Bytes) → d ≡ take (n + 4) t → (v : ℕ) → v ≡ be 1 d 1 → (c : ℕ) → c ≡ one (changes_to p v)
       → outcome 0 0 c 0 (Plt v (length d)) ≡ plt_outcome p (plt_parses (plt_of t)) (declared_table t)
   plt_some y e n en d ed v ev c ec =
@@ -242,21 +255,9 @@ module _ (t : Bytes) (x : Parsed TotRead) (ex : x ≡ tot_of t) where
   abbrev tot_said : TableOutcome
   tot_said = tot_outcome (tot_parses (tot_of t).result) (tot_crc_bad (tot_of t).result) (tot_of t).breaks (declared_section t)
 
-  pub tot_good : (y : TotRead) → x.result ≡ Ok y → (n : ℕ) → n ≡ be 2 t 1 % 4096 → (d : Bytes) → d ≡ take (n + 3) t
-      → outcome 0 0 0 x.breaks (Tot (length d)) ≡ tot_said
-  tot_good y e n en d ed =
-      let q : declared_section t ≡ d = sym (ed ∙ ap (λ k. take (k + 3) t) en) in
-      rw (← ex, e, q)
-
   module _ (z : SectionError) (e : x.result ≡ Err z) where
     pub tot_crc : z ≡ Crc → (r : TableOutcome) → r ≡ outcome 1 0 0 x.breaks Nothing → r ≡ tot_said
     tot_crc ez r er = er ∙ rw (← ex, e, ez)
-
-    pub tot_short : z ≡ Truncated → (r : TableOutcome) → r ≡ outcome 0 1 0 x.breaks Nothing → r ≡ tot_said
-    tot_short ez r er = er ∙ rw (← ex, e, ez)
-
-    pub tot_bad : z ≡ Malformed → (r : TableOutcome) → r ≡ outcome 0 1 0 x.breaks Nothing → r ≡ tot_said
-    tot_bad ez r er = er ∙ rw (← ex, e, ez)
 
 module _ (ks : List KeptSection) (m p : Option Recent) (t : Bytes) (r : TableOutcome) where
   pub outcome_empty : length t ≡ 0 → r ≡ outcome 0 0 0 0 Nothing → r ≡ table_outcome ks m p (table_read t)

@@ -20,7 +20,7 @@ use Rattle.isdb_mmt.specs.Pushes.Route.{route_of, routed, time_in, time_given}
 use Rattle.isdb_mmt.specs.Pushes.MediaPush.{MediaPushed}
 use Rattle.isdb_mmt.specs.Pushes.MediaCommit.{CanPushMedia}
 use Rattle.isdb_mmt.specs.Pushes.Push.{Fits, asks_of, PacketPushed, QuietPushed, CanTakePacket}
-use Rattle.isdb_mmt.specs.declared.decoder.records.Answer.{Answer}
+use Rattle.isdb_mmt.specs.Pushes.Answer.{Answer}
 use Rattle.isdb_mmt.specs.declared.decoder.route.Route.{Route}
 use Rattle.isdb_mmt.proofs.Counting.{state_countable}
 use Rattle.isdb_mmt.proofs.Questions.{asks_zero, quiet_pushed, media_asks_lem}

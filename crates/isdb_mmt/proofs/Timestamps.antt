@@ -8,8 +8,9 @@ use Rattle.isdb_tlv.proofs.Guards.{cond_elim}
 use Rattle.isdb_mmt.specs.Formats.Timestamp.{scale_end, unit_size_of, mpu_at, mpu_item, mpus_from, mpus_whole}
 use Rattle.isdb_mmt.proofs.Steps.{also_some}
 use Rattle.isdb_mmt.specs.declared.part.Part.{Part}
-use Rattle.isdb_mmt.specs.declared.timestamp.MpuStep.{MpuStep}
-use Rattle.isdb_mmt.specs.declared.timestamp.MpuStep.TheVariants.{End, Broken, Mpu}
+use Rattle.isdb_mmt.specs.Formats.Steps.{MpuStep}
+use Rattle.isdb_mmt.specs.declared.timestamp.ExtendedMpu.{ExtendedMpu}
+use Rattle.isdb_mmt.specs.declared.walk_step.WalkStep.TheVariants.{End, Malformed, Entry}
 
 -- the timescale ends within five bytes
 pub scale_end_le : (flags : ℕ) → scale_end flags ≤ 5
@@ -30,8 +31,8 @@ pub record Lies (s : List ℕ) (own : Bool) (at n : ℕ) (units : Part) (next : 
 
 abbrev pub Inside : List ℕ → Bool → ℕ → MpuStep → Type 0
 Inside s own at End = Unit {0}
-Inside s own at Broken = Unit {0}
-Inside s own at (Mpu q l d n units next) = Lies s own at n units next
+Inside s own at Malformed = Unit {0}
+Inside s own at (Entry m next) = Lies s own at m.access_units m.units next
 
 module _ (s : List ℕ) (own : Bool) where
   pub mpu_inside : (at : ℕ) → Inside s own at (mpu_at s own at)
@@ -45,13 +46,13 @@ module _ (s : List ℕ) (own : Bool) where
       let b = ltb-false (length s - (at + 8)) n e2 in
       record { ahead = omega arith; within = omega arith; starts = refl; counts = refl; ends = refl })))
 
-  pub mpu_lies : {at q l d n next : ℕ} {units : Part} → mpu_at s own at ≡ Mpu q l d n units next → Lies s own at n units next
+  pub mpu_lies : {at next : ℕ} {m : ExtendedMpu} → mpu_at s own at ≡ Entry m next → Lies s own at m.access_units m.units next
   mpu_lies {at} e = rw e at (mpu_inside at)
 
   ahead_of : (at : ℕ) (m : MpuStep) → Inside s own at m → Ahead (length s) at (mpu_item m)
   ahead_of at End w = tt
-  ahead_of at Broken w = tt
-  ahead_of at (Mpu q l d n units next) w = (omega arith, w.ahead)
+  ahead_of at Malformed w = tt
+  ahead_of at (Entry m next) w = (omega arith, w.ahead)
 
   -- the MPUs from a place on: what stands there, and the MPUs from where it leads
   pub mpus_at : (at : ℕ) → mpus_from s own at ≡ turn (mpus_from s own) (mpu_item (mpu_at s own at))
@@ -64,11 +65,11 @@ module _ (s : List ℕ) (own : Bool) where
   unfolding mpus_whole
   whole_end at e = rw (mpus_at at, e)
 
-  pub whole_broken : (at : ℕ) → mpu_at s own at ≡ Broken → mpus_whole s own at ≡ false
+  pub whole_broken : (at : ℕ) → mpu_at s own at ≡ Malformed → mpus_whole s own at ≡ false
   unfolding mpus_whole
   whole_broken at e = rw (mpus_at at, e)
 
-  pub whole_on_lem : (at : ℕ) {q l d n next : ℕ} {units : Part} → mpu_at s own at ≡ Mpu q l d n units next → mpus_whole s own at ≡ mpus_whole s own next
+  pub whole_on_lem : (at : ℕ) {next : ℕ} {m : ExtendedMpu} → mpu_at s own at ≡ Entry m next → mpus_whole s own at ≡ mpus_whole s own next
   unfolding mpus_whole
-  whole_on_lem at {q} {l} {d} {n} {next} {units} e =
-      rw (mpus_at at, e) (also_some (Mpu q l d n units next) (mpus_from s own next))
+  whole_on_lem at {next} {m} e =
+      rw (mpus_at at, e) (also_some (Entry m next) (mpus_from s own next))

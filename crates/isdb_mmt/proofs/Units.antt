@@ -9,8 +9,8 @@ use Rattle.isdb_tlv.proofs.Guards.{cond_elim}
 use Rattle.isdb_mmt.proofs.Places.{Lies}
 use Rattle.isdb_mmt.specs.Formats.Mpu.{unit_in, unit_at, unit_step, item, units_from}
 use Rattle.isdb_mmt.specs.declared.mpu.Unit.{Unit as DataUnit}
-use Rattle.isdb_mmt.specs.declared.mpu.UnitStep.{UnitStep}
-use Rattle.isdb_mmt.specs.declared.mpu.UnitStep.TheVariants.{End, Malformed, Unit as found}
+use Rattle.isdb_mmt.specs.Formats.Steps.{UnitStep}
+use Rattle.isdb_mmt.specs.declared.walk_step.WalkStep.TheVariants.{End, Malformed, Entry as found}
 
 abbrev pub Inside : List ℕ → ℕ → UnitStep → Type 0
 Inside s at End = Unit {0}

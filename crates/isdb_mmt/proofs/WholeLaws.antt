@@ -392,9 +392,6 @@ module _ (s : Session) (x : MessagePacket) (y : ReceivedFragment) (i k : ℕ) (i
               rw (e, g, ez)
               (message_areas_can s ok i at.free c.mpt c.mpt_length small j c₀ (length j.bytes + 1) r ix₂ log₂ mine₂ w free.full free.few free.fits ll)
 
-          pub whole_counts : length s.others ≡ length mine₂
-          whole_counts = can.packet.others_long ∙ sym lm
-
           pub whole_state : CanLeaveState s.state ix₂ i k r
           whole_state =
               record {
@@ -508,9 +505,6 @@ module _ (s : Session) (x : MessagePacket) (y : ReceivedFragment) (i k : ℕ) (i
       at_refused h = whole_refused r ix₂ log₂ mine₂ w₀ z ez area eb q eq h
 
       module _ (e0 : q ≡ 0) (li : length ix₂ ≡ index_size) (ll : length log₂ ≡ most_sections) (lm : length mine₂ ≡ table_ids) where
-        pub at_counts : length s.others ≡ length mine₂
-        at_counts = whole_counts r ix₂ log₂ mine₂ w₀ z ez area eb q eq e0 li ll lm
-
         pub at_state : CanLeaveState s.state ix₂ i k r
         at_state = whole_state r ix₂ log₂ mine₂ w₀ z ez area eb q eq e0 li ll lm
 

@@ -24,8 +24,8 @@ use Rattle.isdb_mmt.specs.Decoder.Kept.{declared_table, declared_section}
 use Rattle.isdb_mmt.specs.WholeValues.WholeParts.{UrlLies, LocatedLies, LocationLies, RawLies, TextsLie, UnitsLie, TlvLies, MptLies, AssetLies, PackageLies, BodyLies, EventLies, ServiceLies, BroadcasterLies, StreamLies, BitLies, NitLies, TotLies, PartsTheorem}
 use Rattle.isdb_mmt.specs.declared.location.Location.{Location}
 use Rattle.isdb_mmt.specs.declared.location.Location.TheVariants.{SameFlow, Mpeg2Ts, Mpeg2TsIpv6, Url}
-use Rattle.isdb_mmt.specs.declared.timestamp.MpuStep.{MpuStep}
-use Rattle.isdb_mmt.specs.declared.timestamp.MpuStep.TheVariants.{End as no_mpu, Broken as broken_mpu, Mpu}
+use Rattle.isdb_mmt.specs.Formats.Steps.{MpuStep}
+use Rattle.isdb_mmt.specs.declared.walk_step.WalkStep.TheVariants.{End as no_mpu, Malformed as broken_mpu, Entry as an_mpu}
 use Rattle.isdb_mmt.specs.declared.desc.Step.{Step}
 use Rattle.isdb_mmt.specs.declared.desc.Step.TheVariants.{End, Broken, Raw}
 use Rattle.isdb_mmt.specs.declared.table.section.SectionHeader.{SectionHeader}
@@ -75,7 +75,7 @@ module _ (s : List ℕ) where
   units_lie : (own : Bool) (at : ℕ) (d : MpuStep) → MpuInside s own at d → UnitsLie s d
   units_lie own at no_mpu w = tt
   units_lie own at broken_mpu w = tt
-  units_lie own at (Mpu q l d n units next) w = omega (arith, w.ends, w.within)
+  units_lie own at (an_mpu m next) w = omega (arith, w.ends, w.within)
 
   tlv_lies : (at : ℕ) → TlvLies s (tlv_step_at s at)
   unfolding tlv_step_at

@@ -17,3 +17,4 @@ pub mod Mpt
 pub mod Plt
 pub mod Mpu
 pub mod Message
+pub mod Steps

@@ -1,6 +1,7 @@
 pub mod Records
 pub mod MediaPush
 pub mod Leaves
+pub mod Answer
 pub mod Push
 pub mod MediaEffect
 pub mod MediaPlace

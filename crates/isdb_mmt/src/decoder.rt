@@ -3,7 +3,9 @@
 ghost use Rattle.std.specs.Prelude.{◌≡◌, ◌≤◌, length};
 ghost use Rattle.isdb_mmt.specs.Memory.Lent.{over};
 ghost use Rattle.isdb_mmt.specs.Memory.Layout.{table_ids, state_size};
-ghost use Rattle.isdb_mmt.specs.Memory.Check.{sound};
+ghost use Rattle.isdb_mmt.specs.Memory.Lending.{lent_by, lent_mut, SameBuffers, session_asked};
+ghost use Rattle.isdb_mmt.specs.Memory.Refusals.{answer_number};
+ghost use Rattle.isdb_mmt.specs.Pushes.Answer.{answered};
 ghost use Rattle.isdb_mmt.specs.Memory.Opening.{lent, opened_state, Opened};
 ghost use Rattle.isdb_mmt.specs.Pushes.Push.{input, Pushed};
 ghost use Rattle.isdb_mmt.specs.Pushes.PushAll.{AllPushed};
@@ -13,7 +15,9 @@ use crate::decoder::layout::STATE_SIZE;
 use crate::decoder::limits::{Lengths, Limits};
 use crate::decoder::many::Pushes;
 use crate::decoder::plain::Plain;
-use crate::decoder::records::Answer;
+use crate::decoder::records::HandedOut;
+use crate::decoder::refusal::Refusal;
+use crate::decoder::session::{Session, SessionMut};
 
 mod check;
 mod commit;
@@ -55,33 +59,8 @@ fn open_state(s: &mut [u8], l: Limits)
     head::store_limits(s, l);
 }
 
-fn open_in(
-    l: Limits,
-    state: &mut [u8],
-    others: &mut [u64],
-    objects: &[u8],
-    messages: &[u8],
-    tables: &[u8],
-) -> u8
-    requires { length others.old ≡ table_ids }
-    ensures { Opened l (lent state.old others.old objects.now messages.now tables.now) result (lent state.new others.new objects.now messages.now tables.now) }
-{
-    let lengths = Lengths {
-        state: state.len() as u64,
-        objects: objects.len() as u64,
-        messages: messages.len() as u64,
-        tables: tables.len() as u64,
-    };
-    let number = limits::ask(l, lengths);
-    if number == 0 {
-        open_state(state, l);
-        others.fill(0);
-    }
-    number
-}
-
-// Opens a session with these limits: 0, or the number of the first question that is answered no, with nothing changed. The
-// areas are not written.
+// Opens a session with these limits. Turned down with nothing changed. The areas are only measured, so a host lends them to be read.
+#[tactic(auto, using(crate::proofs::Opening::opens_long, crate::proofs::Opening::refuses, crate::proofs::Refusals::refusal_some, std::proofs::lemmas::Result::err_from_is_err_and))]
 pub fn open(
     l: Limits,
     state: &mut [u8],
@@ -89,172 +68,124 @@ pub fn open(
     objects: &[u8],
     messages: &[u8],
     tables: &[u8],
-) -> u8
-    ensures { Opened l (lent state.old others.old objects.now messages.now tables.now) result (lent state.new others.new objects.now messages.now tables.now) }
+) -> Result<(), Refusal>
+    ensures { Opened l (lent state.old others.old objects.now messages.now tables.now) (answer_number result) (lent state.new others.new objects.now messages.now tables.now) }
 {
-    open_in(l, state, others, objects, messages, tables)
-}
-
-// Whether the lent bytes hold a session: question 5, unless the answer is known to be yes.
-fn holds_session(
-    state: &[u8],
-    others: &[u64],
-    objects: &[u8],
-    messages: &[u8],
-    tables: &[u8],
-    known: bool,
-) -> bool
-    requires { MayBeKnown known (lent state.now others.now objects.now messages.now tables.now) }
-    ensures { result ≡ sound (lent state.now others.now objects.now messages.now tables.now) }
-{
-    if known {
-        return true;
-    }
     let lengths = Lengths {
         state: state.len() as u64,
         objects: objects.len() as u64,
         messages: messages.len() as u64,
         tables: tables.len() as u64,
     };
-    check::ready(state, others, lengths)
+    limits::ask(l, lengths)?;
+    open_state(state, l);
+    others.fill(0);
+    Ok(())
 }
 
+// Whether the lent bytes hold a session: question 5, unless the answer is known to be yes.
+#[tactic(auto, using(crate::proofs::PushAll::known_session))]
+fn holds_session(session: Session<'_>, known: bool) -> Result<(), Refusal>
+    requires { MayBeKnown known (lent_by session) }
+    ensures { result ≡ session_asked (lent_by session.entry) }
+{
+    if known {
+        return Ok(());
+    }
+    session.is_session()
+}
+
+#[tactic(auto, using(crate::proofs::Pushing::push_five, crate::proofs::Pushing::push_six, crate::proofs::Pushing::push_seven, std::proofs::lemmas::Result::err_from_is_err_and))]
 pub(crate) fn push_in(
-    state: &mut [u8],
-    others: &mut [u64],
-    objects: &mut [u8],
-    messages: &mut [u8],
-    tables: &mut [u8],
+    session: &mut SessionMut<'_>,
     kind: u8,
     b: &[u8],
     rows: &mut [u8],
     out: &mut [u8],
     known: bool,
-) -> Answer
-    requires { MayBeKnown known (lent state.old others.old objects.old messages.old tables.old) }
-    ensures { Pushed (lent state.old others.old objects.old messages.old tables.old) (input kind b.now rows.old out.old) result.number result.records result.bytes (lent state.new others.new objects.new messages.new tables.new) rows.new out.new }
+) -> Result<HandedOut, Refusal>
+    requires { MayBeKnown known (lent_mut session.old) }
+    ensures same_buffers { SameBuffers session.old session.new }
+    ensures pushed { Pushed (lent_mut session.old) (input kind b.now rows.old out.old) (answered result).number (answered result).records (answered result).bytes (lent_mut session.new) rows.new out.new }
 {
-    if !holds_session(state, others, objects, messages, tables, known) {
-        return records::refused(5);
-    }
+    holds_session(session.read(), known)?;
     if 65535 < b.len() {
-        return records::refused(6);
+        return Err(Refusal::PacketTooLong);
     }
+    let state = &mut *session.state;
     if !take::may_take(state) {
-        return records::refused(7);
+        return Err(Refusal::PacketsUsedUp);
     }
-    place::octets(state);
-    place::octets(objects);
-    place::octets(messages);
-    place::octets(tables);
+    session.typed();
     place::octets(b);
-    take::take(state, others, objects, messages, tables, kind, b, rows, out)
+    take::take(session, kind, b, rows, out)
 }
 
 // The same for one of many: where question 5 is known to be answered yes, the packets that are met most are tried first. `push_in` and
 // `plain::push_plain` have two callers each, which keeps the compiler from laying all that any packet needs into the loop of `push_all`.
+#[tactic(auto, using(crate::proofs::PlainPushes::still_known, crate::proofs::PlainPushes::plain_taken, crate::proofs::PlainPushes::plain_grown, crate::proofs::PlainPushes::then_pushed))]
 pub(crate) fn push_tried(
-    state: &mut [u8],
-    others: &mut [u64],
-    objects: &mut [u8],
-    messages: &mut [u8],
-    tables: &mut [u8],
+    session: &mut SessionMut<'_>,
     kind: u8,
     b: &[u8],
     rows: &mut [u8],
     out: &mut [u8],
     known: bool,
-) -> Answer
-    requires { MayBeKnown known (lent state.old others.old objects.old messages.old tables.old) }
-    ensures { Pushed (lent state.old others.old objects.old messages.old tables.old) (input kind b.now rows.old out.old) result.number result.records result.bytes (lent state.new others.new objects.new messages.new tables.new) rows.new out.new }
+) -> Result<HandedOut, Refusal>
+    requires { MayBeKnown known (lent_mut session.old) }
+    ensures same_buffers { SameBuffers session.old session.new }
+    ensures pushed { Pushed (lent_mut session.old) (input kind b.now rows.old out.old) (answered result).number (answered result).records (answered result).bytes (lent_mut session.new) rows.new out.new }
 {
     if !known {
-        return push_in(
-            state, others, objects, messages, tables, kind, b, rows, out, known,
-        );
+        return push_in(session, kind, b, rows, out, known);
     }
-    place::octets(state);
-    place::octets(objects);
-    place::octets(messages);
-    place::octets(tables);
-    match plain::push_plain(state, others, objects, messages, tables, kind, b, rows, out) {
+    session.typed();
+    match plain::push_plain(session, kind, b, rows, out) {
         Plain::Yes(n) => records::accepted(1, n as u64),
         Plain::Grown => records::accepted(0, 0),
-        Plain::No => push_in(
-            state, others, objects, messages, tables, kind, b, rows, out, true,
-        ),
+        Plain::No => push_in(session, kind, b, rows, out, true),
     }
 }
 
-// The same where nothing is known: the packets that are met most are tried first.
-fn push_asked(
-    state: &mut [u8],
-    others: &mut [u64],
-    objects: &mut [u8],
-    messages: &mut [u8],
-    tables: &mut [u8],
-    kind: u8,
-    b: &[u8],
-    rows: &mut [u8],
-    out: &mut [u8],
-) -> Answer
-    requires { length others.old ≡ table_ids }
-    ensures { Pushed (lent state.old others.old objects.old messages.old tables.old) (input kind b.now rows.old out.old) result.number result.records result.bytes (lent state.new others.new objects.new messages.new tables.new) rows.new out.new }
-{
-    if !holds_session(state, others, objects, messages, tables, false) {
-        return records::refused(5);
+impl SessionMut<'_> {
+    // Takes a packet of a kind byte and its data, and answers how many records and data bytes it handed out. Turned down with nothing
+    // changed and nothing handed out. Records are rows of 36 bytes one behind the other from the start of `rows`, their data lie one
+    // behind the other from the start of `out`; bytes beyond stay.
+    #[tactic(auto, using(crate::proofs::Pushing::push_five, crate::proofs::PlainPushes::plain_taken, crate::proofs::PlainPushes::plain_grown, crate::proofs::PlainPushes::then_pushed, std::proofs::lemmas::Result::err_from_is_err_and))]
+    pub fn push(
+        &mut self,
+        kind: u8,
+        b: &[u8],
+        rows: &mut [u8],
+        out: &mut [u8],
+    ) -> Result<HandedOut, Refusal>
+        ensures same_buffers { SameBuffers self.old self.new }
+        ensures pushed { Pushed (lent_mut self.old) (input kind b.now rows.old out.old) (answered result).number (answered result).records (answered result).bytes (lent_mut self.new) rows.new out.new }
+    {
+        self.read().is_session()?;
+        self.typed();
+        match plain::push_plain(self, kind, b, rows, out) {
+            Plain::Yes(n) => records::accepted(1, n as u64),
+            Plain::Grown => records::accepted(0, 0),
+            Plain::No => push_in(self, kind, b, rows, out, true),
+        }
     }
-    place::octets(state);
-    place::octets(objects);
-    place::octets(messages);
-    place::octets(tables);
-    match plain::push_plain(state, others, objects, messages, tables, kind, b, rows, out) {
-        Plain::Yes(n) => records::accepted(1, n as u64),
-        Plain::Grown => records::accepted(0, 0),
-        Plain::No => push_in(
-            state, others, objects, messages, tables, kind, b, rows, out, true,
-        ),
+
+    // Takes packets that lie one behind the other in the input (0x7F, kind, length, data), with at most so many data each, until the
+    // input ends, what is left is no packet or not a whole one, a packet is turned down, or there is no room for its line. Each is
+    // pushed as `push` does it, into the rows and the data that the earlier ones left, so a record's data start counts from where its
+    // packet's data begin. A line of 16 bytes a packet says how many records and data bytes it handed out.
+    pub fn push_all(
+        &mut self,
+        input: &[u8],
+        most: usize,
+        rows: &mut [u8],
+        out: &mut [u8],
+        lines: &mut [u8],
+    ) -> Pushes
+        ensures same_buffers { SameBuffers self.old self.new }
+        ensures pushed { AllPushed (lent_mut self.old) input.now most rows.old out.old lines.old result (lent_mut self.new) rows.new out.new lines.new }
+    {
+        many::push_all_in(self, input, most, rows, out, lines)
     }
-}
-
-// Takes a packet of a kind byte and its data. It answers 0 and how many records and data bytes it handed out, or the number of the
-// first question that is answered no, with nothing changed and nothing handed out. Records are rows of 36 bytes one behind the
-// other from the start of `rows`, their data lie one behind the other from the start of `out`; bytes beyond stay.
-pub fn push(
-    state: &mut [u8],
-    others: &mut [u64; 256],
-    objects: &mut [u8],
-    messages: &mut [u8],
-    tables: &mut [u8],
-    kind: u8,
-    b: &[u8],
-    rows: &mut [u8],
-    out: &mut [u8],
-) -> Answer
-    ensures { Pushed (lent state.old others.old objects.old messages.old tables.old) (input kind b.now rows.old out.old) result.number result.records result.bytes (lent state.new others.new objects.new messages.new tables.new) rows.new out.new }
-{
-    push_asked(state, others, objects, messages, tables, kind, b, rows, out)
-}
-
-// Takes packets that lie one behind the other in the input (0x7F, kind, length, data), with at most so many data each, until the input
-// ends, what is left is no packet or not a whole one, a packet is turned down, or there is no room for its line. Each is pushed as `push`
-// does it, into the rows and the data that the earlier ones left, so a record's data start counts from where its packet's data begin. A
-// line of 16 bytes a packet says how many records and data bytes it handed out.
-pub fn push_all(
-    state: &mut [u8],
-    others: &mut [u64; 256],
-    objects: &mut [u8],
-    messages: &mut [u8],
-    tables: &mut [u8],
-    input: &[u8],
-    most: usize,
-    rows: &mut [u8],
-    out: &mut [u8],
-    lines: &mut [u8],
-) -> Pushes
-    ensures { AllPushed (lent state.old others.old objects.old messages.old tables.old) input.now most rows.old out.old lines.old result (lent state.new others.new objects.new messages.new tables.new) rows.new out.new lines.new }
-{
-    many::push_all_in(
-        state, others, objects, messages, tables, input, most, rows, out, lines,
-    )
 }

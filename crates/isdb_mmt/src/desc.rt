@@ -27,6 +27,7 @@ pub fn length_width(tag: u16) -> usize
 }
 
 // What stands at a place of a descriptor loop: a descriptor, the end, or one that does not fit.
+// Three cases, two of which end the walk: an Option of a Result names none of them.
 #[derive(Clone, Copy)]
 pub enum Step {
     End,
@@ -70,12 +71,13 @@ pub struct Counted {
     pub broken: bool,
 }
 
-#[tactic(auto, using(crate::proofs::Descriptors::raw_lies, crate::proofs::Descriptors::plus_zero), unfolding(crate::specs::Formats::Desc::split_of))]
+#[tactic(auto, using(crate::proofs::Descriptors::raw_lies, crate::proofs::Descriptors::plus_zero, crate::proofs::Descriptors::count_last, crate::proofs::Descriptors::count_broken, crate::proofs::Descriptors::count_on), unfolding(crate::specs::Formats::Desc::split_of))]
 pub fn decode_all(b: &[u8]) -> Counted
     ensures { result ≡ counted (split_of b.now) }
 {
     let mut walk = descriptor_walk::new(b);
     let mut count: usize = 0;
+    // Not by for: what stands where the walk ended is looked at behind the loop.
     while let Some(_) = walk.next() {
         count += 1;
     }
@@ -317,12 +319,11 @@ impl Descriptor {
     }
 }
 
-#[tactic(auto, using(crate::proofs::Descriptors::raw_lies))]
+#[tactic(auto, using(crate::proofs::Descriptors::raw_lies, crate::proofs::Descriptors::first_none, crate::proofs::Descriptors::first_other, crate::proofs::Descriptors::first_found, crate::proofs::Descriptors::first_kept))]
 pub fn first_of(b: &[u8], tag: u16) -> Option<(Descriptor, Part)>
     ensures { result ≡ first_of tag b.now 0 }
 {
-    let mut walk = descriptor_walk::new(b);
-    while let Some((t, body)) = walk.next() {
+    for (t, body) in descriptor_walk::new(b) {
         if t == tag {
             let d = Descriptor::decode(t, body.of(b));
             if !d.is_other() {
@@ -335,55 +336,47 @@ pub fn first_of(b: &[u8], tag: u16) -> Option<(Descriptor, Part)>
 
 // An entry of a service list.
 #[derive(Clone, Copy)]
-pub enum ServiceStep {
-    End,
-    Service {
-        service_id: u16,
-        service_type: u8,
-        next: usize,
-    },
+pub struct ListedService {
+    pub service_id: u16,
+    pub service_type: u8,
 }
 
 // The entries of a service list's body, 3 bytes each, by a cursor that starts at 0.
 #[tactic(auto, using(isdb_tlv::proofs::Fields::be_one), unfolding(crate::specs::Formats::Desc::service_at))]
-pub fn next_service(b: &[u8], at: usize) -> ServiceStep
+pub fn next_service(b: &[u8], at: usize) -> Option<(ListedService, usize)>
     ensures { result ≡ service_at b.now at }
 {
     if part::left(b, at) < 3 {
-        return ServiceStep::End;
+        return None;
     }
-    ServiceStep::Service {
+    let service = ListedService {
         service_id: bytes::get_u16(b, at),
         service_type: bytes::get_u8(b, at + 2),
-        next: at + 3,
-    }
+    };
+    Some((service, at + 3))
 }
 
 // A genre of a content descriptor: two levels and the broadcaster's own byte.
 #[derive(Clone, Copy)]
-pub enum GenreStep {
-    End,
-    Genre {
-        level_1: u8,
-        level_2: u8,
-        user: u8,
-        next: usize,
-    },
+pub struct Genre {
+    pub level_1: u8,
+    pub level_2: u8,
+    pub user: u8,
 }
 
 // The genres of a content descriptor's body, 2 bytes each, by a cursor that starts at 0.
 #[tactic(auto, using(isdb_tlv::proofs::Fields::be_one), unfolding(crate::specs::Formats::Desc::genre_at))]
-pub fn next_genre(b: &[u8], at: usize) -> GenreStep
+pub fn next_genre(b: &[u8], at: usize) -> Option<(Genre, usize)>
     ensures { result ≡ genre_at b.now at }
 {
     if part::left(b, at) < 2 {
-        return GenreStep::End;
+        return None;
     }
     let levels = bytes::get_u8(b, at);
-    GenreStep::Genre {
+    let genre = Genre {
         level_1: levels / 16,
         level_2: levels % 16,
         user: bytes::get_u8(b, at + 1),
-        next: at + 2,
-    }
+    };
+    Some((genre, at + 2))
 }

@@ -12,3 +12,4 @@ pub mod ntp;
 pub mod part;
 pub mod table;
 pub mod timestamp;
+pub mod walk_step;

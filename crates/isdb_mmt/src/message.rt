@@ -6,6 +6,7 @@ ghost use Rattle.isdb_mmt.specs.Formats.Message.{fragment_of, prefix_width, aggr
 
 use crate::part;
 use crate::part::Part;
+use crate::walk_step::WalkStep;
 use isdb_tlv::{bytes, mmtp};
 
 // What a control payload's first byte says.
@@ -48,16 +49,6 @@ impl From<u8> for Fragment {
     }
 }
 
-// A message of an aggregated payload.
-#[derive(Clone, Copy)]
-pub enum MessageStep {
-    // Fewer bytes than a length has: they are dropped.
-    End,
-    // A length that runs past the end.
-    Malformed,
-    Message(Part, usize),
-}
-
 fn prefix_width(long: bool) -> u8
     ensures { result ≡ prefix_width long }
 {
@@ -65,21 +56,21 @@ fn prefix_width(long: bool) -> u8
 }
 
 // The messages of an aggregated payload's data, by a cursor that starts at 0.
-#[tactic(auto, unfolding(crate::specs::Formats::Message::aggregated_at))]
-pub fn next_message(b: &[u8], long: bool, at: usize) -> MessageStep
+#[tactic(auto, using(crate::proofs::AggregatedMessages::length_whole), unfolding(crate::specs::Formats::Message::aggregated_at))]
+pub fn next_message(b: &[u8], long: bool, at: usize) -> WalkStep<Part>
     ensures { result ≡ aggregated_at b.now long at }
 {
     let w = prefix_width(long);
     let k = w as usize;
     if part::left(b, at) < k {
-        return MessageStep::End;
+        return WalkStep::End;
     }
     let start = at + k;
     let n = bytes::number(b, at, w) as usize;
     if b.len() - start < n {
-        return MessageStep::Malformed;
+        return WalkStep::Malformed;
     }
-    MessageStep::Message(Part { start, length: n }, start + n)
+    WalkStep::Entry(Part { start, length: n }, start + n)
 }
 
 // What a message holds.
@@ -155,28 +146,20 @@ pub fn content_of(m: &[u8]) -> Content
     }
 }
 
-// A table of a PA message's body.
-#[derive(Clone, Copy)]
-pub enum TableStep {
-    End,
-    Malformed,
-    Table(Part, usize),
-}
-
 // The tables of a PA message's body, by a cursor that starts where content says.
 #[tactic(auto, unfolding(crate::specs::Formats::Message::table_at))]
-pub fn next_table(body: &[u8], at: usize) -> TableStep
+pub fn next_table(body: &[u8], at: usize) -> WalkStep<Part>
     ensures { result ≡ table_at body.now at }
 {
     let left = part::left(body, at);
     if left < 4 {
-        return TableStep::End;
+        return WalkStep::End;
     }
     let n = bytes::get_u16(body, at + 2) as usize + 4;
     if left < n {
-        return TableStep::Malformed;
+        return WalkStep::Malformed;
     }
-    TableStep::Table(
+    WalkStep::Entry(
         Part {
             start: at,
             length: n,

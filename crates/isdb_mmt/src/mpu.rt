@@ -7,6 +7,7 @@ ghost use Rattle.std.specs.Prelude.{if◌then◌else◌};
 ghost use Rattle.isdb_mmt.specs.Formats.Mpu.{fragment_code_of, fragment_type_of, indicator_code_of, indicator, completes_of, payload_header_fields, payload_header, mfu_at, unit_in, unit_at, unit_step, units_of, counted, declared_of, follows, lost_from};
 
 use crate::part::Part;
+use crate::walk_step::WalkStep;
 use isdb_tlv::bytes;
 
 // MPU_fragment_type (Table 6-2).
@@ -179,13 +180,6 @@ pub struct Unit {
     pub data: Part,
 }
 
-#[derive(Clone, Copy)]
-pub enum UnitStep {
-    End,
-    Malformed,
-    Unit(Unit, usize),
-}
-
 #[tactic(auto, using(isdb_tlv::proofs::Fields::be_one))]
 fn mfu_at(b: &[u8]) -> MfuHeader
     ensures { result ≡ mfu_at b.now }
@@ -201,7 +195,7 @@ fn mfu_at(b: &[u8]) -> MfuHeader
 
 // The unit in the bytes from at to end.
 #[tactic(auto, unfolding(crate::specs::Formats::Mpu::unit_in))]
-fn unit_in(q: &[u8], timed: bool, at: usize, end: usize) -> UnitStep
+fn unit_in(q: &[u8], timed: bool, at: usize, end: usize) -> WalkStep<Unit>
     requires { (at ≤ end) × (end ≤ length q.now) }
     ensures { result ≡ unit_in q.now timed at end }
 {
@@ -209,9 +203,9 @@ fn unit_in(q: &[u8], timed: bool, at: usize, end: usize) -> UnitStep
     let b = bytes::part(q, at, n);
     if timed {
         if n < 14 {
-            return UnitStep::Malformed;
+            return WalkStep::Malformed;
         }
-        return UnitStep::Unit(
+        return WalkStep::Entry(
             Unit {
                 mfu: Some(mfu_at(b)),
                 item_id: None,
@@ -224,9 +218,9 @@ fn unit_in(q: &[u8], timed: bool, at: usize, end: usize) -> UnitStep
         );
     }
     if n < 4 {
-        return UnitStep::Malformed;
+        return WalkStep::Malformed;
     }
-    UnitStep::Unit(
+    WalkStep::Entry(
         Unit {
             mfu: None,
             item_id: Some(bytes::get_u32(b, 0)),
@@ -241,7 +235,7 @@ fn unit_in(q: &[u8], timed: bool, at: usize, end: usize) -> UnitStep
 
 // The unit at a place: behind a length of 2 bytes where aggregated, else all that is left.
 #[tactic(auto, unfolding(crate::specs::Formats::Mpu::unit_at))]
-fn unit_at(q: &[u8], timed: bool, aggregated: bool, at: usize) -> UnitStep
+fn unit_at(q: &[u8], timed: bool, aggregated: bool, at: usize) -> WalkStep<Unit>
     requires { at ≤ length q.now }
     ensures { result ≡ unit_at q.now timed aggregated at }
 {
@@ -249,12 +243,12 @@ fn unit_at(q: &[u8], timed: bool, aggregated: bool, at: usize) -> UnitStep
         return unit_in(q, timed, at, q.len());
     }
     if q.len() - at < 2 {
-        return UnitStep::Malformed;
+        return WalkStep::Malformed;
     }
     let n = bytes::get_u16(q, at) as usize;
     let start = at + 2;
     if q.len() - start < n {
-        return UnitStep::Malformed;
+        return WalkStep::Malformed;
     }
     unit_in(q, timed, start, start + n)
 }
@@ -262,14 +256,14 @@ fn unit_at(q: &[u8], timed: bool, aggregated: bool, at: usize) -> UnitStep
 // The units of a payload's declared bytes q, by a cursor: the first one stands at 8, where there is to be one, and a place before
 // it means it too.
 #[tactic(auto, unfolding(crate::specs::Formats::Mpu::unit_step))]
-pub fn next_unit(q: &[u8], timed: bool, aggregated: bool, at: usize) -> UnitStep
+pub fn next_unit(q: &[u8], timed: bool, aggregated: bool, at: usize) -> WalkStep<Unit>
     ensures { result ≡ unit_step q.now timed aggregated at }
 {
     if q.len() < 8 {
-        return UnitStep::Malformed;
+        return WalkStep::Malformed;
     }
     if 8 < at && q.len() <= at {
-        return UnitStep::End;
+        return WalkStep::End;
     }
     unit_at(q, timed, aggregated, at.max(8))
 }
@@ -283,9 +277,9 @@ pub fn count_units(q: &[u8], timed: bool, aggregated: bool) -> Option<usize>
     // No iterator: a step has three answers, and the two that end the loop differ.
     loop {
         match next_unit(q, timed, aggregated, at) {
-            UnitStep::End => return Some(n),
-            UnitStep::Malformed => return None,
-            UnitStep::Unit(_, next) => {
+            WalkStep::End => return Some(n),
+            WalkStep::Malformed => return None,
+            WalkStep::Entry(_, next) => {
                 n += 1;
                 at = next;
             }

@@ -5,32 +5,29 @@ ghost use Rattle.isdb_mmt.specs.Formats.Timestamp.{timestamp_at, scale_end, head
 
 use crate::part;
 use crate::part::Part;
+use crate::walk_step::WalkStep;
 use isdb_tlv::bytes;
 
 // An entry of an MPU timestamp descriptor: the presentation time of an MPU's first access unit, an NTP timestamp.
 #[derive(Clone, Copy)]
-pub enum TimestampStep {
-    End,
-    Timestamp {
-        mpu_sequence_number: u32,
-        presentation_time: u64,
-        next: usize,
-    },
+pub struct MpuPresentation {
+    pub mpu_sequence_number: u32,
+    pub presentation_time: u64,
 }
 
 // The entries, 12 bytes each, by a cursor that starts at 0.
 #[tactic(auto, unfolding(crate::specs::Formats::Timestamp::timestamp_at))]
-pub fn next_timestamp(b: &[u8], at: usize) -> TimestampStep
+pub fn next_timestamp(b: &[u8], at: usize) -> Option<(MpuPresentation, usize)>
     ensures { result ≡ timestamp_at b.now at }
 {
     if part::left(b, at) < 12 {
-        return TimestampStep::End;
+        return None;
     }
-    TimestampStep::Timestamp {
+    let presentation = MpuPresentation {
         mpu_sequence_number: bytes::get_u32(b, at),
         presentation_time: bytes::get_u64(b, at + 4),
-        next: at + 12,
-    }
+    };
+    Some((presentation, at + 12))
 }
 
 // The head of an extended timestamp descriptor; its MPUs stand from start on.
@@ -46,18 +43,13 @@ pub struct Extended {
 }
 
 // One MPU; units are the bytes of its access units.
-#[derive(Clone, Copy)]
-pub enum MpuStep {
-    End,
-    Broken,
-    Mpu {
-        mpu_sequence_number: u32,
-        leap_indicator: u8,
-        decoding_time_offset: u16,
-        access_units: u8,
-        units: Part,
-        next: usize,
-    },
+#[derive(Clone, Copy, Debug, PartialEq, Eq)]
+pub struct ExtendedMpu {
+    pub mpu_sequence_number: u32,
+    pub leap_indicator: u8,
+    pub decoding_time_offset: u16,
+    pub access_units: u8,
+    pub units: Part,
 }
 
 fn unit_size(own: bool) -> usize
@@ -68,33 +60,36 @@ fn unit_size(own: bool) -> usize
 
 // The MPUs of a descriptor's body, by a cursor that starts at the head's start; own is the head's own_pts_offset.
 #[tactic(auto, using(crate::proofs::Timestamps::units_le, crate::proofs::Fields::first_field, crate::proofs::Fields::field, crate::proofs::Fields::byte_field), unfolding(crate::specs::Formats::Timestamp::mpu_at))]
-pub fn next_mpu(b: &[u8], own: bool, at: usize) -> MpuStep
+pub fn next_mpu(b: &[u8], own: bool, at: usize) -> WalkStep<ExtendedMpu>
     ensures { result ≡ mpu_at b.now own at }
 {
     if b.len() <= at {
-        return MpuStep::End;
+        return WalkStep::End;
     }
     if b.len() - at < 8 {
-        return MpuStep::Broken;
+        return WalkStep::Malformed;
     }
     let m = bytes::rest(b, at);
     let access_units = bytes::get_u8(m, 7);
     let start = at + 8;
     let n = access_units as usize * unit_size(own);
     if b.len() - start < n {
-        return MpuStep::Broken;
+        return WalkStep::Malformed;
     }
-    MpuStep::Mpu {
-        mpu_sequence_number: bytes::get_u32(m, 0),
-        leap_indicator: bytes::get_u8(m, 4) / 64,
-        decoding_time_offset: bytes::get_u16(m, 5),
-        access_units,
-        units: Part { start, length: n },
-        next: start + n,
-    }
+    WalkStep::Entry(
+        ExtendedMpu {
+            mpu_sequence_number: bytes::get_u32(m, 0),
+            leap_indicator: bytes::get_u8(m, 4) / 64,
+            decoding_time_offset: bytes::get_u16(m, 5),
+            access_units,
+            units: Part { start, length: n },
+        },
+        start + n,
+    )
 }
 
 // Whether MPUs stand from a place to the very end.
+#[tactic(auto, using(crate::proofs::Timestamps::mpu_lies, crate::proofs::Timestamps::whole_end, crate::proofs::Timestamps::whole_broken, crate::proofs::Timestamps::whole_on_lem))]
 fn mpus_whole(b: &[u8], own: bool, from: usize) -> bool
     ensures { result ≡ mpus_whole b.now own from }
 {
@@ -102,9 +97,9 @@ fn mpus_whole(b: &[u8], own: bool, from: usize) -> bool
     // No iterator: a step has three answers, and the two that end the loop differ.
     loop {
         match next_mpu(b, own, at) {
-            MpuStep::End => return true,
-            MpuStep::Broken => return false,
-            MpuStep::Mpu { next, .. } => at = next,
+            WalkStep::End => return true,
+            WalkStep::Malformed => return false,
+            WalkStep::Entry(_, next) => at = next,
         }
     }
 }

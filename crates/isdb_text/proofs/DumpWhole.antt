@@ -22,16 +22,16 @@ use Rattle.isdb_mmt.specs.Formats.Bit.{broadcaster_step, bit_body, bit_of}
 use Rattle.isdb_mmt.specs.declared.table.section.SectionHeader.{SectionHeader}
 use Rattle.isdb_mmt.specs.declared.table.bit.Bit.{Bit}
 use Rattle.isdb_mmt.specs.declared.table.bit.Broadcaster.{Broadcaster}
-use Rattle.isdb_mmt.specs.declared.table.bit.BroadcasterStep.{BroadcasterStep}
-use Rattle.isdb_mmt.specs.declared.table.bit.BroadcasterStep.TheVariants.{End as no_broadcaster, Malformed as broken_broadcaster, Broadcaster as broadcaster}
+use Rattle.isdb_mmt.specs.Formats.Steps.{BroadcasterStep}
+use Rattle.isdb_mmt.specs.declared.walk_step.WalkStep.TheVariants.{End as no_broadcaster, Malformed as broken_broadcaster, Entry as broadcaster}
 use Rattle.isdb_mmt.specs.declared.table.sdt.SdtService.{SdtService}
-use Rattle.isdb_mmt.specs.declared.table.sdt.SdtStep.{SdtStep}
-use Rattle.isdb_mmt.specs.declared.table.sdt.SdtStep.TheVariants.{End as no_service, Malformed as broken_service, Service as service}
+use Rattle.isdb_mmt.specs.Formats.Steps.{SdtStep}
+use Rattle.isdb_mmt.specs.declared.walk_step.WalkStep.TheVariants.{End as no_service, Malformed as broken_service, Entry as service}
 use Rattle.isdb_mmt.specs.declared.table.eit.Event.{Event}
-use Rattle.isdb_mmt.specs.declared.table.eit.EventStep.{EventStep}
-use Rattle.isdb_mmt.specs.declared.table.eit.EventStep.TheVariants.{End as no_event, Malformed as broken_event, Event as event}
-use Rattle.isdb_mmt.specs.declared.table.nit.StreamStep.{StreamStep}
-use Rattle.isdb_mmt.specs.declared.table.nit.StreamStep.TheVariants.{End as no_stream, Malformed as broken_stream, Stream as stream}
+use Rattle.isdb_mmt.specs.Formats.Steps.{EventStep}
+use Rattle.isdb_mmt.specs.declared.walk_step.WalkStep.TheVariants.{End as no_event, Malformed as broken_event, Entry as event}
+use Rattle.isdb_mmt.specs.Formats.Steps.{StreamStep}
+use Rattle.isdb_mmt.specs.declared.walk_step.WalkStep.TheVariants.{End as no_stream, Malformed as broken_stream, Entry as stream}
 use Rattle.isdb_mmt.proofs.AllWalks.{walks}
 use Rattle.isdb_text.specs.Elements.{Element, texts}
 use Rattle.isdb_text.specs.DumpTables.{flow_text, flow_element, service_text, service_element, event_text, event_element, broadcaster_text, broadcaster_element, stream_text, stream_element, delivery_text, delivery_element, asset_text, asset_element}

@@ -52,3 +52,9 @@ pub walk_end : {l : List ℕ} {at : ℕ} {whole m : List ℕ} {p : ℕ} {A : Typ
     → Walk l at whole m p shown read n k i → n ≤ k → Wrote l at whole m p
 unfolding texts
 walk_end {shown} {read} {n} {k} {i} f h = let e : n - k ≡ 0 = omega arith in left_none f.left (ap (λ (j : ℕ). texts (λ at. shown at (read at)) j i) e)
+
+-- behind this one there is none
+pub walk_last : {l : List ℕ} {at : ℕ} {whole m : List ℕ} {p : ℕ} {A : Type 0} {shown : ℕ → A → Element} {read : ℕ → A} {n k i : ℕ}
+    → Walk l at whole m p shown read n k i → (r v : A) → r ≡ read i → r ≡ v → {text m' : List ℕ} {next q : ℕ} → k < n → shown i v ≡ element text next
+    → Wrote m p text m' q → shown next (read next) ≡ ended → Wrote l at whole m' q
+walk_last f r v e d h g w z = walk_ended (walk_turn f r v e d h g w) _ _ refl refl z

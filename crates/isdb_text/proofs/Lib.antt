@@ -1,14 +1,14 @@
 -- Laws that belong to no one function, a file a subject.
+pub mod PacketLine
 pub mod Written
 pub mod Spelling
 pub mod DigitValues
 pub mod Filling
 pub mod Examples
 pub mod Windows
-pub mod KeptTables
 pub mod Elements
+pub mod Ascending
 pub mod DumpWhole
-pub mod Lists
 pub mod Dumped
 pub mod PacketWalk
 pub mod PacketsTold

@@ -17,7 +17,7 @@ use Rattle.isdb_mmt.specs.Pushes.Records.{row_size, rows_from, data_from}
 use Rattle.isdb_mmt.specs.Pushes.Push.{Input, packet_of, asks, Reply, reply_of}
 use Rattle.isdb_mmt.specs.Formats.Part.{count_of_usize}
 use Rattle.isdb_mmt.specs.Pushes.PushAll.{line_size, line_fields, nothing_taken, Run, run_of, input_at, after_packet, Ran, ran, pushed_each, AllPushed}
-use Rattle.isdb_mmt.specs.declared.decoder.records.Answer.{Answer}
+use Rattle.isdb_mmt.specs.Pushes.Answer.{Answer}
 use Rattle.isdb_mmt.specs.declared.decoder.many.Pushes.{Pushes}
 use Rattle.isdb_mmt.specs.declared.decoder.many.Halt.{Halt}
 use Rattle.isdb_mmt.specs.declared.decoder.many.Halt.TheVariants.{End, Short, Bad, Full, Refused}
@@ -28,6 +28,8 @@ use Rattle.isdb_mmt.proofs.PacketLeaves.{taken}
 use Rattle.isdb_text.specs.DumpPackets.{nth_of, answer_of, first_told, told_of, behind_of, progress_at}
 use Rattle.isdb_text.specs.PacketsTold.{pushed_over, answered, Told, ToldAsPushed}
 use Rattle.isdb_text.proofs.PacketWalk.{step_at_lem, stands, taken_ahead}
+use Rattle.isdb_mmt.specs.Memory.Refusals.{refusal_of}
+use Rattle.isdb_mmt.proofs.Refusals.{asks_told}
 
 -- ---- one push
 
@@ -285,7 +287,7 @@ module _ (s s' : Session) (input : Bytes) (most : ℕ) (rows out lines rows' out
   ended ps f = q.one_by_one ∙ ap (pushed_each input most start) f
 
   refused_first : (after : List TlvPacket) (p : TlvPacket) → (recording_of input most).packets ≡ p ∷ after → a.progress.packets ≡ 0
-      → ((asks s (input_at start p) =? 0) ≡ false) × (a.halt ≡ Refused (asks s (input_at start p)))
+      → ((asks s (input_at start p) =? 0) ≡ false) × (a.halt ≡ Refused (refusal_of (asks s (input_at start p))))
   unfolding pushed_each
   refused_first after p f none =
       let e : ran (run_of s' rows' out' lines' a.progress) a.halt ≡ pushed_each input most start (p ∷ after) = ended (p ∷ after) f in
@@ -305,7 +307,7 @@ module _ (s s' : Session) (input : Bytes) (most : ℕ) (rows out lines rows' out
       rw d.0
       (record {
         place = refl;
-        answer = rw (u, d.1) refl;
+        answer = rw (u, d.1, asks_told s (input_at start p) d.0) refl;
         rows_are = refl;
         data_are = refl;
       })

@@ -1,4 +1,5 @@
 -- Laws of digits. Assumes nothing.
+use Rattle.std.specs.Prelude.{Option, Some, None, MatchOption, IsSomeAnd}
 use Rattle.std.proofs.Common.{◌≡◌, ℕ, zero, suc, ◌+◌, ◌-◌, ◌*◌, ◌/◌, ◌%◌, ◌^◌, ◌<◌, ◌≤◌, ltb, List, [], ◌∷◌, ◌++◌, length, get_or, drop, refl, ap, ◌∙◌, pow-suc, add-one, arith, drop_of_length-le, drop-cons, ltb-false, le-ltb, lt-ltb}
 use native.Mathlib.Nat.{pow-le-pow_right, div-eq_of_lt}
 use Rattle.isdb_tlv.proofs.Guards.{either}
@@ -89,3 +90,9 @@ module _ {l : List ℕ} {at : ℕ} {whole m : List ℕ} {p : ℕ} where
   pub pairs_end : (s : List ℕ) (i : ℕ) → Left l at whole m p (pairs_of (drop i s)) → length s ≤ i → Wrote l at whole m p
   unfolding pairs_of
   pairs_end s i f h = left_none f (rw (drop_none s i h))
+
+-- a number that may be absent, in a larger type
+pub same_number : (n m : Option ℕ) → MatchOption n (m ≡ None) (λ x. IsSomeAnd m (λ y. y ≡ x)) → m ≡ n
+same_number None m e = e
+same_number (Some x) None e = absurd e
+same_number (Some x) (Some y) e = ap Some e

@@ -1,5 +1,5 @@
 -- Laws of what a writer leaves. Assumes nothing.
-use Rattle.std.proofs.Common.{◌≡◌, ℕ, suc, ◌+◌, ◌<◌, ◌≤◌, leb, List, [], ◌∷◌, ◌++◌, length, set, sym, refl, ◌∙◌, add-zero, arith, length-append, leb-false, leb-true}
+use Rattle.std.proofs.Common.{◌≡◌, ℕ, suc, ◌+◌, ◌<◌, ◌≤◌, leb, List, [], ◌∷◌, ◌++◌, length, set, sym, refl, ◌∙◌, add-zero, arith, length-append, length-set, min, leb-false, leb-true}
 use lib.Seq.{sets, length-sets, set_out}
 use Rattle.isdb_tlv.proofs.Guards.{either}
 use Rattle.isdb_text.specs.Text.{Wrote}
@@ -32,6 +32,28 @@ module _ {a b c s t : List ℕ} {i j k : ℕ} where
         bytes = either (leb (i + length s) (length a)) (λ h. whole (leb-true _ _ h)) (λ h. cut (leb-false _ _ h));
         place = omega (arith, p.place, q.place);
       }
+
+-- a place behind the end takes nothing, whichever it is
+sets_cut : (b : List ℕ) (at n : ℕ) (t : List ℕ) → n ≡ length b + 1 → sets b (min at n) t ≡ sets b at t
+sets_cut b at n t e =
+    either (leb at n) (λ h. let g : min at n ≡ at = omega (arith, leb-true _ _ h) in rw g refl)
+    (λ h. sets_beyond b (min at n) t (omega (arith, leb-false _ _ h)) ∙ sym (sets_beyond b at t (omega (arith, leb-false _ _ h))))
+
+-- a text behind another, a byte behind a text, and a text behind a byte
+pub sets_behind : (l : List ℕ) (at : ℕ) (s : List ℕ) (k n : ℕ) (t : List ℕ) → k ≡ at + length s → n ≡ length l + 1
+    → sets (sets l at s) (min k n) t ≡ sets l at (s ++ t)
+sets_behind l at s k n t e f =
+    sets_cut (sets l at s) k n t (rw (length-sets l at s) f) ∙ rw e (sym (sets_append l at s t))
+
+pub set_behind : (l : List ℕ) (at : ℕ) (s : List ℕ) (k n x : ℕ) → k ≡ at + length s → n ≡ length l + 1
+    → set (sets l at s) (min k n) x ≡ sets l at (s ++ (x ∷ []))
+set_behind l at s k n x e f = sets_behind l at s k n (x ∷ []) e f
+
+pub sets_behind_byte : (l : List ℕ) (i x k n : ℕ) (t : List ℕ) → n ≡ length l + 1 → sets (set l i x) (min k n) t ≡ sets (set l i x) k t
+sets_behind_byte l i x k n t e = sets_cut (set l i x) k n t (rw (length-set l i x) e)
+
+-- what closes a few texts one behind another
+pub ruleset writing = (sets_behind, set_behind, sets_behind_byte, length-sets, length-set, length-append)
 
 -- in the middle of a text: whatever follows as `rest` completes it
 pub record Left (l : List ℕ) (at : ℕ) (whole m : List ℕ) (p : ℕ) (rest : List ℕ) : Type 0 where

@@ -11,40 +11,28 @@ use Rattle.isdb_mmt.specs.Formats.Nit.{tlv_step_at, frequency_of}
 use Rattle.isdb_mmt.specs.declared.part.Part.{Part}
 use Rattle.isdb_mmt.specs.declared.location.Location.{Location}
 use Rattle.isdb_mmt.specs.declared.location.Location.TheVariants.{SameFlow, Ipv4, Ipv6, Mpeg2Ts, Mpeg2TsIpv6, Url}
-use Rattle.isdb_mmt.specs.declared.timestamp.TimestampStep.{TimestampStep}
-use Rattle.isdb_mmt.specs.declared.timestamp.TimestampStep.TheVariants.{End as no_timestamp, Timestamp}
+use Rattle.isdb_mmt.specs.declared.timestamp.MpuPresentation.{MpuPresentation}
 use Rattle.isdb_mmt.specs.declared.timestamp.Extended.{Extended}
-use Rattle.isdb_mmt.specs.declared.timestamp.MpuStep.{MpuStep}
-use Rattle.isdb_mmt.specs.declared.timestamp.MpuStep.TheVariants.{End as no_mpu, Broken as broken_mpu, Mpu}
+use Rattle.isdb_mmt.specs.Formats.Steps.{MpuStep}
+use Rattle.isdb_mmt.specs.declared.walk_step.WalkStep.TheVariants.{End as no_mpu, Malformed as broken_mpu, Entry as an_mpu}
 use Rattle.isdb_mmt.specs.declared.timestamp.AccessUnit.{AccessUnit}
 use Rattle.isdb_mmt.specs.declared.desc.Language.{Language}
-use Rattle.isdb_mmt.specs.declared.desc.ServiceStep.{ServiceStep}
-use Rattle.isdb_mmt.specs.declared.desc.ServiceStep.TheVariants.{End as no_service, Service as service}
-use Rattle.isdb_mmt.specs.declared.desc.GenreStep.{GenreStep}
-use Rattle.isdb_mmt.specs.declared.desc.GenreStep.TheVariants.{End as no_genre, Genre as genre}
+use Rattle.isdb_mmt.specs.declared.desc.ListedService.{ListedService}
+use Rattle.isdb_mmt.specs.declared.desc.Genre.{Genre}
 use Rattle.isdb_mmt.specs.declared.desc.Step.{Step}
 use Rattle.isdb_mmt.specs.declared.desc.Step.TheVariants.{End, Broken, Raw}
 use Rattle.isdb_mmt.specs.declared.desc.Descriptor.{Descriptor}
 use Rattle.isdb_mmt.specs.declared.desc.Descriptor.TheVariants.{MpuTimestamp, ExtendedTimestamp, AccessControl, Scrambler, StreamIdentifier, Service, ServiceList, ShortEvent, Content, Hevc, BroadcasterName, Other}
-use Rattle.isdb_mmt.specs.declared.table.nit.TlvStep.{TlvStep}
-use Rattle.isdb_mmt.specs.declared.table.nit.TlvStep.TheVariants.{End as no_tlv, Descriptor as tlv_descriptor}
+use Rattle.isdb_mmt.specs.declared.table.nit.TlvDescriptor.{TlvDescriptor}
 use Rattle.isdb_text.specs.Text.{ascii, decimal_of, hex_of, bytes_as_hex}
 use Rattle.isdb_mmt.specs.Formats.Maybe.{flag_of}
 use Rattle.isdb_text.specs.Fill.{filled}
 use Rattle.isdb_text.specs.Elements.{Element, ended, element, texts}
 
--- numbers that may be absent
-abbrev pub u16_text : Option ℕ → List ℕ
-u16_text None = ascii "none"
-u16_text (Some n) = decimal_of n
-
-abbrev pub u32_text : Option ℕ → List ℕ
-u32_text None = ascii "none"
-u32_text (Some n) = decimal_of n
-
-abbrev pub u64_text : Option ℕ → List ℕ
-u64_text None = ascii "none"
-u64_text (Some n) = decimal_of n
+-- a number that may be absent
+abbrev pub maybe_text : Option ℕ → List ℕ
+maybe_text None = ascii "none"
+maybe_text (Some n) = decimal_of n
 
 -- an address, two digits a byte
 abbrev pub address_text : Address → List ℕ
@@ -75,9 +63,10 @@ abbrev pub comma : ℕ → ℕ → List ℕ
 comma first at = if first <? at then ascii "," else []
 
 -- entries of an MPU timestamp
-abbrev pub timestamp_element : ℕ → TimestampStep → Element
-timestamp_element at no_timestamp = ended
-timestamp_element at (Timestamp mpu time next) = element (comma 0 at ++ filled (ascii "#:%%%%%%%%%%%%%%%%") (mpu ∷ time ∷ [])) next
+abbrev pub timestamp_element : ℕ → Option (MpuPresentation × ℕ) → Element
+timestamp_element at None = ended
+timestamp_element at (Some (x, next)) =
+    element (comma 0 at ++ filled (ascii "#:%%%%%%%%%%%%%%%%") (x.mpu_sequence_number ∷ x.presentation_time ∷ [])) next
 
 abbrev pub timestamps_from : List ℕ → ℕ → ℕ → List ℕ
 timestamps_from s n from = texts (λ at. timestamp_element at (timestamp_at s at)) n from
@@ -86,9 +75,9 @@ unfoldable pub timestamps_text : List ℕ → List ℕ
 timestamps_text s = if length s <? 12 then ascii "-" else timestamps_from s (length s) 0
 
 -- entries of a service list, of MMT-SI or TLV-SI
-abbrev pub service_element : ℕ → ServiceStep → Element
-service_element at no_service = ended
-service_element at (service id type next) = element (comma 0 at ++ filled (ascii "#:#") (id ∷ type ∷ [])) next
+abbrev pub service_element : ℕ → Option (ListedService × ℕ) → Element
+service_element at None = ended
+service_element at (Some (x, next)) = element (comma 0 at ++ filled (ascii "#:#") (x.service_id ∷ x.service_type ∷ [])) next
 
 abbrev pub services_from : List ℕ → ℕ → ℕ → List ℕ
 services_from s n from = texts (λ at. service_element at (service_at s at)) n from
@@ -97,9 +86,9 @@ unfoldable pub services_text : List ℕ → List ℕ
 services_text s = if length s <? 3 then ascii "-" else services_from s (length s) 0
 
 -- genres of a content descriptor
-abbrev pub genre_element : ℕ → GenreStep → Element
-genre_element at no_genre = ended
-genre_element at (genre level1 level2 user next) = element (comma 0 at ++ filled (ascii "#:#:#") (level1 ∷ level2 ∷ user ∷ [])) next
+abbrev pub genre_element : ℕ → Option (Genre × ℕ) → Element
+genre_element at None = ended
+genre_element at (Some (x, next)) = element (comma 0 at ++ filled (ascii "#:#:#") (x.level_1 ∷ x.level_2 ∷ x.user ∷ [])) next
 
 abbrev pub genres_from : List ℕ → ℕ → ℕ → List ℕ
 genres_from s n from = texts (λ at. genre_element at (genre_at s at)) n from
@@ -109,7 +98,7 @@ genres_text s = if length s <? 2 then ascii "-" else genres_from s (length s) 0
 
 -- access units of an MPU, in an extended timestamp with the head `e`
 unfoldable pub unit_text : AccessUnit → List ℕ
-unit_text u = filled (ascii "#/") (u.dts_pts_offset ∷ []) ++ u16_text u.pts_offset
+unit_text u = filled (ascii "#/") (u.dts_pts_offset ∷ []) ++ maybe_text u.pts_offset
 
 abbrev pub unit_element : ℕ → Option (AccessUnit × ℕ) → Element
 unit_element at None = ended
@@ -128,8 +117,8 @@ mpu_text mpu leap offset units e = filled (ascii "[# # # ") (mpu ∷ leap ∷ of
 abbrev pub mpu_element : List ℕ → Extended → ℕ → MpuStep → Element
 mpu_element s e at no_mpu = ended
 mpu_element s e at broken_mpu = ended
-mpu_element s e at (Mpu mpu leap offset n units next) =
-    element (comma e.start at ++ mpu_text mpu leap offset (part_of s units) e) next
+mpu_element s e at (an_mpu m next) =
+    element (comma e.start at ++ mpu_text m.mpu_sequence_number m.leap_indicator m.decoding_time_offset (part_of s m.units) e) next
 
 abbrev pub mpus_from : List ℕ → Extended → ℕ → ℕ → List ℕ
 mpus_from s e n from = texts (λ at. mpu_element s e at (mpu_at s e.own_pts_offset at)) n from
@@ -141,8 +130,8 @@ mpus_text s e = if length s ≤? e.start then ascii "-" else mpus_from s e (leng
 
 unfoldable pub extended_text : List ℕ → Extended → List ℕ
 extended_text s e =
-    ascii "extended_timestamp timescale " ++ (u32_text e.timescale
-    ++ (ascii " default_pts_offset " ++ (u16_text e.default_pts_offset ++ (ascii " mpus " ++ mpus_text s e))))
+    ascii "extended_timestamp timescale " ++ (maybe_text e.timescale
+    ++ (ascii " default_pts_offset " ++ (maybe_text e.default_pts_offset ++ (ascii " mpus " ++ mpus_text s e))))
 
 abbrev pub ca_location_text : List ℕ → Option Location → List ℕ
 ca_location_text s None = ascii "none"
@@ -220,15 +209,15 @@ unfoldable pub tlv_text : ℕ → List ℕ → List ℕ
 tlv_text tag s =
     if tag =? 0x41 then ascii " service_list " ++ services_text s
     else if tag =? 0x40 then ascii " network_name " ++ bytes_as_hex s
-    else if tag =? 0x43 then ascii " frequency_khz " ++ u64_text (frequency_of tag s)
+    else if tag =? 0x43 then ascii " frequency_khz " ++ maybe_text (frequency_of tag s)
     else []
 
 unfoldable pub tlv_line : List ℕ → ℕ → List ℕ → List ℕ
 tlv_line pad tag s = pad ++ (filled (ascii "descriptor 0x%% ") (tag ∷ []) ++ (bytes_as_hex s ++ (tlv_text tag s ++ ascii "\n")))
 
-abbrev pub tlv_element : List ℕ → List ℕ → TlvStep → Element
-tlv_element pad s no_tlv = ended
-tlv_element pad s (tlv_descriptor tag body next) = element (tlv_line pad tag (part_of s body)) next
+abbrev pub tlv_element : List ℕ → List ℕ → Option (TlvDescriptor × ℕ) → Element
+tlv_element pad s None = ended
+tlv_element pad s (Some (d, next)) = element (tlv_line pad d.tag (part_of s d.body)) next
 
 abbrev pub tlvs_from : List ℕ → List ℕ → ℕ → ℕ → List ℕ
 tlvs_from pad s n from = texts (λ at. tlv_element pad s (tlv_step_at s at)) n from

@@ -10,12 +10,13 @@ use Rattle.isdb_tlv.specs.declared.cut.Cut.TheVariants.{Packet, End as end_here,
 use Rattle.isdb_mmt.specs.Memory.Lent.{part}
 use Rattle.isdb_mmt.specs.Pushes.Records.{row_size}
 use Rattle.isdb_mmt.specs.Pushes.PushAll.{line_size, nothing_taken}
-use Rattle.isdb_mmt.specs.declared.decoder.records.Answer.{Answer}
+use Rattle.isdb_mmt.specs.Pushes.Answer.{Answer}
 use Rattle.isdb_mmt.specs.declared.decoder.many.Progress.{Progress}
 use Rattle.isdb_mmt.specs.declared.decoder.many.Pushes.{Pushes}
 use Rattle.isdb_mmt.specs.declared.decoder.many.Halt.{Halt}
 use Rattle.isdb_mmt.specs.declared.decoder.many.Halt.TheVariants.{End, Short, Bad, Full, Refused}
 use Rattle.isdb_text.specs.DumpSession.{packet_line, mfu_line}
+use Rattle.isdb_mmt.specs.Memory.Refusals.{number_of}
 
 -- number `i` of a list with `size` bytes each
 abbrev pub nth_of : ℕ → ℕ → List ℕ → List ℕ
@@ -30,7 +31,7 @@ halt_number End = 0
 halt_number Short = 0
 halt_number Bad = 0
 halt_number Full = 10
-halt_number (Refused n) = n
+halt_number (Refused e) = number_of e
 
 -- a packet that was taken, by its line
 abbrev pub taken_of : List ℕ → Answer
@@ -52,7 +53,7 @@ first_told End = 0
 first_told Short = 0
 first_told Bad = 0
 first_told Full = 1
-first_told (Refused n) = 1
+first_told (Refused e) = 1
 
 unfoldable pub told_of : Pushes → ℕ
 told_of a = if a.progress.packets =? 0 then first_told a.halt else a.progress.packets

@@ -17,7 +17,7 @@ use Rattle.isdb_mmt.specs.Memory.Layout.{most_media_ids, most_control_ids, most_
 use Rattle.isdb_mmt.specs.Memory.Session.{Session, limits_of, used_of, control_place_of}
 use Rattle.isdb_mmt.specs.Pushes.Records.{held_fields}
 use Rattle.isdb_mmt.specs.Answers.Readings.{counters_read, time_read, count_read, next_media_read, media_read, held_read, asset_read, next_control_read, control_read}
-use Rattle.isdb_mmt.specs.declared.decoder.records.Answer.{Answer}
+use Rattle.isdb_mmt.specs.Pushes.Answer.{Answer}
 use Rattle.isdb_mmt.specs.declared.decoder.counts.AssetStats.{AssetStats}
 use Rattle.isdb_mmt.specs.declared.decoder.counts.Counters.{Counters}
 use Rattle.isdb_mmt.specs.declared.decoder.readings.MediaState.{MediaState}
@@ -25,6 +25,7 @@ use Rattle.isdb_mmt.specs.declared.decoder.readings.HeldObject.{HeldObject}
 use Rattle.isdb_mmt.specs.declared.decoder.readings.CarriedAsset.{CarriedAsset}
 use Rattle.isdb_text.specs.Text.{ascii, bytes_as_hex}
 use Rattle.isdb_text.specs.Fill.{filled}
+use Rattle.isdb_text.specs.Ascending.{ascending_text}
 use Rattle.isdb_mmt.specs.Formats.Maybe.{given}
 
 -- ---- a packet
@@ -130,18 +131,7 @@ unfoldable pub media_text : Session → ℕ → List ℕ
 media_text s id =
     media_lines id (media_read s id) ++ (held_line id (held_read s id) s.objects ++ asset_line id (asset_read s (id % 65536)) s.tables)
 
--- ---- ids in ascending order
-
-abbrev pub text_and_above : (ℕ → List ℕ) → (ℕ → List ℕ) → Result (Option ℕ) Refusal → List ℕ
-text_and_above text above (Ok (Some id)) = text id ++ above (id + 1)
-text_and_above text above (Ok None) = []
-text_and_above text above (Err e) = []
-
--- the texts of the ids from `a` on: the next one's, then those above it, `k` at most
-unfoldable pub ascending_text : ℕ → (ℕ → Result (Option ℕ) Refusal) → (ℕ → List ℕ) → ℕ → List ℕ
-ascending_text zero next text a = []
-ascending_text (suc k) next text a = text_and_above text (λ x. ascending_text k next text x) (next a)
-
+-- of all, in ascending order
 unfoldable pub all_media : Session → List ℕ
 all_media s = ascending_text most_media_ids (next_media_read s) (media_text s) 0
 

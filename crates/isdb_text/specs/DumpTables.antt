@@ -19,20 +19,20 @@ use Rattle.isdb_mmt.specs.declared.table.amt.AmtService.{AmtService}
 use Rattle.isdb_mmt.specs.declared.table.tot.Tot.{Tot}
 use Rattle.isdb_mmt.specs.declared.table.sdt.Sdt.{Sdt}
 use Rattle.isdb_mmt.specs.declared.table.sdt.SdtService.{SdtService}
-use Rattle.isdb_mmt.specs.declared.table.sdt.SdtStep.{SdtStep}
-use Rattle.isdb_mmt.specs.declared.table.sdt.SdtStep.TheVariants.{End as no_service, Malformed as broken_service, Service as service}
+use Rattle.isdb_mmt.specs.Formats.Steps.{SdtStep}
+use Rattle.isdb_mmt.specs.declared.walk_step.WalkStep.TheVariants.{End as no_service, Malformed as broken_service, Entry as service}
 use Rattle.isdb_mmt.specs.declared.table.eit.Eit.{Eit}
 use Rattle.isdb_mmt.specs.declared.table.eit.Event.{Event}
-use Rattle.isdb_mmt.specs.declared.table.eit.EventStep.{EventStep}
-use Rattle.isdb_mmt.specs.declared.table.eit.EventStep.TheVariants.{End as no_event, Malformed as broken_event, Event as event}
+use Rattle.isdb_mmt.specs.Formats.Steps.{EventStep}
+use Rattle.isdb_mmt.specs.declared.walk_step.WalkStep.TheVariants.{End as no_event, Malformed as broken_event, Entry as event}
 use Rattle.isdb_mmt.specs.declared.table.bit.Bit.{Bit}
 use Rattle.isdb_mmt.specs.declared.table.bit.Broadcaster.{Broadcaster}
-use Rattle.isdb_mmt.specs.declared.table.bit.BroadcasterStep.{BroadcasterStep}
-use Rattle.isdb_mmt.specs.declared.table.bit.BroadcasterStep.TheVariants.{End as no_broadcaster, Malformed as broken_broadcaster, Broadcaster as broadcaster}
+use Rattle.isdb_mmt.specs.Formats.Steps.{BroadcasterStep}
+use Rattle.isdb_mmt.specs.declared.walk_step.WalkStep.TheVariants.{End as no_broadcaster, Malformed as broken_broadcaster, Entry as broadcaster}
 use Rattle.isdb_mmt.specs.declared.table.nit.Nit.{Nit}
 use Rattle.isdb_mmt.specs.declared.table.nit.NitStream.{NitStream}
-use Rattle.isdb_mmt.specs.declared.table.nit.StreamStep.{StreamStep}
-use Rattle.isdb_mmt.specs.declared.table.nit.StreamStep.TheVariants.{End as no_stream, Malformed as broken_stream, Stream as stream}
+use Rattle.isdb_mmt.specs.Formats.Steps.{StreamStep}
+use Rattle.isdb_mmt.specs.declared.walk_step.WalkStep.TheVariants.{End as no_stream, Malformed as broken_stream, Entry as stream}
 use Rattle.isdb_mmt.specs.declared.table.plt.Plt.{Plt}
 use Rattle.isdb_mmt.specs.declared.table.plt.Package.{Package}
 use Rattle.isdb_mmt.specs.declared.table.plt.IpDelivery.{IpDelivery}
@@ -42,7 +42,7 @@ use Rattle.isdb_text.specs.Text.{ascii, bytes_as_hex}
 use Rattle.isdb_text.specs.Fill.{filled}
 use Rattle.isdb_text.specs.Elements.{Element, ended, element, texts}
 use Rattle.isdb_mmt.specs.Formats.Maybe.{flag_of}
-use Rattle.isdb_text.specs.DumpDescriptors.{u16_text, address_text, location_text, descriptors_text, tlvs_text}
+use Rattle.isdb_text.specs.DumpDescriptors.{maybe_text, address_text, location_text, descriptors_text, tlvs_text}
 
 -- the key of a section's place, then the kept section's own header
 unfoldable pub key_text : ℕ → SectionHeader → List ℕ
@@ -259,8 +259,8 @@ asset_fields s a =
 
 unfoldable pub asset_line : List ℕ → Asset → List ℕ
 asset_line s a =
-    asset_fields s a ++ (u16_text (first_packet_id (locations_of a.locations s a.locations_start))
-    ++ (ascii " component_tag " ++ (u16_text (component_tag_of (part_of s a.descriptors)) ++ ascii "\n")))
+    asset_fields s a ++ (maybe_text (first_packet_id (locations_of a.locations s a.locations_start))
+    ++ (ascii " component_tag " ++ (maybe_text (component_tag_of (part_of s a.descriptors)) ++ ascii "\n")))
 
 unfoldable pub asset_text : List ℕ → Asset → List ℕ
 asset_text s a =
@@ -276,7 +276,7 @@ assets_text s n from = texts (λ at. asset_element s (asset_at_of s at)) n from
 unfoldable pub mpt_line : ℕ → List ℕ → Mpt → List ℕ
 mpt_line control s t =
     filled (ascii "mpt # table_id 0x%% version # mode # package_id ") (control ∷ t.table_id ∷ t.version ∷ t.mode ∷ [])
-    ++ (bytes_as_hex (part_of s t.package_id) ++ (ascii " service_id " ++ (u16_text (service_id_of s t.package_id) ++ ascii "\n")))
+    ++ (bytes_as_hex (part_of s t.package_id) ++ (ascii " service_id " ++ (maybe_text (service_id_of s t.package_id) ++ ascii "\n")))
 
 unfoldable pub mpt_table : ℕ → List ℕ → Mpt → List ℕ
 mpt_table control s t =

@@ -4,6 +4,7 @@ pub mod Fill
 pub mod Window
 pub mod Digits
 pub mod Elements
+pub mod Ascending
 pub mod DumpDescriptors
 pub mod DumpTables
 pub mod DumpWhole

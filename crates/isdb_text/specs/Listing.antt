@@ -1,5 +1,5 @@
 -- The list of a session's media ids and counts, as `feedlist` writes it.
-use Rattle.std.specs.Prelude.{ℕ, zero, suc, ◌+◌, List, [], ◌∷◌, ◌++◌, Option, Some, None, Result, Ok, Err}
+use Rattle.std.specs.Prelude.{ℕ, List, [], ◌∷◌, ◌++◌, Option, Some, None, Result, Ok, Err}
 use Rattle.isdb_mmt.specs.declared.decoder.refusal.Refusal.{Refusal}
 use Rattle.isdb_mmt.specs.declared.decoder.counts.Counters.{Counters}
 use Rattle.isdb_mmt.specs.Memory.Refusals.{number_of}
@@ -10,6 +10,7 @@ use Rattle.isdb_tlv.specs.declared.cut.Stop.{Stop}
 use Rattle.isdb_tlv.specs.declared.cut.Stop.TheVariants.{Clean, Bad, Refused}
 use Rattle.isdb_text.specs.Text.{ascii}
 use Rattle.isdb_text.specs.Fill.{filled}
+use Rattle.isdb_text.specs.Ascending.{ascending_text}
 use Rattle.isdb_mmt.specs.Formats.Maybe.{given}
 
 abbrev pub heading : List ℕ
@@ -27,19 +28,9 @@ media_text id (Ok (Some m)) = media_line id m
 media_text id (Ok None) = []
 media_text id (Err e) = []
 
-abbrev pub line_and_above : Session → (ℕ → List ℕ) → Result (Option ℕ) Refusal → List ℕ
-line_and_above s above (Ok (Some id)) = media_text id (media_read s id) ++ above (id + 1)
-line_and_above s above (Ok None) = []
-line_and_above s above (Err e) = []
-
--- the lines of the media ids from `a` on, in ascending order: the next one's, then those above it, `k` at most
-unfoldable pub media_lines_from : ℕ → Session → ℕ → List ℕ
-media_lines_from zero s a = []
-media_lines_from (suc k) s a = line_and_above s (λ x. media_lines_from k s x) (next_media_read s a)
-
--- of all; a session has at most 64
+-- of all, in ascending order; a session has at most 64
 unfoldable pub media_lines : Session → List ℕ
-media_lines s = media_lines_from 64 s 0
+media_lines s = ascending_text 64 (next_media_read s) (λ id. media_text id (media_read s id)) 0
 
 abbrev pub stop_text : Stop → List ℕ
 stop_text Clean = ascii "clean\n"

@@ -8,7 +8,7 @@ use Rattle.isdb_mmt.specs.Pushes.Records.{row_size}
 use Rattle.isdb_mmt.specs.Pushes.Push.{Reply, reply_of}
 use Rattle.isdb_mmt.specs.Formats.Part.{count_of_usize}
 use Rattle.isdb_mmt.specs.Pushes.PushAll.{line_size, nothing_taken, Run, run_of, input_at, after_packet, AllPushed}
-use Rattle.isdb_mmt.specs.declared.decoder.records.Answer.{Answer}
+use Rattle.isdb_mmt.specs.Pushes.Answer.{Answer}
 use Rattle.isdb_mmt.specs.declared.decoder.many.Pushes.{Pushes}
 use Rattle.isdb_text.specs.DumpPackets.{answer_of, told_of, progress_at}
 

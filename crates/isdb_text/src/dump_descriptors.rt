@@ -8,42 +8,24 @@ ghost use Rattle.isdb_text.specs.DumpDescriptors.{descriptors_text, extended_tex
 ghost use Rattle.isdb_text.specs.DumpDescriptors.{ipv6_text, language_of, location_text, mpu_text, mpus_text};
 ghost use Rattle.isdb_text.specs.DumpDescriptors.{other_text, service_list_of, service_text, services_text};
 ghost use Rattle.isdb_text.specs.DumpDescriptors.{short_event_text, timestamp_list, timestamps_text, tlv_line};
-ghost use Rattle.isdb_text.specs.DumpDescriptors.{tlv_text, tlvs_text, u16_text, u32_text, u64_text, unit_text};
+ghost use Rattle.isdb_text.specs.DumpDescriptors.{tlv_text, tlvs_text, maybe_text, unit_text};
 ghost use Rattle.isdb_text.specs.DumpDescriptors.{units_text, url_text};
 ghost use Rattle.isdb_text.specs.DumpDescriptors.{comma as comma_of};
 
 use crate::{fill, text};
-use isdb_mmt::desc::{Descriptor, GenreStep, Language, ServiceStep, Step};
+use isdb_mmt::desc::{Descriptor, Language, Step};
 use isdb_mmt::location::Location;
 use isdb_mmt::part::Part;
 use isdb_mmt::table::nit;
-use isdb_mmt::table::nit::TlvStep;
-use isdb_mmt::timestamp::{AccessUnit, Extended, MpuStep, TimestampStep};
+use isdb_mmt::timestamp::{AccessUnit, Extended};
+use isdb_mmt::walk_step::WalkStep;
 use isdb_mmt::{desc, timestamp};
 use isdb_tlv::bytes;
 use isdb_tlv::ip::Address;
 
-// Numbers that may be absent.
-pub fn maybe_u16(out: &mut [u8], at: usize, n: Option<u16>) -> usize
-    ensures { Wrote out.old at (u16_text n) out.new result }
-{
-    match n {
-        None => text::put(out, at, b"none"),
-        Some(x) => text::decimal(out, at, x as u64),
-    }
-}
-
-pub fn maybe_u32(out: &mut [u8], at: usize, n: Option<u32>) -> usize
-    ensures { Wrote out.old at (u32_text n) out.new result }
-{
-    match n {
-        None => text::put(out, at, b"none"),
-        Some(x) => text::decimal(out, at, x as u64),
-    }
-}
-
-pub fn maybe_u64(out: &mut [u8], at: usize, n: Option<u64>) -> usize
-    ensures { Wrote out.old at (u64_text n) out.new result }
+// A number that may be absent.
+pub fn maybe(out: &mut [u8], at: usize, n: Option<u64>) -> usize
+    ensures { Wrote out.old at (maybe_text n) out.new result }
 {
     match n {
         None => text::put(out, at, b"none"),
@@ -59,6 +41,7 @@ pub fn part_hex(out: &mut [u8], at: usize, b: &[u8], p: Part) -> usize
 }
 
 // An address, two digits a byte.
+#[tactic(auto, using(crate::proofs::Written::writing))]
 pub fn address(out: &mut [u8], at: usize, a: Address) -> usize
     ensures { Wrote out.old at (address_text a) out.new result }
 {
@@ -81,6 +64,7 @@ fn ipv6(out: &mut [u8], at: usize, src: Address, dst: Address, port: u16, id: u1
     fill::fill(out, p, b" # #", &[port as u64, id as u64])
 }
 
+#[tactic(auto, using(crate::proofs::Written::writing), unfolding(crate::specs::DumpDescriptors::url_text))]
 fn url(out: &mut [u8], at: usize, b: &[u8], place: Part) -> usize
     ensures { Wrote out.old at (url_text b.now place) out.new result }
 {
@@ -149,16 +133,12 @@ fn timestamps(out: &mut [u8], at: usize, b: &[u8]) -> usize
     let mut p = text::place(out, at);
     let mut i = 0;
     for _ in 0..b.len() {
-        let TimestampStep::Timestamp {
-            mpu_sequence_number: mpu,
-            presentation_time: time,
-            next,
-        } = timestamp::next_timestamp(b, i)
-        else {
+        let Some((x, next)) = timestamp::next_timestamp(b, i) else {
             break;
         };
         p = comma(out, p, 0, i);
-        p = fill::fill(out, p, b"#:%%%%%%%%%%%%%%%%", &[mpu as u64, time]);
+        let values = [x.mpu_sequence_number as u64, x.presentation_time];
+        p = fill::fill(out, p, b"#:%%%%%%%%%%%%%%%%", &values);
         i = next;
     }
     p
@@ -174,16 +154,12 @@ pub fn services(out: &mut [u8], at: usize, b: &[u8]) -> usize
     let mut p = text::place(out, at);
     let mut i = 0;
     for _ in 0..b.len() {
-        let ServiceStep::Service {
-            service_id: id,
-            service_type: kind,
-            next,
-        } = desc::next_service(b, i)
-        else {
+        let Some((x, next)) = desc::next_service(b, i) else {
             break;
         };
         p = comma(out, p, 0, i);
-        p = fill::fill(out, p, b"#:#", &[id as u64, kind as u64]);
+        let values = [x.service_id as u64, x.service_type as u64];
+        p = fill::fill(out, p, b"#:#", &values);
         i = next;
     }
     p
@@ -199,17 +175,12 @@ fn genres(out: &mut [u8], at: usize, b: &[u8]) -> usize
     let mut p = text::place(out, at);
     let mut i = 0;
     for _ in 0..b.len() {
-        let GenreStep::Genre {
-            level_1: x,
-            level_2: y,
-            user,
-            next,
-        } = desc::next_genre(b, i)
-        else {
+        let Some((x, next)) = desc::next_genre(b, i) else {
             break;
         };
         p = comma(out, p, 0, i);
-        p = fill::fill(out, p, b"#:#:#", &[x as u64, y as u64, user as u64]);
+        let values = [x.level_1 as u64, x.level_2 as u64, x.user as u64];
+        p = fill::fill(out, p, b"#:#:#", &values);
         i = next;
     }
     p
@@ -218,9 +189,8 @@ fn genres(out: &mut [u8], at: usize, b: &[u8]) -> usize
 fn access_unit(out: &mut [u8], at: usize, u: AccessUnit) -> usize
     ensures { Wrote out.old at (unit_text u) out.new result }
 {
-    let pts_offset = u.pts_offset;
     let p = fill::fill(out, at, b"#/", &[u.dts_pts_offset as u64]);
-    maybe_u16(out, p, pts_offset)
+    maybe(out, p, u.pts_offset.map(u64::from))
 }
 
 // The access units of an MPU.
@@ -232,6 +202,7 @@ fn access_units(out: &mut [u8], at: usize, units: &[u8], e: Extended) -> usize
     }
     let mut p = text::place(out, at);
     let mut i = 0;
+    // A cursor: where the next one stands is known once this one is read.
     for _ in 0..units.len() {
         let Some((u, next)) = timestamp::next_access_unit(units, e, i) else {
             break;
@@ -243,6 +214,7 @@ fn access_units(out: &mut [u8], at: usize, units: &[u8], e: Extended) -> usize
     p
 }
 
+#[tactic(auto, using(crate::proofs::Written::writing), unfolding(crate::specs::DumpDescriptors::mpu_text))]
 fn mpu_text(
     out: &mut [u8],
     at: usize,
@@ -271,18 +243,20 @@ fn mpus(out: &mut [u8], at: usize, b: &[u8], e: Extended) -> usize
     let mut p = text::place(out, at);
     let mut i = start;
     for _ in 0..b.len() {
+        // A step has three cases, and two of them end the list.
         match timestamp::next_mpu(b, e.own_pts_offset, i) {
-            MpuStep::End | MpuStep::Broken => break,
-            MpuStep::Mpu {
-                mpu_sequence_number: mpu,
-                leap_indicator: leap,
-                decoding_time_offset: offset,
-                units,
-                next,
-                ..
-            } => {
+            WalkStep::End | WalkStep::Malformed => break,
+            WalkStep::Entry(m, next) => {
                 p = comma(out, p, start, i);
-                p = mpu_text(out, p, mpu, leap, offset, units.of(b), e);
+                p = mpu_text(
+                    out,
+                    p,
+                    m.mpu_sequence_number,
+                    m.leap_indicator,
+                    m.decoding_time_offset,
+                    m.units.of(b),
+                    e,
+                );
                 i = next;
             }
         }
@@ -293,12 +267,10 @@ fn mpus(out: &mut [u8], at: usize, b: &[u8], e: Extended) -> usize
 fn extended(out: &mut [u8], at: usize, b: &[u8], e: Extended) -> usize
     ensures { Wrote out.old at (extended_text b.now e) out.new result }
 {
-    let timescale = e.timescale;
-    let default_pts_offset = e.default_pts_offset;
     let mut p = text::put(out, at, b"extended_timestamp timescale ");
-    p = maybe_u32(out, p, timescale);
+    p = maybe(out, p, e.timescale.map(u64::from));
     p = text::put(out, p, b" default_pts_offset ");
-    p = maybe_u16(out, p, default_pts_offset);
+    p = maybe(out, p, e.default_pts_offset.map(u64::from));
     p = text::put(out, p, b" mpus ");
     mpus(out, p, b, e)
 }
@@ -345,6 +317,7 @@ fn short_event(out: &mut [u8], at: usize, b: &[u8], l: Language, name: Part, wor
     part_hex(out, p, b, words)
 }
 
+#[tactic(auto, using(crate::proofs::Written::writing), unfolding(crate::specs::DumpDescriptors::other_text))]
 fn other(out: &mut [u8], at: usize, b: &[u8], tag: u16, body: Part) -> usize
     ensures { Wrote out.old at (other_text b.now tag body) out.new result }
 {
@@ -353,6 +326,7 @@ fn other(out: &mut [u8], at: usize, b: &[u8], tag: u16, body: Part) -> usize
 }
 
 // A list behind its name.
+#[tactic(auto, using(crate::proofs::Written::writing), unfolding(crate::specs::DumpDescriptors::timestamp_list))]
 fn timestamp_list(out: &mut [u8], at: usize, b: &[u8]) -> usize
     ensures { Wrote out.old at (timestamp_list b.now) out.new result }
 {
@@ -360,6 +334,7 @@ fn timestamp_list(out: &mut [u8], at: usize, b: &[u8]) -> usize
     timestamps(out, p, b)
 }
 
+#[tactic(auto, using(crate::proofs::Written::writing), unfolding(crate::specs::DumpDescriptors::service_list_of))]
 fn service_list(out: &mut [u8], at: usize, b: &[u8]) -> usize
     ensures { Wrote out.old at (service_list_of b.now) out.new result }
 {
@@ -367,6 +342,7 @@ fn service_list(out: &mut [u8], at: usize, b: &[u8]) -> usize
     services(out, p, b)
 }
 
+#[tactic(auto, using(crate::proofs::Written::writing), unfolding(crate::specs::DumpDescriptors::content_text))]
 fn content(out: &mut [u8], at: usize, b: &[u8]) -> usize
     ensures { Wrote out.old at (content_text b.now) out.new result }
 {
@@ -382,6 +358,7 @@ fn hevc(out: &mut [u8], at: usize, profile: u8, tier: bool, level: u8) -> usize
     fill::fill(out, at, b"hevc # # #", &values)
 }
 
+#[tactic(auto, using(crate::proofs::Written::writing), unfolding(crate::specs::DumpDescriptors::broadcaster_name_text))]
 fn broadcaster_name(out: &mut [u8], at: usize, b: &[u8], name: Part) -> usize
     ensures { Wrote out.old at (broadcaster_name_text b.now name) out.new result }
 {
@@ -445,6 +422,7 @@ pub fn descriptors(out: &mut [u8], at: usize, pad: &[u8], b: &[u8]) -> usize
     let mut p = text::place(out, at);
     let mut i = 0;
     for _ in 0..b.len() {
+        // A step has three cases, and two of them end the list.
         match desc::next(b, i) {
             Step::End | Step::Broken(_) => break,
             Step::Raw { tag, body, next } => {
@@ -472,7 +450,7 @@ fn tlv_text(out: &mut [u8], at: usize, tag: u8, b: &[u8]) -> usize
         }
         0x43 => {
             let p = text::put(out, at, b" frequency_khz ");
-            maybe_u64(out, p, nit::satellite_frequency_khz(tag, b))
+            maybe(out, p, nit::satellite_frequency_khz(tag, b))
         }
         _ => text::place(out, at),
     }
@@ -495,10 +473,10 @@ pub fn tlv_descriptors(out: &mut [u8], at: usize, pad: &[u8], b: &[u8]) -> usize
     let mut p = text::place(out, at);
     let mut i = 0;
     for _ in 0..b.len() {
-        let TlvStep::Descriptor { tag, body, next } = nit::next_tlv(b, i) else {
+        let Some((d, next)) = nit::next_tlv(b, i) else {
             break;
         };
-        p = tlv_line(out, p, pad, tag, body.of(b));
+        p = tlv_line(out, p, pad, d.tag, d.body.of(b));
         i = next;
     }
     p

@@ -2,12 +2,14 @@
 // one stands, and its records are those between the two.
 ghost use Rattle.std.specs.Prelude.{◌≡◌, ◌<◌};
 ghost use Rattle.isdb_mmt.specs.Pushes.PushAll.{nothing_taken};
+ghost use Rattle.isdb_mmt.specs.Pushes.Answer.{answered};
 ghost use Rattle.isdb_text.specs.Text.{Wrote};
-ghost use Rattle.isdb_text.specs.DumpPackets.{nth_of, halt_number, first_told, answer_of, told_of, next_place, behind_of, packet_of, record_of};
+ghost use Rattle.isdb_text.specs.DumpPackets.{nth_of, halt_number, turned_down_of, first_told, answer_of, told_of, next_place, behind_of, packet_of, record_of};
 
 use crate::{dump_session, text};
 use isdb_mmt::decoder::many::{Halt, Progress, Pushes};
-use isdb_mmt::decoder::records::Answer;
+use isdb_mmt::decoder::records::HandedOut;
+use isdb_mmt::decoder::refusal::Refusal;
 use isdb_tlv::cut::Cut;
 use isdb_tlv::{bytes, cut};
 
@@ -26,14 +28,27 @@ fn nth(list: &[u8], size: usize, i: usize) -> &[u8]
     bytes::part(list, size * i, size)
 }
 
-fn halt_number(h: Halt) -> u8
-    ensures { result ≡ halt_number h }
+const NOTHING: HandedOut = HandedOut {
+    records: 0,
+    bytes: 0,
+};
+
+// To the packet at which a call ended, where one stands there.
+fn last_answer(h: Halt) -> Result<HandedOut, Refusal>
+    ensures { answered result ≡ turned_down_of (halt_number h) }
 {
     match h {
-        Halt::End | Halt::Short | Halt::Bad => 0,
-        Halt::Full => 10,
-        Halt::Refused(n) => n,
+        Halt::End | Halt::Short | Halt::Bad => Ok(NOTHING),
+        Halt::Full => Err(Refusal::OutputTooSmall),
+        Halt::Refused(e) => Err(e),
     }
+}
+
+// What an answer handed out; nothing, where the packet was turned down.
+fn handed_out(a: Result<HandedOut, Refusal>) -> HandedOut
+    ensures { result ≡ record { records = (answered a).records; bytes = (answered a).bytes } }
+{
+    a.unwrap_or(NOTHING)
 }
 
 fn first_told(h: Halt) -> usize
@@ -62,35 +77,26 @@ pub fn start() -> Progress
 pub fn told(a: Pushes) -> usize
     ensures { result ≡ told_of a }
 {
-    let x = a.progress;
-    let h = a.halt;
-    if x.packets == 0 {
-        first_told(h)
+    if a.progress.packets == 0 {
+        first_told(a.halt)
     } else {
-        x.packets
+        a.progress.packets
     }
 }
 
 // The answer to a packet of a call.
 #[tactic(auto, unfolding(crate::specs::DumpPackets::answer_of))]
-pub fn answer(lines: &[u8], a: Pushes, k: usize) -> Answer
-    ensures { result ≡ answer_of a lines.now k }
+pub fn answer(lines: &[u8], a: Pushes, k: usize) -> Result<HandedOut, Refusal>
+    ensures { answered result ≡ answer_of a lines.now k }
 {
-    let x = a.progress;
-    let h = a.halt;
-    if k < x.packets {
+    if k < a.progress.packets {
         let line = nth(lines, LINE_SIZE, k);
-        return Answer {
-            number: 0,
+        return Ok(HandedOut {
             records: bytes::get_u64(line, 0),
             bytes: bytes::get_u64(line, 8),
-        };
+        });
     }
-    Answer {
-        number: halt_number(h),
-        records: 0,
-        bytes: 0,
-    }
+    last_answer(a.halt)
 }
 
 fn next_place(c: Cut, at: usize) -> usize
@@ -112,7 +118,7 @@ fn next_place(c: Cut, at: usize) -> usize
 pub fn behind(input: &[u8], most: usize, lines: &[u8], a: Pushes, x: Progress) -> Progress
     ensures { result ≡ behind_of input.now most lines.now a x }
 {
-    let y = answer(lines, a, x.packets);
+    let y = handed_out(answer(lines, a, x.packets));
     Progress {
         at: next_place(cut::cut_at(input, most, x.at), x.at),
         packets: std::num::wrapping_add_usize(x.packets, 1),

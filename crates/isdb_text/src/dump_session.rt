@@ -2,7 +2,7 @@
 ghost use Rattle.std.specs.Prelude.{◌≡◌, ◌*◌, ◌<◌, ◌≤◌, [], ◌∷◌, length};
 ghost use Rattle.isdb_mmt.specs.Memory.Layout.{most_control_ids, most_message_area};
 ghost use Rattle.isdb_mmt.specs.Memory.Lending.{lent_by};
-ghost use Rattle.isdb_mmt.specs.Memory.Lent.{flag as flag_at};
+ghost use Rattle.isdb_mmt.specs.Pushes.Answer.{answered};
 ghost use Rattle.isdb_text.specs.Text.{Wrote, ascii};
 ghost use Rattle.isdb_text.specs.Fill.{filled};
 ghost use Rattle.isdb_text.specs.DumpSession.{data_text, record_text, packet_line, mfu_line, feed_counters, table_counters};
@@ -20,7 +20,7 @@ use isdb_mmt::decoder::readings::{
     CarriedAsset, ControlState, Held, HeldObject, MediaState, MpuRange,
 };
 use isdb_mmt::decoder::records;
-use isdb_mmt::decoder::records::Answer;
+use isdb_mmt::decoder::records::HandedOut;
 use isdb_mmt::decoder::refusal::Refusal;
 use isdb_mmt::decoder::session::Session;
 use isdb_mmt::{maybe, ntp};
@@ -28,20 +28,28 @@ use isdb_tlv::{bytes, crc};
 
 // What a push answered to the packet with this number.
 #[tactic(auto, unfolding(crate::specs::DumpSession::packet_line))]
-pub fn packet_line(out: &mut [u8], at: usize, number: u64, kind: u8, n: u64, a: Answer) -> usize
-    ensures { Wrote out.old at (packet_line number kind n a) out.new result }
+pub fn packet_line(
+    out: &mut [u8],
+    at: usize,
+    number: u64,
+    kind: u8,
+    n: u64,
+    a: Result<HandedOut, Refusal>,
+) -> usize
+    ensures { Wrote out.old at (packet_line number kind n (answered a)) out.new result }
 {
-    if a.number == 0 {
-        let values = [number, kind as u64, n, a.records, a.bytes];
-        return fill::fill(
+    match a {
+        Ok(h) => fill::fill(
             out,
             at,
             b"packet # kind %% length # records # bytes #\n",
-            &values,
-        );
+            &[number, kind as u64, n, h.records, h.bytes],
+        ),
+        Err(e) => {
+            let values = [number, kind as u64, n, e.number() as u64];
+            fill::fill(out, at, b"packet # kind %% length # refused #\n", &values)
+        }
     }
-    let values = [number, kind as u64, n, a.number as u64];
-    fill::fill(out, at, b"packet # kind %% length # refused #\n", &values)
 }
 
 // The number and the CRC of some bytes, at a line's end.
@@ -54,6 +62,7 @@ pub fn data_text(out: &mut [u8], at: usize, mfu: &[u8]) -> usize
 }
 
 // A record's row and its data.
+#[tactic(auto, using(crate::proofs::Written::writing), unfolding(crate::specs::DumpSession::record_text))]
 fn record_text(out: &mut [u8], at: usize, row: &[u8], mfu: &[u8]) -> usize
     ensures { Wrote out.old at (record_text row.now mfu.now) out.new result }
 {
@@ -62,6 +71,7 @@ fn record_text(out: &mut [u8], at: usize, row: &[u8], mfu: &[u8]) -> usize
 }
 
 // A record that a push handed out, its data among the data of all.
+#[tactic(auto, using(crate::proofs::Written::writing), unfolding(crate::specs::DumpSession::mfu_line))]
 pub fn mfu_line(out: &mut [u8], at: usize, row: &[u8], all: &[u8]) -> usize
     ensures { Wrote out.old at (mfu_line row.now all.now) out.new result }
 {
@@ -122,6 +132,7 @@ fn message_counters(out: &mut [u8], at: usize, c: Counters) -> usize
     fill::fill(out, p, b"counter split_errors #\n", &[c.split_errors])
 }
 
+#[tactic(auto, using(crate::proofs::Written::writing))]
 fn counter_lines(out: &mut [u8], at: usize, r: Result<Counters, Refusal>) -> usize
     ensures { Wrote out.old at (counter_lines r) out.new result }
 {
@@ -211,15 +222,12 @@ fn range_line(out: &mut [u8], at: usize, id: u32, r: Option<MpuRange>) -> usize
 fn state_lines(out: &mut [u8], at: usize, id: u32, m: MediaState) -> usize
     ensures { Wrote out.old at (state_lines id m) out.new result }
 {
-    let stats = m.stats;
-    let range = m.mpu_range;
-    let sequence = m.sequence;
-    let p = stats_line(out, at, id, stats);
-    let q = range_line(out, p, id, range);
+    let p = stats_line(out, at, id, m.stats);
+    let q = range_line(out, p, id, m.mpu_range);
     let values = [
         id as u64,
-        maybe::given(sequence),
-        sequence.unwrap_or(0) as u64,
+        maybe::given(m.sequence),
+        m.sequence.unwrap_or(0) as u64,
     ];
     fill::fill(out, q, b"media # last_sequence ?\n", &values)
 }
@@ -239,8 +247,7 @@ fn object_line(out: &mut [u8], at: usize, id: u32, o: HeldObject, objects: &[u8]
     let mut row = [0u8; 36];
     records::held_row(&mut row, id, o);
     let p = fill::fill(out, at, b"media # held ", &[id as u64]);
-    let b = o.bytes;
-    record_text(out, p, &row, b.of(objects))
+    record_text(out, p, &row, o.bytes.of(objects))
 }
 
 fn held_line(out: &mut [u8], at: usize, id: u32, r: Result<Held, Refusal>, objects: &[u8]) -> usize
@@ -256,15 +263,11 @@ fn held_line(out: &mut [u8], at: usize, id: u32, r: Result<Held, Refusal>, objec
 fn carried_line(out: &mut [u8], at: usize, id: u32, a: CarriedAsset, tables: &[u8]) -> usize
     ensures { Wrote out.old at (carried_line id a tables.now) out.new result }
 {
-    let mpt = a.mpt;
-    let service = a.service_id;
-    let x = a.asset;
-    let i = x.asset_id;
     let values = [
         id as u64,
-        maybe::given(service),
-        service.unwrap_or(0) as u64,
-        x.asset_type as u64,
+        maybe::given(a.service_id),
+        a.service_id.unwrap_or(0) as u64,
+        a.asset.asset_type as u64,
     ];
     let p = fill::fill(
         out,
@@ -272,7 +275,7 @@ fn carried_line(out: &mut [u8], at: usize, id: u32, a: CarriedAsset, tables: &[u
         b"media # asset_of service ? type %%%%%%%% id ",
         &values,
     );
-    let q = text::hex(out, p, i.of(mpt.of(tables)));
+    let q = text::hex(out, p, a.asset.asset_id.of(a.mpt.of(tables)));
     text::put_byte(out, q, b'\n')
 }
 
@@ -293,6 +296,7 @@ fn asset_line(
 }
 
 // The five lines of a media id. Packet ids have 16 bits.
+#[tactic(auto, using(crate::proofs::Written::writing), unfolding(crate::specs::DumpSession::media_text))]
 fn media_text(session: Session<'_>, id: u32, out: &mut [u8], at: usize) -> usize
     ensures { Wrote out.old at (media_text (lent_by session.entry) id) out.new result }
 {
@@ -310,26 +314,23 @@ fn all_media(session: Session<'_>, out: &mut [u8], at: usize) -> usize
     ensures { Wrote out.old at (all_media (lent_by session.entry)) out.new result }
 {
     let mut p = text::place(out, at);
-    let mut from: u32 = 0;
-    let mut left: u8 = 64;
-    while 0 < left {
-        match session.next_media(from) {
-            Ok(Some(id)) => {
-                p = media_text(session, id, out, p);
-                if id == 4294967295 {
-                    return p;
-                }
-                from = id + 1;
-                left -= 1;
-            }
-            Ok(None) => return p,
-            Err(_) => return p,
+    let mut from = 0;
+    // The next id is known once this one is read.
+    for _ in 0..64u8 {
+        let Ok(Some(id)) = session.next_media(from) else {
+            break;
+        };
+        p = media_text(session, id, out, p);
+        if id == u32::MAX {
+            break;
         }
+        from = id + 1;
     }
     p
 }
 
 // The index of the control place of a packet id; where it has none, how many are in use.
+#[tactic(auto, using(crate::proofs::Dumped::index_start, crate::proofs::Dumped::index_hit, crate::proofs::Dumped::index_miss, crate::proofs::Dumped::index_end))]
 fn control_index(state: &[u8], id: u32) -> usize
     ensures { result ≡ control_index state.now id }
 {
@@ -342,19 +343,13 @@ fn control_index(state: &[u8], id: u32) -> usize
     n
 }
 
-fn flag(p: &[u8], at: usize) -> bool
-    ensures { result ≡ flag_at p.now at }
-{
-    bytes::get_u8(p, at) != 0
-}
-
 // A message that is being joined: the flags of its first fragment, and its bytes so far.
 fn joined_line(out: &mut [u8], at: usize, id: u32, place: &[u8], area: &[u8]) -> usize
     ensures { Wrote out.old at (joined_line id place.now area.now) out.new result }
 {
-    if flag(place, 9) {
-        let long = u64::from(flag(place, 10));
-        let aggregated = u64::from(flag(place, 11));
+    if bytes::get_u8(place, 9) != 0 {
+        let long = u64::from(bytes::get_u8(place, 10) != 0);
+        let aggregated = u64::from(bytes::get_u8(place, 11) != 0);
         let length = bytes::get_u32(place, 12) as usize;
         let values = [id as u64, long, aggregated];
         let p = fill::fill(
@@ -377,6 +372,7 @@ fn area_start(i: usize, size: u64) -> usize
 }
 
 // What the control place with this index holds of a message.
+#[tactic(auto, using(crate::proofs::Written::writing), unfolding(isdb_mmt::specs::Memory::Session::limits_of, crate::specs::DumpSession::message_line))]
 fn message_line(
     out: &mut [u8],
     at: usize,
@@ -409,11 +405,10 @@ fn control_line(
 {
     match r {
         Ok(Some(c)) => {
-            let sequence = c.sequence;
             let values = [
                 id as u64,
-                maybe::given(sequence),
-                sequence.unwrap_or(0) as u64,
+                maybe::given(c.sequence),
+                c.sequence.unwrap_or(0) as u64,
             ];
             fill::fill(out, at, b"control # last_sequence ?\n", &values)
         }
@@ -422,6 +417,7 @@ fn control_line(
 }
 
 // The two lines of a control id.
+#[tactic(auto, using(crate::proofs::Written::writing), unfolding(crate::specs::DumpSession::control_text))]
 fn control_text(session: Session<'_>, id: u32, out: &mut [u8], at: usize) -> usize
     ensures { Wrote out.old at (control_text (lent_by session.entry) id) out.new result }
 {
@@ -436,21 +432,17 @@ fn all_controls(session: Session<'_>, out: &mut [u8], at: usize) -> usize
     ensures { Wrote out.old at (all_controls (lent_by session.entry)) out.new result }
 {
     let mut p = text::place(out, at);
-    let mut from: u32 = 0;
-    let mut left: u8 = 32;
-    while 0 < left {
-        match session.next_control(from) {
-            Ok(Some(id)) => {
-                p = control_text(session, id, out, p);
-                if id == 4294967295 {
-                    return p;
-                }
-                from = id + 1;
-                left -= 1;
-            }
-            Ok(None) => return p,
-            Err(_) => return p,
+    let mut from = 0;
+    // The next id is known once this one is read.
+    for _ in 0..32u8 {
+        let Ok(Some(id)) = session.next_control(from) else {
+            break;
+        };
+        p = control_text(session, id, out, p);
+        if id == u32::MAX {
+            break;
         }
+        from = id + 1;
     }
     p
 }
@@ -483,15 +475,14 @@ fn other_lines(session: Session<'_>, out: &mut [u8], at: usize) -> usize
     ensures { Wrote out.old at (other_lines (lent_by session.entry)) out.new result }
 {
     let mut p = text::place(out, at);
-    let mut id: u16 = 0;
-    while id < 256 {
+    for id in 0..256u16 {
         p = other_text(session, id as u8, out, p);
-        id += 1;
     }
     p
 }
 
 // The counts of the feed and its time.
+#[tactic(auto, using(crate::proofs::Written::writing), unfolding(crate::specs::DumpSession::feed_lines))]
 fn feed_lines(session: Session<'_>, out: &mut [u8], at: usize) -> usize
     ensures { Wrote out.old at (feed_lines (lent_by session.entry)) out.new result }
 {
@@ -502,6 +493,7 @@ fn feed_lines(session: Session<'_>, out: &mut [u8], at: usize) -> usize
 }
 
 // Everything that a session holds beside its tables.
+#[tactic(auto, using(crate::proofs::Written::writing), unfolding(crate::specs::DumpSession::session_lines))]
 pub fn session_lines(session: Session<'_>, out: &mut [u8], at: usize) -> usize
     ensures { Wrote out.old at (session_lines (lent_by session.entry)) out.new result }
 {

@@ -11,21 +11,20 @@ ghost use Rattle.isdb_text.specs.DumpTables.{package_text, packages_text, plt_ta
 ghost use Rattle.isdb_text.specs.DumpTables.{service_text, services_text, stream_text, streams_text, tot_table};
 ghost use Rattle.isdb_text.specs.DumpTables.{tot_text};
 
-use crate::dump_descriptors::{
-    address, descriptors, location, maybe_u16, part_hex, tlv_descriptors,
-};
+use crate::dump_descriptors::{address, descriptors, location, maybe, part_hex, tlv_descriptors};
 use crate::{fill, text};
 use isdb_mmt::location::Location;
 use isdb_mmt::table::amt::{Amt, AmtService};
-use isdb_mmt::table::bit::{Bit, Broadcaster, BroadcasterStep};
-use isdb_mmt::table::eit::{Eit, Event, EventStep};
+use isdb_mmt::table::bit::{Bit, Broadcaster};
+use isdb_mmt::table::eit::{Eit, Event};
 use isdb_mmt::table::mpt::{Asset, Mpt};
-use isdb_mmt::table::nit::{Nit, NitStream, StreamStep};
+use isdb_mmt::table::nit::{Nit, NitStream};
 use isdb_mmt::table::plt::{Package, Plt};
-use isdb_mmt::table::sdt::{Sdt, SdtService, SdtStep};
+use isdb_mmt::table::sdt::{Sdt, SdtService};
 use isdb_mmt::table::section::SectionHeader;
 use isdb_mmt::table::tot::Tot;
 use isdb_mmt::table::{amt, bit, eit, mpt, nit, plt, sdt, tot};
+use isdb_mmt::walk_step::WalkStep;
 use isdb_tlv::bytes;
 
 // The key of a section's place, and the section's own header.
@@ -55,12 +54,10 @@ fn key_text(out: &mut [u8], at: usize, key: u32, h: SectionHeader) -> usize
 fn flow(out: &mut [u8], at: usize, f: AmtService) -> usize
     ensures { Wrote out.old at (flow_text f) out.new result }
 {
-    let src = f.src;
-    let dst = f.dst;
     let mut p = fill::fill(out, at, b"  service # src ", &[f.service_id as u64]);
-    p = address(out, p, src);
+    p = address(out, p, f.src);
     p = fill::fill(out, p, b" mask # dst ", &[f.src_mask as u64]);
-    p = address(out, p, dst);
+    p = address(out, p, f.dst);
     fill::fill(out, p, b" mask #\n", &[f.dst_mask as u64])
 }
 
@@ -70,6 +67,7 @@ fn flows(out: &mut [u8], at: usize, s: &[u8], n: u16) -> usize
 {
     let mut p = text::place(out, at);
     let mut i = 2;
+    // A cursor: where the next one stands is known once this one is read.
     for _ in 0..n {
         let Some((f, next)) = amt::service_at(s, i) else {
             break;
@@ -96,19 +94,16 @@ pub fn amt_lines(out: &mut [u8], at: usize, key: u32, b: &[u8]) -> usize
 {
     match amt::parse(b) {
         Err(_) => text::place(out, at),
-        Ok((h, t)) => {
-            let body = h.body;
-            amt_table(out, at, key, h, t, body.of(b))
-        }
+        Ok((h, t)) => { amt_table(out, at, key, h, t, h.body.of(b)) }
     }
 }
 
+#[tactic(auto, using(crate::proofs::Written::writing), unfolding(crate::specs::DumpTables::tot_table))]
 fn tot_table(out: &mut [u8], at: usize, b: &[u8], t: Tot) -> usize
     ensures { Wrote out.old at (tot_table b.now t) out.new result }
 {
-    let d = t.descriptors;
     let p = fill::fill(out, at, b"tot jst %%%%%%%%%%\n", &[t.jst]);
-    descriptors(out, p, b"  ", d.of(b))
+    descriptors(out, p, b"  ", t.descriptors.of(b))
 }
 
 // The kept TOT.
@@ -116,9 +111,7 @@ fn tot_table(out: &mut [u8], at: usize, b: &[u8], t: Tot) -> usize
 pub fn tot_lines(out: &mut [u8], at: usize, b: &[u8]) -> usize
     ensures { Wrote out.old at (tot_text b.now) out.new result }
 {
-    let parsed = tot::parse(b);
-    let result = parsed.result;
-    match result {
+    match tot::parse(b).result {
         Err(_) => text::place(out, at),
         Ok(t) => tot_table(out, at, b, t),
     }
@@ -127,7 +120,6 @@ pub fn tot_lines(out: &mut [u8], at: usize, b: &[u8]) -> usize
 fn sdt_service(out: &mut [u8], at: usize, s: &[u8], e: SdtService) -> usize
     ensures { Wrote out.old at (service_text s.now e) out.new result }
 {
-    let d = e.descriptors;
     let values = [
         e.service_id as u64,
         e.eit_user_defined_flags as u64,
@@ -142,7 +134,7 @@ fn sdt_service(out: &mut [u8], at: usize, s: &[u8], e: SdtService) -> usize
         b"  service # eit_user_defined_flags # eit_schedule # eit_present_following # running_status # free_ca #\n",
         &values,
     );
-    descriptors(out, p, b"    ", d.of(s))
+    descriptors(out, p, b"    ", e.descriptors.of(s))
 }
 
 // The services of an SDT's body.
@@ -152,9 +144,10 @@ fn sdt_services(out: &mut [u8], at: usize, s: &[u8], n: usize) -> usize
     let mut p = text::place(out, at);
     let mut i = 3;
     for _ in 0..n {
+        // A step has three cases, and two of them end the list.
         match sdt::next_service(s, i) {
-            SdtStep::End | SdtStep::Malformed => break,
-            SdtStep::Service(e, next) => {
+            WalkStep::End | WalkStep::Malformed => break,
+            WalkStep::Entry(e, next) => {
                 p = sdt_service(out, p, s, e);
                 i = next;
             }
@@ -163,6 +156,7 @@ fn sdt_services(out: &mut [u8], at: usize, s: &[u8], n: usize) -> usize
     p
 }
 
+#[tactic(auto, using(crate::proofs::Written::writing), unfolding(crate::specs::DumpTables::sdt_table))]
 fn sdt_table(out: &mut [u8], at: usize, key: u32, h: SectionHeader, t: Sdt, s: &[u8]) -> usize
     ensures { Wrote out.old at (sdt_table key h t s.now) out.new result }
 {
@@ -182,21 +176,15 @@ fn sdt_table(out: &mut [u8], at: usize, key: u32, h: SectionHeader, t: Sdt, s: &
 pub fn sdt_lines(out: &mut [u8], at: usize, key: u32, b: &[u8]) -> usize
     ensures { Wrote out.old at (sdt_text key b.now) out.new result }
 {
-    let parsed = sdt::parse(b);
-    let result = parsed.result;
-    match result {
+    match sdt::parse(b).result {
         Err(_) => text::place(out, at),
-        Ok((h, t)) => {
-            let body = h.body;
-            sdt_table(out, at, key, h, t, body.of(b))
-        }
+        Ok((h, t)) => { sdt_table(out, at, key, h, t, h.body.of(b)) }
     }
 }
 
 fn event(out: &mut [u8], at: usize, s: &[u8], e: Event) -> usize
     ensures { Wrote out.old at (event_text s.now e) out.new result }
 {
-    let d = e.descriptors;
     let values = [
         e.event_id as u64,
         e.start,
@@ -210,7 +198,7 @@ fn event(out: &mut [u8], at: usize, s: &[u8], e: Event) -> usize
         b"  event # start %%%%%%%%%% duration %%%%%% running_status # free_ca #\n",
         &values,
     );
-    descriptors(out, p, b"    ", d.of(s))
+    descriptors(out, p, b"    ", e.descriptors.of(s))
 }
 
 // The events of an EIT's body.
@@ -220,9 +208,10 @@ fn events(out: &mut [u8], at: usize, s: &[u8], n: usize) -> usize
     let mut p = text::place(out, at);
     let mut i = 6;
     for _ in 0..n {
+        // A step has three cases, and two of them end the list.
         match eit::next_event(s, i) {
-            EventStep::End | EventStep::Malformed => break,
-            EventStep::Event(e, next) => {
+            WalkStep::End | WalkStep::Malformed => break,
+            WalkStep::Entry(e, next) => {
                 p = event(out, p, s, e);
                 i = next;
             }
@@ -249,6 +238,7 @@ fn eit_fields(out: &mut [u8], at: usize, t: Eit) -> usize
     )
 }
 
+#[tactic(auto, using(crate::proofs::Written::writing), unfolding(crate::specs::DumpTables::eit_table))]
 fn eit_table(out: &mut [u8], at: usize, key: u32, h: SectionHeader, t: Eit, s: &[u8]) -> usize
     ensures { Wrote out.old at (eit_table key h t s.now) out.new result }
 {
@@ -263,23 +253,17 @@ fn eit_table(out: &mut [u8], at: usize, key: u32, h: SectionHeader, t: Eit, s: &
 pub fn eit_lines(out: &mut [u8], at: usize, key: u32, b: &[u8]) -> usize
     ensures { Wrote out.old at (eit_text key b.now) out.new result }
 {
-    let parsed = eit::parse(b);
-    let result = parsed.result;
-    match result {
+    match eit::parse(b).result {
         Err(_) => text::place(out, at),
-        Ok((h, t)) => {
-            let body = h.body;
-            eit_table(out, at, key, h, t, body.of(b))
-        }
+        Ok((h, t)) => { eit_table(out, at, key, h, t, h.body.of(b)) }
     }
 }
 
 fn broadcaster(out: &mut [u8], at: usize, s: &[u8], e: Broadcaster) -> usize
     ensures { Wrote out.old at (broadcaster_text s.now e) out.new result }
 {
-    let d = e.descriptors;
     let p = fill::fill(out, at, b"  broadcaster #\n", &[e.broadcaster_id as u64]);
-    descriptors(out, p, b"    ", d.of(s))
+    descriptors(out, p, b"    ", e.descriptors.of(s))
 }
 
 // The broadcasters of a BIT's body, which stand behind the first descriptor loop.
@@ -289,9 +273,10 @@ fn broadcasters(out: &mut [u8], at: usize, s: &[u8], n: usize) -> usize
     let mut p = text::place(out, at);
     let mut i = bytes::get_u12(s, 0) as usize + 2;
     for _ in 0..n {
+        // A step has three cases, and two of them end the list.
         match bit::next_broadcaster(s, i) {
-            BroadcasterStep::End | BroadcasterStep::Malformed => break,
-            BroadcasterStep::Broadcaster(e, next) => {
+            WalkStep::End | WalkStep::Malformed => break,
+            WalkStep::Entry(e, next) => {
                 p = broadcaster(out, p, s, e);
                 i = next;
             }
@@ -303,12 +288,11 @@ fn broadcasters(out: &mut [u8], at: usize, s: &[u8], n: usize) -> usize
 fn bit_table(out: &mut [u8], at: usize, key: u32, h: SectionHeader, t: Bit, s: &[u8]) -> usize
     ensures { Wrote out.old at (bit_table key h t s.now) out.new result }
 {
-    let d = t.descriptors;
     let mut p = text::put(out, at, b"bit ");
     p = key_text(out, p, key, h);
     let propriety = u64::from(t.broadcast_view_propriety);
     p = fill::fill(out, p, b" broadcast_view_propriety #\n", &[propriety]);
-    p = descriptors(out, p, b"  ", d.of(s));
+    p = descriptors(out, p, b"  ", t.descriptors.of(s));
     broadcasters(out, p, s, t.broadcasters)
 }
 
@@ -317,24 +301,19 @@ fn bit_table(out: &mut [u8], at: usize, key: u32, h: SectionHeader, t: Bit, s: &
 pub fn bit_lines(out: &mut [u8], at: usize, key: u32, b: &[u8]) -> usize
     ensures { Wrote out.old at (bit_text key b.now) out.new result }
 {
-    let parsed = bit::parse(b);
-    let result = parsed.result;
-    match result {
+    match bit::parse(b).result {
         Err(_) => text::place(out, at),
-        Ok((h, t)) => {
-            let body = h.body;
-            bit_table(out, at, key, h, t, body.of(b))
-        }
+        Ok((h, t)) => { bit_table(out, at, key, h, t, h.body.of(b)) }
     }
 }
 
+#[tactic(auto, using(crate::proofs::Written::writing), unfolding(crate::specs::DumpTables::stream_text))]
 fn stream(out: &mut [u8], at: usize, s: &[u8], e: NitStream) -> usize
     ensures { Wrote out.old at (stream_text s.now e) out.new result }
 {
-    let d = e.descriptors;
     let values = [e.tlv_stream_id as u64, e.original_network_id as u64];
     let p = fill::fill(out, at, b"  stream # original_network_id #\n", &values);
-    tlv_descriptors(out, p, b"    ", d.of(s))
+    tlv_descriptors(out, p, b"    ", e.descriptors.of(s))
 }
 
 // The streams of a NIT's loop of streams.
@@ -344,9 +323,10 @@ fn streams(out: &mut [u8], at: usize, s: &[u8], n: usize) -> usize
     let mut p = text::place(out, at);
     let mut i = 0;
     for _ in 0..n {
+        // A step has three cases, and two of them end the list.
         match nit::next_stream(s, i) {
-            StreamStep::End | StreamStep::Malformed => break,
-            StreamStep::Stream(e, next) => {
+            WalkStep::End | WalkStep::Malformed => break,
+            WalkStep::Entry(e, next) => {
                 p = stream(out, p, s, e);
                 i = next;
             }
@@ -358,13 +338,11 @@ fn streams(out: &mut [u8], at: usize, s: &[u8], n: usize) -> usize
 fn nit_table(out: &mut [u8], at: usize, key: u32, h: SectionHeader, t: Nit, s: &[u8]) -> usize
     ensures { Wrote out.old at (nit_table key h t s.now) out.new result }
 {
-    let d = t.descriptors;
-    let l = t.loop_part;
     let mut p = text::put(out, at, b"nit ");
     p = key_text(out, p, key, h);
     p = text::put(out, p, b"\n");
-    p = tlv_descriptors(out, p, b"  ", d.of(s));
-    streams(out, p, l.of(s), t.streams)
+    p = tlv_descriptors(out, p, b"  ", t.descriptors.of(s));
+    streams(out, p, t.loop_part.of(s), t.streams)
 }
 
 // A kept NIT, by the key of its place.
@@ -374,23 +352,17 @@ pub fn nit_lines(out: &mut [u8], at: usize, key: u32, b: &[u8]) -> usize
 {
     match nit::parse(b) {
         Err(_) => text::place(out, at),
-        Ok((h, t)) => {
-            let body = h.body;
-            nit_table(out, at, key, h, t, body.of(b))
-        }
+        Ok((h, t)) => { nit_table(out, at, key, h, t, h.body.of(b)) }
     }
 }
 
 fn package(out: &mut [u8], at: usize, b: &[u8], k: Package) -> usize
     ensures { Wrote out.old at (package_text b.now k) out.new result }
 {
-    let id = k.package_id;
-    let l = k.location;
-    let start = k.location_start;
     let mut p = text::put(out, at, b"  package ");
-    p = part_hex(out, p, b, id);
+    p = part_hex(out, p, b, k.package_id);
     p = text::put(out, p, b" location ");
-    p = location(out, p, bytes::rest(b, start), l);
+    p = location(out, p, bytes::rest(b, k.location_start), k.location);
     text::put(out, p, b"\n")
 }
 
@@ -400,6 +372,7 @@ fn packages(out: &mut [u8], at: usize, s: &[u8], n: u8) -> usize
 {
     let mut p = text::place(out, at);
     let mut i = 5;
+    // A cursor: where the next one stands is known once this one is read.
     for _ in 0..n {
         let Some((k, next)) = plt::package_at(s, i) else {
             break;
@@ -416,6 +389,7 @@ fn deliveries(out: &mut [u8], at: usize, s: &[u8], n: u8, start: usize) -> usize
 {
     let mut p = text::place(out, at);
     let mut i = start;
+    // A cursor: where the next one stands is known once this one is read.
     for _ in 0..n {
         let Some((d, next)) = plt::delivery_at(s, i) else {
             break;
@@ -446,6 +420,7 @@ pub fn plt_lines(out: &mut [u8], at: usize, b: &[u8]) -> usize
     }
 }
 
+#[tactic(auto, using(crate::proofs::Written::writing), unfolding(crate::specs::DumpTables::location_line))]
 fn location_line(out: &mut [u8], at: usize, b: &[u8], l: Location) -> usize
     ensures { Wrote out.old at (location_line b.now l) out.new result }
 {
@@ -460,6 +435,7 @@ fn locations(out: &mut [u8], at: usize, s: &[u8], n: u8, start: usize) -> usize
 {
     let mut p = text::place(out, at);
     let mut i = start;
+    // A cursor: where the next one stands is known once this one is read.
     for _ in 0..n {
         let Some((l, taken)) = mpt::location_at(s, i) else {
             break;
@@ -473,10 +449,9 @@ fn locations(out: &mut [u8], at: usize, s: &[u8], n: u8, start: usize) -> usize
 fn asset_fields(out: &mut [u8], at: usize, b: &[u8], a: Asset) -> usize
     ensures { Wrote out.old at (asset_fields b.now a) out.new result }
 {
-    let id = a.asset_id;
     let values = [a.identifier_type as u64, a.asset_id_scheme as u64];
     let mut p = fill::fill(out, at, b"  asset identifier_type # scheme # id ", &values);
-    p = part_hex(out, p, b, id);
+    p = part_hex(out, p, b, a.asset_id);
     let more = [a.asset_type as u64, u64::from(a.clock_relation)];
     fill::fill(out, p, b" type %%%%%%%% clock_relation # packet_id ", &more)
 }
@@ -484,21 +459,24 @@ fn asset_fields(out: &mut [u8], at: usize, b: &[u8], a: Asset) -> usize
 fn asset_line(out: &mut [u8], at: usize, b: &[u8], a: Asset) -> usize
     ensures { Wrote out.old at (asset_line b.now a) out.new result }
 {
-    let d = a.descriptors;
     let mut p = asset_fields(out, at, b, a);
-    p = maybe_u16(out, p, a.packet_id(b));
+    p = maybe(out, p, a.packet_id(b).map(u64::from));
     p = text::put(out, p, b" component_tag ");
-    p = maybe_u16(out, p, mpt::component_tag(d.of(b)));
+    p = maybe(
+        out,
+        p,
+        mpt::component_tag(a.descriptors.of(b)).map(u64::from),
+    );
     text::put(out, p, b"\n")
 }
 
+#[tactic(auto, using(crate::proofs::Written::writing), unfolding(crate::specs::DumpTables::asset_text))]
 fn asset(out: &mut [u8], at: usize, b: &[u8], a: Asset) -> usize
     ensures { Wrote out.old at (asset_text b.now a) out.new result }
 {
-    let d = a.descriptors;
     let mut p = asset_line(out, at, b, a);
     p = locations(out, p, b, a.locations, a.locations_start);
-    descriptors(out, p, b"    ", d.of(b))
+    descriptors(out, p, b"    ", a.descriptors.of(b))
 }
 
 // The assets of an MPT.
@@ -507,6 +485,7 @@ fn assets(out: &mut [u8], at: usize, s: &[u8], n: u8, start: usize) -> usize
 {
     let mut p = text::place(out, at);
     let mut i = start;
+    // A cursor: where the next one stands is known once this one is read.
     for _ in 0..n {
         let Some((a, next)) = mpt::asset_at(s, i) else {
             break;
@@ -520,7 +499,6 @@ fn assets(out: &mut [u8], at: usize, s: &[u8], n: u8, start: usize) -> usize
 fn mpt_line(out: &mut [u8], at: usize, control: u32, b: &[u8], t: Mpt) -> usize
     ensures { Wrote out.old at (mpt_line control b.now t) out.new result }
 {
-    let id = t.package_id;
     let values = [
         control as u64,
         t.table_id as u64,
@@ -533,18 +511,18 @@ fn mpt_line(out: &mut [u8], at: usize, control: u32, b: &[u8], t: Mpt) -> usize
         b"mpt # table_id 0x%% version # mode # package_id ",
         &values,
     );
-    p = part_hex(out, p, b, id);
+    p = part_hex(out, p, b, t.package_id);
     p = text::put(out, p, b" service_id ");
-    p = maybe_u16(out, p, t.service_id(b));
+    p = maybe(out, p, t.service_id(b).map(u64::from));
     text::put(out, p, b"\n")
 }
 
+#[tactic(auto, using(crate::proofs::Written::writing), unfolding(crate::specs::DumpTables::mpt_table))]
 fn mpt_table(out: &mut [u8], at: usize, control: u32, b: &[u8], t: Mpt) -> usize
     ensures { Wrote out.old at (mpt_table control b.now t) out.new result }
 {
-    let d = t.descriptors;
     let mut p = mpt_line(out, at, control, b, t);
-    p = descriptors(out, p, b"  ", d.of(b));
+    p = descriptors(out, p, b"  ", t.descriptors.of(b));
     assets(out, p, b, t.assets, t.start)
 }
 
@@ -553,9 +531,7 @@ fn mpt_table(out: &mut [u8], at: usize, control: u32, b: &[u8], t: Mpt) -> usize
 pub fn mpt_lines(out: &mut [u8], at: usize, control: u32, b: &[u8]) -> usize
     ensures { Wrote out.old at (mpt_text control b.now) out.new result }
 {
-    let parsed = mpt::parse(b);
-    let m = parsed.mpt;
-    match m {
+    match mpt::parse(b).mpt {
         None => text::place(out, at),
         Some(t) => mpt_table(out, at, control, b, t),
     }

@@ -108,7 +108,8 @@ pub fn next(session: Session<'_>, ahead: Ahead) -> Option<Kept>
     }
 }
 
-// The order in which `feeddump` writes them, walk by walk from 0 on: MPTs, PLT, EITs, SDTs, BITs, NITs, AMTs, TOT.
+// The order in which `feeddump` writes them, walk by walk from 0 on: MPTs, PLT, EITs, SDTs, BITs, NITs, AMTs, TOT. A match: a walk behind
+// the last has nothing before it.
 #[tactic(auto, unfolding(crate::specs::KeptTables::dump_order))]
 pub fn dump_order(i: u8) -> Ahead
     ensures { result ≡ dump_order i }
@@ -141,7 +142,7 @@ pub fn dump_order(i: u8) -> Ahead
     }
 }
 
-// The order of `replay`: MPTs, PLT, TOT, all sections.
+// The order of `replay`: MPTs, PLT, TOT, all sections. A match, as there.
 #[tactic(auto, unfolding(crate::specs::KeptTables::replay_order))]
 pub fn replay_order(i: u8) -> Ahead
     ensures { result ≡ replay_order i }

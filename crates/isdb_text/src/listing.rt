@@ -16,7 +16,6 @@ fn media_row(out: &mut [u8], at: usize, id: u32, m: MediaState) -> usize
     ensures { Wrote out.old at (media_line id m) out.new result }
 {
     let s = m.stats;
-    let h = m.held;
     let values = [
         id as u64,
         s.packets,
@@ -24,7 +23,7 @@ fn media_row(out: &mut [u8], at: usize, id: u32, m: MediaState) -> usize
         s.scrambled_packets,
         s.mfus,
         s.mfus_dropped,
-        maybe::given(h),
+        maybe::given(m.held),
         s.malformed,
     ];
     fill::fill(out, at, b"# # # # # # # #\n", &values)
@@ -44,21 +43,17 @@ fn media_lines(session: Session<'_>, out: &mut [u8], at: usize) -> usize
     ensures { Wrote out.old at (media_lines (lent_by session.entry)) out.new result }
 {
     let mut p = text::place(out, at);
-    let mut from: u32 = 0;
-    let mut left: u8 = 64;
-    while 0 < left {
-        match session.next_media(from) {
-            Ok(Some(id)) => {
-                p = media_text(out, p, id, session.media(id));
-                if id == 4294967295 {
-                    return p;
-                }
-                from = id + 1;
-                left -= 1;
-            }
-            Ok(None) => return p,
-            Err(_) => return p,
+    let mut from = 0;
+    // The next id is known once this one is read.
+    for _ in 0..64u8 {
+        let Ok(Some(id)) = session.next_media(from) else {
+            break;
+        };
+        p = media_text(out, p, id, session.media(id));
+        if id == u32::MAX {
+            break;
         }
+        from = id + 1;
     }
     p
 }
@@ -73,6 +68,7 @@ fn stop_text(out: &mut [u8], at: usize, stop: Stop) -> usize
     }
 }
 
+#[tactic(auto, using(crate::proofs::Written::writing))]
 fn last_line(out: &mut [u8], at: usize, c: Result<Counters, Refusal>, stop: Stop) -> usize
     ensures { Wrote out.old at (last_line c stop) out.new result }
 {
@@ -90,6 +86,7 @@ fn last_line(out: &mut [u8], at: usize, c: Result<Counters, Refusal>, stop: Stop
 }
 
 // The whole list, and where reading the recording stopped.
+#[tactic(auto, using(crate::proofs::Written::writing), unfolding(crate::specs::Listing::listing_of))]
 pub fn listing(session: Session<'_>, stop: Stop, out: &mut [u8], at: usize) -> usize
     ensures { Wrote out.old at (listing_of (lent_by session.entry) stop) out.new result }
 {

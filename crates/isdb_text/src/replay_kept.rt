@@ -18,6 +18,7 @@ fn name_text(out: &mut [u8], at: usize, table: Table) -> usize
     }
 }
 
+#[tactic(auto, using(crate::proofs::Written::writing), unfolding(crate::specs::ReplayKept::bytes_line))]
 fn bytes_line(out: &mut [u8], at: usize, table: Table, b: &[u8]) -> usize
     ensures { Wrote out.old at (bytes_line table b.now) out.new result }
 {

@@ -55,6 +55,7 @@ pub fn decimal(out: &mut [u8], at: usize, n: u64) -> usize
 }
 
 // The hexadecimal digit of a number with k places behind it.
+#[tactic(auto, using(crate::proofs::Spelling::hex_shift, crate::proofs::Spelling::hex_front))]
 pub fn hex_digit(n: u64, k: usize) -> u8
     ensures { result ≡ hex_digit_of n k }
 {

@@ -180,7 +180,7 @@ pub fn part(b: &[u8], at: usize, n: usize) -> &[u8]
     r
 }
 
-// The low w bytes of v from at, where the widths that numbers have are one store each.
+// The low w bytes of v from at, where the widths that numbers have are one store each: by a match, since each width has its own type.
 #[tactic(auto, using(crate::proofs::Fields::put_cut))]
 fn put_field(s: &mut [u8], at: usize, w: u8, v: u64)
     ensures { s.new ≡ put_be w at v s.old }

@@ -5,7 +5,7 @@ ghost use Rattle.isdb_tlv.specs.Cut.{cut_at};
 use crate::bytes;
 
 // Where reading a recording stops: at its end, at the first byte of what is no packet or not whole, or at a packet that is
-// turned down, with the number.
+// turned down, with the question's number: what it asks of a session is not known here.
 #[derive(Clone, Copy, Debug, PartialEq, Eq)]
 pub enum Stop {
     Clean,

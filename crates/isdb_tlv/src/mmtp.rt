@@ -412,6 +412,7 @@ fn other(id: u16) -> Message
 
 // What stands at a place of a payload: a message and the place behind it, or nothing more, or what makes the whole
 // payload refused.
+// Three cases, two of which end the walk: an Option of a Result names none of them.
 #[derive(Clone, Copy, Debug, PartialEq, Eq)]
 pub enum MessageStep {
     Refused,

@@ -8,8 +8,9 @@ mod kept;
 
 use isdb_mmt::decoder;
 use isdb_mmt::decoder::limits::Limits;
-use isdb_mmt::decoder::records::Answer;
-use isdb_mmt::decoder::session::Session;
+use isdb_mmt::decoder::records::HandedOut;
+use isdb_mmt::decoder::refusal::Refusal;
+use isdb_mmt::decoder::session::{Session, SessionMut};
 use isdb_text::{dump_session, fill};
 use isdb_tlv::cut::Cut;
 use isdb_tlv::{bytes, crc, cut};
@@ -35,15 +36,27 @@ fn row_bytes(records: u64) -> usize {
     36864
 }
 
+// The number of an answer; 0, where nothing was turned down.
+fn number<T: Copy>(a: Result<T, Refusal>) -> u64 {
+    match a {
+        Ok(_) => 0,
+        Err(e) => u64::from(e.number()),
+    }
+}
+
 // What a push gave: its number, records and data bytes, and the CRCs of both.
-fn say_answer(rt: HostRuntime, a: Answer, rows: &[u8], data: &[u8]) {
+fn say_answer(rt: HostRuntime, a: Result<HandedOut, Refusal>, rows: &[u8], data: &[u8]) {
     let mut text = [0u8; 256];
-    let given_rows = bytes::part(rows, 0, row_bytes(a.records));
-    let given = bytes::part(data, 0, a.bytes as usize);
+    let h = a.unwrap_or(HandedOut {
+        records: 0,
+        bytes: 0,
+    });
+    let given_rows = bytes::part(rows, 0, row_bytes(h.records));
+    let given = bytes::part(data, 0, h.bytes as usize);
     let values = [
-        a.number as u64,
-        a.records,
-        a.bytes,
+        number(a),
+        h.records,
+        h.bytes,
         crc::crc32(given_rows) as u64,
         crc::crc32(given) as u64,
     ];
@@ -56,38 +69,24 @@ fn say_answer(rt: HostRuntime, a: Answer, rows: &[u8], data: &[u8]) {
     stdio::write_text(&mut rt.stdout(), &text, n);
 }
 
-fn open_session(
-    rt: HostRuntime,
-    state: &mut [u8; 13144],
-    others: &mut [u64; 256],
-    objects: &[u8; 131072],
-    messages: &[u8; 65536],
-    tables: &[u8; 286720],
-    passing: u8,
-) {
+fn open_session(rt: HostRuntime, session: &mut SessionMut<'_>, passing: u8) {
     let mut text = [0u8; 64];
-    let number = decoder::open(limits(passing), state, others, objects, messages, tables);
-    let values = [passing as u64, number as u64];
-    let n = fill::fill(&mut text, 0, b"open # number #\n", &values);
+    let state = &mut *session.state;
+    let others = &mut *session.others;
+    let objects = &mut *session.objects;
+    let messages = &mut *session.messages;
+    let tables = &mut *session.tables;
+    let a = decoder::open(limits(passing), state, others, objects, messages, tables);
+    let n = fill::fill(
+        &mut text,
+        0,
+        b"open # number #\n",
+        &[passing as u64, number(a)],
+    );
     stdio::write_text(&mut rt.stdout(), &text, n);
 }
 
-// By the five buffers: the check does not cover a session that is borrowed in one arm of `run` alone.
-fn list(
-    rt: HostRuntime,
-    state: &[u8; 13144],
-    others: &[u64; 256],
-    objects: &[u8; 131072],
-    messages: &[u8; 65536],
-    tables: &[u8; 286720],
-) {
-    let session = Session {
-        state,
-        others,
-        objects,
-        messages,
-        tables,
-    };
+fn list(rt: HostRuntime, session: Session<'_>) {
     let mut text = [0u8; 65536];
     let n = dump_session::session_lines(session, &mut text, 0);
     stdio::write_text(&mut rt.stdout(), &text, n);
@@ -98,11 +97,7 @@ fn list(
 #[tactic(auto, using(crate::proofs::Ahead::packet_ahead))]
 fn take_packet(
     rt: HostRuntime,
-    state: &mut [u8; 13144],
-    others: &mut [u64; 256],
-    objects: &mut [u8; 131072],
-    messages: &mut [u8; 65536],
-    tables: &mut [u8; 286720],
+    session: &mut SessionMut<'_>,
     rows: &mut [u8; 36864],
     data: &mut [u8; 131072],
     input: &[u8],
@@ -119,10 +114,7 @@ fn take_packet(
             next,
         } => {
             let packet = bytes::part(input, start, length);
-            let a = decoder::push(
-                state, others, objects, messages, tables, kind, packet, rows, data,
-            );
-            say_answer(rt, a, rows, data);
+            say_answer(rt, session.push(kind, packet, rows, data), rows, data);
             next
         }
         _ => {
@@ -135,11 +127,7 @@ fn take_packet(
 // Takes the items one after the other, up to the end or to what is none.
 fn run(
     rt: HostRuntime,
-    state: &mut [u8; 13144],
-    others: &mut [u64; 256],
-    objects: &mut [u8; 131072],
-    messages: &mut [u8; 65536],
-    tables: &mut [u8; 286720],
+    session: &mut SessionMut<'_>,
     rows: &mut [u8; 36864],
     data: &mut [u8; 131072],
     input: &[u8],
@@ -150,15 +138,13 @@ fn run(
         let item = input[at];
         if item == b'S' {
             let passing = bytes::get_u8(input, at + 1);
-            open_session(rt, state, others, objects, messages, tables, passing);
+            open_session(rt, session, passing);
             at += 2;
         } else if item == b'L' {
-            list(rt, state, others, objects, messages, tables);
+            list(rt, session.read());
             at += 1;
         } else {
-            at = take_packet(
-                rt, state, others, objects, messages, tables, rows, data, input, at,
-            );
+            at = take_packet(rt, session, rows, data, input, at);
         }
     }
 }
@@ -171,17 +157,14 @@ fn replay(rt: HostRuntime, input: &[u8]) {
     let mut tables = [0u8; 286720];
     let mut rows = [0u8; 36864];
     let mut data = [0u8; 131072];
-    run(
-        rt,
-        &mut state,
-        &mut others,
-        &mut objects,
-        &mut messages,
-        &mut tables,
-        &mut rows,
-        &mut data,
-        input,
-    );
+    let mut session = SessionMut {
+        state: &mut state,
+        others: &mut others,
+        objects: &mut objects,
+        messages: &mut messages,
+        tables: &mut tables,
+    };
+    run(rt, &mut session, &mut rows, &mut data, input);
 }
 
 // Replays the list that standard input holds; one that fills the window may go on behind it.

@@ -12,6 +12,7 @@ use std::io::{ErrorKind, Read, Write};
 
 // Reads more into a window that holds n bytes, and answers how many it holds then: no more than before where it is full, where the input has
 // ended, and where a read fails.
+#[tactic(auto, using(crate::proofs::Reading::bytes_read))]
 pub fn read_behind<R: Read>(input: &mut R, window: &mut [u8], n: usize) -> usize
     ensures window { ReadBehind window.old n window.new result }
     ensures bytes { Consumes (R.remaining input.old) (R.remaining input.new) (drop n (take result window.new)) }
@@ -26,6 +27,7 @@ pub fn read_behind<R: Read>(input: &mut R, window: &mut [u8], n: usize) -> usize
 }
 
 // Reads until a window is full, the input has ended or a read fails, and answers how many bytes it holds.
+#[tactic(auto, using(crate::proofs::Reading::consumed_on))]
 pub fn read_full<R: Read>(input: &mut R, window: &mut [u8]) -> usize
     ensures bound { result ≤ length window.new }
     ensures bytes { Consumes (R.remaining input.old) (R.remaining input.new) (take result window.new) }
@@ -42,7 +44,7 @@ pub fn read_full<R: Read>(input: &mut R, window: &mut [u8]) -> usize
 }
 
 // Writes a text, up to where a write fails.
-#[tactic(auto, using(crate::proofs::Writing::nothing_yet))]
+#[tactic(auto, using(crate::proofs::Writing::nothing_yet, crate::proofs::Writing::written_on, crate::proofs::Writing::written_same, std::proofs::lemmas::List::take_rest))]
 pub fn say<W: Write>(out: &mut W, text: &[u8])
     ensures { WritesFront (W.contents out.old) (W.contents out.new) text.now }
 {

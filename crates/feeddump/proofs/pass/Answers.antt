@@ -7,15 +7,15 @@ loop-rest-init c = search (rules, passing_first)
 
 pub overflow_add-at : goal.overflow_add-at
 overflow_add-at c =
-    search (rules, place_fits, c.loop-rest.invariant, c.cut_at.ensures, c.rest-rest.ensures, c.push_all-a.ensures, c.call_lines-t.ensures)
+    search (rules, place_fits, c.loop-rest.invariant, c.cut_at.ensures, c.rest-rest.ensures, c.push_all-a.ensures.pushed, c.call_lines-t.ensures)
 
 pub loop-rest-smaller : goal.loop-rest-smaller
 loop-rest-smaller c =
-    search (rules, less, c.loop-rest.invariant, c.cut_at.ensures, c.rest-rest.ensures, c.push_all-a.ensures, c.call_lines-t.ensures)
+    search (rules, less, c.loop-rest.invariant, c.cut_at.ensures, c.rest-rest.ensures, c.push_all-a.ensures.pushed, c.call_lines-t.ensures)
 
 pub loop-rest-preserved : goal.loop-rest-preserved
 loop-rest-preserved c =
-    search (rules, on, c.loop-rest.invariant, c.cut_at.ensures, c.rest-rest.ensures, c.push_all-a.ensures, c.call_lines-t.ensures)
+    search (rules, on, c.loop-rest.invariant, c.cut_at.ensures, c.rest-rest.ensures, c.push_all-a.ensures.pushed, c.call_lines-t.ensures)
 
 pub returns : goal.returns
 returns c =

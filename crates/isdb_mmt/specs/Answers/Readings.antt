@@ -244,12 +244,6 @@ unfoldable pub asset_read : Session → ℕ → Result (Option CarriedAsset) Ref
 unfolding asset_among
 asset_read s p = if sound s then asset_among s p (ascending (control_names s)) else Err NotASession
 
--- ---- the number of an answer: 0 where the reading is not turned down
-
-abbrev pub answer_number : {A : Type 0} → Result A Refusal → ℕ
-answer_number (Err r) = number_of r
-answer_number (Ok x) = 0
-
 -- what an answer about a table tells its caller: a number, that nothing is kept, or bytes, taken from the lent tables
 pub data TableTold : Type 0 where
   refused : ℕ → TableTold

@@ -29,6 +29,8 @@ use Rattle.isdb_mmt.specs.Pushes.Records.{rows_from, data_from, read_row, read_r
 use Rattle.isdb_mmt.specs.Examples.Cases.{told as told_of_feeds, compressed, mmtp, payload, complete_of, head_of, last_of, ab, cd, one_to14, header}
 use Rattle.isdb_mmt.specs.Examples.ControlCases.{fragment, first_part, nit1, nit_next, empty_pa, mpt, table_message, mpt_message}
 use Rattle.isdb_mmt.specs.declared.decoder.limits.Limits.{Limits}
+use Rattle.isdb_mmt.specs.declared.decoder.refusal.Refusal.TheVariants.{PacketsUsedUp, NoPlaceFree, OutputTooSmall}
+use Rattle.isdb_mmt.specs.Memory.Refusals.{refusal_of}
 
 -- one place of each sort, with areas of 2, 8 and 16 bytes, for so many packets
 abbrev pub small : ℕ → Limits
@@ -260,13 +262,13 @@ cases =
     ∷ (all_of 9 2 2 (0x7F ∷ 0xFF ∷ 0x01 ∷ 0x00 ∷ []) ⇒ halted Bad (place 0 0 0 0) (replicate 4 0x00) (replicate 32 0x00))
     -- no room for the second's line, for its row and data, for another packet; no place for it
     ∷ (all_of 9 2 1 two ⇒ halted Full (place 43 1 1 2) (ab ++ (0x00 ∷ 0x00 ∷ [])) line1)
-    ∷ (all_of 9 1 2 two ⇒ halted (Refused 10) (place 43 1 1 2) ab (line1 ++ replicate 16 0x00))
-    ∷ (all_of 1 2 2 two ⇒ halted (Refused 7) (place 43 1 1 2) (ab ++ (0x00 ∷ 0x00 ∷ [])) (line1 ++ replicate 16 0x00))
-    ∷ (all_of 9 2 2 (framed (complete_of 5 ab) ++ framed second_id) ⇒ halted (Refused 8) (place 43 1 1 2) (ab ++ (0x00 ∷ 0x00 ∷ [])) (line1 ++ replicate 16 0x00))
+    ∷ (all_of 9 1 2 two ⇒ halted (Refused OutputTooSmall) (place 43 1 1 2) ab (line1 ++ replicate 16 0x00))
+    ∷ (all_of 1 2 2 two ⇒ halted (Refused PacketsUsedUp) (place 43 1 1 2) (ab ++ (0x00 ∷ 0x00 ∷ [])) (line1 ++ replicate 16 0x00))
+    ∷ (all_of 9 2 2 (framed (complete_of 5 ab) ++ framed second_id) ⇒ halted (Refused NoPlaceFree) (place 43 1 1 2) (ab ++ (0x00 ∷ 0x00 ∷ [])) (line1 ++ replicate 16 0x00))
     -- the time
     ∷ (state_at time_place 9 ntp ⇒ bytes (0x01 ∷ 0x01 ∷ 0x02 ∷ 0x03 ∷ 0x04 ∷ 0x05 ∷ 0x06 ∷ 0x07 ∷ 0x08 ∷ []))
     ∷ []
 
 pub table : Holds told cases
-unfolding told
+unfolding told refusal_of
 table = refl

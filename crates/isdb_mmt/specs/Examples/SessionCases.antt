@@ -1,5 +1,5 @@
 -- Worked cases of limits, places and question 5's names, one table; and the layout's sums.
-use Rattle.std.specs.Prelude.{◌≡◌, ℕ, ◌+◌, ◌-◌, Bool, true, false, List, [], ◌∷◌, refl}
+use Rattle.std.specs.Prelude.{◌≡◌, ℕ, ◌+◌, ◌-◌, Bool, true, false, List, [], ◌∷◌, refl, Result, Ok, Err}
 use Rattle.isdb_mmt.specs.Examples.Worked.{Case, ◌⇒◌, Holds}
 use Rattle.isdb_tlv.specs.Fields.{Field}
 use Rattle.isdb_mmt.specs.Memory.Lent.{among, distinct, found_from, place_for_name}
@@ -8,8 +8,6 @@ use Rattle.isdb_mmt.specs.Memory.Limits.{in_range, places_in_range, areas_in_ran
 use Rattle.isdb_mmt.specs.Memory.Session.{limits_fields, used_fields, latest_fields, time_fields, counters_fields, number_fields, object_fields, media_fields, control_fields, section_fields}
 use Rattle.isdb_mmt.specs.declared.decoder.limits.Limits.{Limits}
 use Rattle.isdb_mmt.specs.declared.decoder.limits.Lengths.{Lengths}
-use Rattle.isdb_mmt.specs.declared.decoder.limits.Need.{Need}
-use Rattle.isdb_mmt.specs.declared.decoder.limits.Need.TheVariants.{Bytes as bytes, Refused}
 use Rattle.isdb_mmt.specs.declared.decoder.place.PlaceFor.{PlaceFor}
 use Rattle.isdb_mmt.specs.declared.decoder.place.PlaceFor.TheVariants.{Own, Free, NoneFree}
 use Rattle.isdb_mmt.specs.declared.decoder.counts.Counters.{Counters}
@@ -20,6 +18,8 @@ use Rattle.isdb_mmt.specs.declared.decoder.media.Object.{Object}
 use Rattle.isdb_mmt.specs.declared.decoder.media.Media.{Media}
 use Rattle.isdb_mmt.specs.declared.decoder.control.Control.{Control}
 use Rattle.isdb_mmt.specs.declared.decoder.section.KeptSection.{KeptSection}
+use Rattle.isdb_mmt.specs.declared.decoder.refusal.Refusal.{Refusal}
+use Rattle.isdb_mmt.specs.declared.decoder.refusal.Refusal.TheVariants.{PlacesOutOfRange, AreasOutOfRange, PacketsOutOfRange}
 
 -- media ids, control ids, sections, the three areas, packets
 abbrev limits : ℕ → ℕ → ℕ → ℕ → ℕ → ℕ → ℕ → Limits
@@ -50,7 +50,7 @@ pub data Ask : Type 0 where
   apart : List ℕ → Ask
 
 pub data Told : Type 0 where
-  need : Need → Told
+  need : Result Lengths Refusal → Told
   is : ℕ → Told
   sits : PlaceFor → Told
   all : Bool → Told
@@ -63,25 +63,25 @@ told (apart names) = all (distinct names)
 
 abbrev cases : List (Case Ask Told)
 cases =
-    (need_of few ⇒ need (bytes (lengths state_size 16384 16384 20480)))
+    (need_of few ⇒ need (Ok (lengths state_size 16384 16384 20480)))
     -- the least and the most that can be asked for
-    ∷ (need_of (limits 1 1 1 1 1 1 1) ⇒ need (bytes (lengths state_size 1 1 4)))
-    ∷ (need_of (limits most_media_ids most_control_ids most_sections most_mfu_area most_message_area most_table_area most_packets) ⇒ need (bytes (lengths state_size 1073741824 33554432 35784294)))
+    ∷ (need_of (limits 1 1 1 1 1 1 1) ⇒ need (Ok (lengths state_size 1 1 4)))
+    ∷ (need_of (limits most_media_ids most_control_ids most_sections most_mfu_area most_message_area most_table_area most_packets) ⇒ need (Ok (lengths state_size 1073741824 33554432 35784294)))
     -- one below and one above each range
-    ∷ (need_of (limits 0 1 1 1 1 1 1) ⇒ need (Refused 1))
-    ∷ (need_of (limits 65 1 1 1 1 1 1) ⇒ need (Refused 1))
-    ∷ (need_of (limits 1 0 1 1 1 1 1) ⇒ need (Refused 1))
-    ∷ (need_of (limits 1 33 1 1 1 1 1) ⇒ need (Refused 1))
-    ∷ (need_of (limits 1 1 0 1 1 1 1) ⇒ need (Refused 1))
-    ∷ (need_of (limits 1 1 513 1 1 1 1) ⇒ need (Refused 1))
-    ∷ (need_of (limits 1 1 1 0 1 1 1) ⇒ need (Refused 2))
-    ∷ (need_of (limits 1 1 1 16777217 1 1 1) ⇒ need (Refused 2))
-    ∷ (need_of (limits 1 1 1 1 0 1 1) ⇒ need (Refused 2))
-    ∷ (need_of (limits 1 1 1 1 1048577 1 1) ⇒ need (Refused 2))
-    ∷ (need_of (limits 1 1 1 1 1 0 1) ⇒ need (Refused 2))
-    ∷ (need_of (limits 1 1 1 1 1 65540 1) ⇒ need (Refused 2))
-    ∷ (need_of (limits 1 1 1 1 1 1 0) ⇒ need (Refused 4))
-    ∷ (need_of (limits 1 1 1 1 1 1 4294967296) ⇒ need (Refused 4))
+    ∷ (need_of (limits 0 1 1 1 1 1 1) ⇒ need (Err PlacesOutOfRange))
+    ∷ (need_of (limits 65 1 1 1 1 1 1) ⇒ need (Err PlacesOutOfRange))
+    ∷ (need_of (limits 1 0 1 1 1 1 1) ⇒ need (Err PlacesOutOfRange))
+    ∷ (need_of (limits 1 33 1 1 1 1 1) ⇒ need (Err PlacesOutOfRange))
+    ∷ (need_of (limits 1 1 0 1 1 1 1) ⇒ need (Err PlacesOutOfRange))
+    ∷ (need_of (limits 1 1 513 1 1 1 1) ⇒ need (Err PlacesOutOfRange))
+    ∷ (need_of (limits 1 1 1 0 1 1 1) ⇒ need (Err AreasOutOfRange))
+    ∷ (need_of (limits 1 1 1 16777217 1 1 1) ⇒ need (Err AreasOutOfRange))
+    ∷ (need_of (limits 1 1 1 1 0 1 1) ⇒ need (Err AreasOutOfRange))
+    ∷ (need_of (limits 1 1 1 1 1048577 1 1) ⇒ need (Err AreasOutOfRange))
+    ∷ (need_of (limits 1 1 1 1 1 0 1) ⇒ need (Err AreasOutOfRange))
+    ∷ (need_of (limits 1 1 1 1 1 65540 1) ⇒ need (Err AreasOutOfRange))
+    ∷ (need_of (limits 1 1 1 1 1 1 0) ⇒ need (Err PacketsOutOfRange))
+    ∷ (need_of (limits 1 1 1 1 1 1 4294967296) ⇒ need (Err PacketsOutOfRange))
     -- buffers just long enough, longer, and each a byte short
     ∷ (number few (lengths state_size 16384 16384 20480) ⇒ is 0)
     ∷ (number few (lengths 20000 20000 20000 40000) ⇒ is 0)

@@ -11,8 +11,8 @@ use Rattle.isdb_mmt.specs.declared.table.section.SectionError.TheVariants.{Malfo
 use Rattle.isdb_mmt.specs.declared.table.section.Entry.{Entry}
 use Rattle.isdb_mmt.specs.declared.table.bit.Bit.{Bit}
 use Rattle.isdb_mmt.specs.declared.table.bit.Broadcaster.{Broadcaster}
-use Rattle.isdb_mmt.specs.declared.table.bit.BroadcasterStep.{BroadcasterStep}
-use Rattle.isdb_mmt.specs.declared.table.bit.BroadcasterStep.TheVariants.{End, Malformed as not_whole, Broadcaster as broadcaster}
+use Rattle.isdb_mmt.specs.Formats.Steps.{BroadcasterStep}
+use Rattle.isdb_mmt.specs.declared.walk_step.WalkStep.TheVariants.{End, Malformed as not_whole, Entry as broadcaster}
 
 -- reserved 3 bits, broadcast view propriety 1, length of the first descriptor loop 12, that loop, then broadcasters, which
 -- are to end with the body

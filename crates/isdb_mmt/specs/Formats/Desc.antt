@@ -16,10 +16,8 @@ use Rattle.isdb_mmt.specs.declared.desc.Step.TheVariants.{End, Broken, Raw}
 use Rattle.isdb_mmt.specs.declared.desc.Counted.{Counted}
 use Rattle.isdb_mmt.specs.declared.desc.Descriptor.{Descriptor}
 use Rattle.isdb_mmt.specs.declared.desc.Descriptor.TheVariants.{MpuTimestamp, ExtendedTimestamp, AccessControl, Scrambler, StreamIdentifier, Service, ServiceList, ShortEvent, Content, Hevc, BroadcasterName, Other}
-use Rattle.isdb_mmt.specs.declared.desc.ServiceStep.{ServiceStep}
-use Rattle.isdb_mmt.specs.declared.desc.ServiceStep.TheVariants.{End as no_service, Service as service}
-use Rattle.isdb_mmt.specs.declared.desc.GenreStep.{GenreStep}
-use Rattle.isdb_mmt.specs.declared.desc.GenreStep.TheVariants.{End as no_genre, Genre as genre}
+use Rattle.isdb_mmt.specs.declared.desc.ListedService.{ListedService}
+use Rattle.isdb_mmt.specs.declared.desc.Genre.{Genre}
 
 -- the width of the length field: two bytes for the dependency descriptor, 0x4000 to 0x6FFF and from 0xF000, four for 0x7000 to 0x7FFF, else one
 unfoldable pub length_width_of : ℕ → ℕ
@@ -203,13 +201,13 @@ unfoldable pub first_of : ℕ → List ℕ → ℕ → Option (Descriptor × Par
 first_of tag s at = first_in tag s (split_from s at).found
 
 -- 7.4.3.16, service list: entries of a service id, 16 bits, and a service type, 8
-unfoldable pub service_at : List ℕ → ℕ → ServiceStep
+unfoldable pub service_at : List ℕ → ℕ → Option (ListedService × ℕ)
 service_at s at =
-    if length s - at <? 3 then no_service
-    else service (be 2 s at) (slice_index s (at + 2)) (at + 3)
+    if length s - at <? 3 then None
+    else Some (record { service_id = be 2 s at; service_type = slice_index s (at + 2) }, at + 3)
 
 -- 7.4.3.21, content: entries of two levels, 4 bits each, and a byte of the broadcaster's
-unfoldable pub genre_at : List ℕ → ℕ → GenreStep
+unfoldable pub genre_at : List ℕ → ℕ → Option (Genre × ℕ)
 genre_at s at =
-    if length s - at <? 2 then no_genre
-    else genre (slice_index s at / 16) (slice_index s at % 16) (slice_index s (at + 1)) (at + 2)
+    if length s - at <? 2 then None
+    else Some (record { level_1 = slice_index s at / 16; level_2 = slice_index s at % 16; user = slice_index s (at + 1) }, at + 2)

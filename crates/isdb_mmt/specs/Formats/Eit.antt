@@ -11,8 +11,8 @@ use Rattle.isdb_mmt.specs.declared.table.section.SectionError.TheVariants.{Malfo
 use Rattle.isdb_mmt.specs.declared.table.section.Entry.{Entry}
 use Rattle.isdb_mmt.specs.declared.table.eit.Eit.{Eit}
 use Rattle.isdb_mmt.specs.declared.table.eit.Event.{Event}
-use Rattle.isdb_mmt.specs.declared.table.eit.EventStep.{EventStep}
-use Rattle.isdb_mmt.specs.declared.table.eit.EventStep.TheVariants.{End, Malformed as broken, Event as event}
+use Rattle.isdb_mmt.specs.Formats.Steps.{EventStep}
+use Rattle.isdb_mmt.specs.declared.walk_step.WalkStep.TheVariants.{End, Malformed as broken, Entry as event}
 
 -- TLV stream id 16 bits, original network id 16, segment last section number 8, last table id 8, then events
 abbrev pub eit_fields : List ℕ → Loop Entry → Eit

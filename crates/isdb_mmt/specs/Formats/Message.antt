@@ -10,12 +10,12 @@ use Rattle.isdb_mmt.specs.declared.part.Part.{Part}
 use Rattle.isdb_mmt.specs.declared.message.Division.{Division}
 use Rattle.isdb_mmt.specs.declared.message.Division.TheVariants.{Undivided, First, Middle, Last}
 use Rattle.isdb_mmt.specs.declared.message.Fragment.{Fragment}
-use Rattle.isdb_mmt.specs.declared.message.MessageStep.{MessageStep}
-use Rattle.isdb_mmt.specs.declared.message.MessageStep.TheVariants.{End, Malformed, Message}
+use Rattle.isdb_mmt.specs.Formats.Steps.{MessageStep}
+use Rattle.isdb_mmt.specs.declared.walk_step.WalkStep.TheVariants.{End, Malformed, Entry as Message}
 use Rattle.isdb_mmt.specs.declared.message.Content.{Content}
 use Rattle.isdb_mmt.specs.declared.message.Content.TheVariants.{Malformed as bad_message, Nothing, Table as one_table_of, Tables}
-use Rattle.isdb_mmt.specs.declared.message.TableStep.{TableStep}
-use Rattle.isdb_mmt.specs.declared.message.TableStep.TheVariants.{End as no_more, Malformed as bad_table, Table as table}
+use Rattle.isdb_mmt.specs.Formats.Steps.{TableStep}
+use Rattle.isdb_mmt.specs.declared.walk_step.WalkStep.TheVariants.{End as no_more, Malformed as bad_table, Entry as table}
 
 -- division index, 2 bits
 unfoldable pub division_of : ℕ → Division

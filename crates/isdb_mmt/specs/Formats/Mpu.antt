@@ -12,8 +12,8 @@ use Rattle.isdb_mmt.specs.declared.mpu.FragmentationIndicator.TheVariants.{Compl
 use Rattle.isdb_mmt.specs.declared.mpu.PayloadHeader.{PayloadHeader}
 use Rattle.isdb_mmt.specs.declared.mpu.MfuHeader.{MfuHeader}
 use Rattle.isdb_mmt.specs.declared.mpu.Unit.{Unit as DataUnit}
-use Rattle.isdb_mmt.specs.declared.mpu.UnitStep.{UnitStep}
-use Rattle.isdb_mmt.specs.declared.mpu.UnitStep.TheVariants.{End, Malformed, Unit as found}
+use Rattle.isdb_mmt.specs.Formats.Steps.{UnitStep}
+use Rattle.isdb_mmt.specs.declared.walk_step.WalkStep.TheVariants.{End, Malformed, Entry as found}
 
 -- MPU_fragment_type, 4 bits (Table 6-2)
 abbrev pub fragment_code_of : FragmentType → ℕ

@@ -14,10 +14,9 @@ use Rattle.isdb_mmt.specs.declared.table.section.SectionError.TheVariants.{Malfo
 use Rattle.isdb_mmt.specs.declared.table.section.Entry.{Entry}
 use Rattle.isdb_mmt.specs.declared.part.Part.{Part}
 use Rattle.isdb_mmt.specs.declared.table.nit.NitStream.{NitStream}
-use Rattle.isdb_mmt.specs.declared.table.nit.StreamStep.{StreamStep}
-use Rattle.isdb_mmt.specs.declared.table.nit.StreamStep.TheVariants.{End, Malformed as broken, Stream as stream}
-use Rattle.isdb_mmt.specs.declared.table.nit.TlvStep.{TlvStep}
-use Rattle.isdb_mmt.specs.declared.table.nit.TlvStep.TheVariants.{End as no_more, Descriptor as descriptor}
+use Rattle.isdb_mmt.specs.Formats.Steps.{StreamStep}
+use Rattle.isdb_mmt.specs.declared.walk_step.WalkStep.TheVariants.{End, Malformed as broken, Entry as stream}
+use Rattle.isdb_mmt.specs.declared.table.nit.TlvDescriptor.{TlvDescriptor}
 
 -- the loop of streams starts behind the network's descriptors and its own length
 abbrev pub streams_part : List ℕ → Part
@@ -55,11 +54,11 @@ unfoldable pub streams_of : List ℕ → List NitStream
 streams_of s = map (stream_of s) (entries_from s 4 0).found
 
 -- 5.3: a tag and a length of 8 bits, and so many bytes; a loop ends where one does not fit
-unfoldable pub tlv_step_at : List ℕ → ℕ → TlvStep
+unfoldable pub tlv_step_at : List ℕ → ℕ → Option (TlvDescriptor × ℕ)
 tlv_step_at s at =
-    if length s - at <? 2 then no_more
-    else if length s - (at + 2) <? slice_index_or s (at + 1) 0 then no_more
-    else descriptor (slice_index s at) (part_at (at + 2) (slice_index s (at + 1))) (at + 2 + slice_index s (at + 1))
+    if length s - at <? 2 then None
+    else if length s - (at + 2) <? slice_index_or s (at + 1) 0 then None
+    else Some (record { tag = slice_index s at; body = part_at (at + 2) (slice_index s (at + 1)) }, at + 2 + slice_index s (at + 1))
 
 -- the digit `i` of a number in BCD, two digits a byte
 abbrev pub digit : List ℕ → ℕ → ℕ

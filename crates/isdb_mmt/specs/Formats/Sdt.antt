@@ -11,8 +11,8 @@ use Rattle.isdb_mmt.specs.declared.table.section.SectionHeader.{SectionHeader}
 use Rattle.isdb_mmt.specs.declared.table.section.SectionError.TheVariants.{Malformed}
 use Rattle.isdb_mmt.specs.declared.table.section.Entry.{Entry}
 use Rattle.isdb_mmt.specs.declared.table.sdt.SdtService.{SdtService}
-use Rattle.isdb_mmt.specs.declared.table.sdt.SdtStep.{SdtStep}
-use Rattle.isdb_mmt.specs.declared.table.sdt.SdtStep.TheVariants.{End, Malformed as broken, Service as service}
+use Rattle.isdb_mmt.specs.Formats.Steps.{SdtStep}
+use Rattle.isdb_mmt.specs.declared.walk_step.WalkStep.TheVariants.{End, Malformed as broken, Entry as service}
 
 -- original network id 16 bits, reserved 8, then services, which are to end with the body; the reserved byte may be missing
 -- where there are none

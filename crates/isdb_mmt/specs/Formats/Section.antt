@@ -12,8 +12,8 @@ use Rattle.isdb_mmt.specs.declared.table.section.SectionHeader.{SectionHeader}
 use Rattle.isdb_mmt.specs.declared.table.section.SectionError.{SectionError}
 use Rattle.isdb_mmt.specs.declared.table.section.SectionError.TheVariants.{Truncated, Crc}
 use Rattle.isdb_mmt.specs.declared.table.section.Entry.{Entry}
-use Rattle.isdb_mmt.specs.declared.table.section.EntryStep.{EntryStep}
-use Rattle.isdb_mmt.specs.declared.table.section.EntryStep.TheVariants.{End, Malformed as malformed, Entry as entry}
+use Rattle.isdb_mmt.specs.Formats.Steps.{EntryStep}
+use Rattle.isdb_mmt.specs.declared.walk_step.WalkStep.TheVariants.{End, Malformed as malformed, Entry as entry}
 use Rattle.isdb_mmt.specs.declared.table.section.Entries.{Entries}
 
 -- a length of 12 bits, in the low bits of two bytes

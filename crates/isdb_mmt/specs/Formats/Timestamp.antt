@@ -5,18 +5,17 @@ use Rattle.std.specs.Prelude.{if◌then◌else◌}
 use Rattle.isdb_tlv.specs.Bytes.{be}
 use Rattle.isdb_tlv.specs.Walk.{Next, stop, more, walk, also}
 use Rattle.isdb_mmt.specs.Formats.Part.{part_at}
-use Rattle.isdb_mmt.specs.declared.timestamp.TimestampStep.{TimestampStep}
-use Rattle.isdb_mmt.specs.declared.timestamp.TimestampStep.TheVariants.{End as no_more, Timestamp}
+use Rattle.isdb_mmt.specs.declared.timestamp.MpuPresentation.{MpuPresentation}
 use Rattle.isdb_mmt.specs.declared.timestamp.Extended.{Extended}
-use Rattle.isdb_mmt.specs.declared.timestamp.MpuStep.{MpuStep}
-use Rattle.isdb_mmt.specs.declared.timestamp.MpuStep.TheVariants.{End, Broken, Mpu}
+use Rattle.isdb_mmt.specs.Formats.Steps.{MpuStep}
+use Rattle.isdb_mmt.specs.declared.walk_step.WalkStep.TheVariants.{End, Malformed, Entry}
 use Rattle.isdb_mmt.specs.declared.timestamp.AccessUnit.{AccessUnit}
 
 -- 7.4.3.5: entries of an MPU sequence number, 32 bits, and a presentation time, 64
-unfoldable pub timestamp_at : List ℕ → ℕ → TimestampStep
+unfoldable pub timestamp_at : List ℕ → ℕ → Option (MpuPresentation × ℕ)
 timestamp_at s at =
-    if length s - at <? 12 then no_more
-    else Timestamp (be 4 s at) (be 8 s (at + 4)) (at + 12)
+    if length s - at <? 12 then None
+    else Some (record { mpu_sequence_number = be 4 s at; presentation_time = be 8 s (at + 4) }, at + 12)
 
 -- 7.4.3.35: reserved 5 bits, pts_offset_type 2, timescale_flag 1; a timescale of 32 bits where flagged
 abbrev pub scale_end : ℕ → ℕ
@@ -41,16 +40,22 @@ unit_size_of own = if own then 4 else 2
 unfoldable pub mpu_at : List ℕ → Bool → ℕ → MpuStep
 mpu_at s own at =
     if length s ≤? at then End
-    else if length s - at <? 8 then Broken
-    else if length s - (at + 8) <? slice_index_or s (at + 7) 0 * unit_size_of own then Broken
-    else Mpu (be 4 s at) (slice_index s (at + 4) / 64) (be 2 s (at + 5)) (slice_index s (at + 7)) (part_at (at + 8) (slice_index s (at + 7) * unit_size_of own))
+    else if length s - at <? 8 then Malformed
+    else if length s - (at + 8) <? slice_index_or s (at + 7) 0 * unit_size_of own then Malformed
+    else Entry (record {
+      mpu_sequence_number = be 4 s at;
+      leap_indicator = slice_index s (at + 4) / 64;
+      decoding_time_offset = be 2 s (at + 5);
+      access_units = slice_index s (at + 7);
+      units = part_at (at + 8) (slice_index s (at + 7) * unit_size_of own);
+    })
     (at + 8 + slice_index s (at + 7) * unit_size_of own)
 
 -- the MPUs from a place on, or none where they do not end with the body
 abbrev pub mpu_item : MpuStep → Next (Option (List MpuStep))
 mpu_item End = stop (Some [])
-mpu_item Broken = stop None
-mpu_item (Mpu q l d n units next) = more next (also (Mpu q l d n units next))
+mpu_item Malformed = stop None
+mpu_item (Entry m next) = more next (also (Entry m next))
 
 unfoldable pub mpus_from : List ℕ → Bool → ℕ → Option (List MpuStep)
 mpus_from s own at = walk (λ p. mpu_item (mpu_at s own p)) None (length s) at

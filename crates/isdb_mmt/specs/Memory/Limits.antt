@@ -1,12 +1,13 @@
 -- The limits of a session, the lengths of memory that they ask for, and questions 1 to 4 of an opening.
-use Rattle.std.specs.Prelude.{◌≡◌, ℕ, ◌+◌, ◌*◌, Bool, true, false, not}
+use Rattle.std.specs.Prelude.{◌≡◌, ℕ, ◌+◌, ◌*◌, Bool, true, false, not, Result, Ok, Err}
 use Rattle.isdb_tlv.specs.Guards.{◌<?◌, ◌≤?◌}
 use Rattle.std.specs.Prelude.{if◌then◌else◌}
 use Rattle.isdb_mmt.specs.Memory.Layout.{most_media_ids, most_control_ids, most_sections, most_mfu_area, most_message_area, most_table_area, most_packets, state_size}
 use Rattle.isdb_mmt.specs.declared.decoder.limits.Limits.{Limits}
 use Rattle.isdb_mmt.specs.declared.decoder.limits.Lengths.{Lengths}
-use Rattle.isdb_mmt.specs.declared.decoder.limits.Need.{Need}
-use Rattle.isdb_mmt.specs.declared.decoder.limits.Need.TheVariants.{Bytes as bytes, Refused}
+use Rattle.isdb_mmt.specs.Memory.Refusals.{answer_number}
+use Rattle.isdb_mmt.specs.declared.decoder.refusal.Refusal.{Refusal}
+use Rattle.isdb_mmt.specs.declared.decoder.refusal.Refusal.TheVariants.{PlacesOutOfRange, AreasOutOfRange, PacketsOutOfRange}
 
 -- 1 to `most`
 unfoldable pub in_range : ℕ → ℕ → Bool
@@ -52,14 +53,14 @@ long_enough need lent =
     else if lent.messages <? need.messages then false
     else need.tables ≤? lent.tables
 
--- what limits need, or the number of the question that they fail, whatever is lent
-unfoldable pub needed_of : Limits → Need
+-- what limits need, or the question that they fail, whatever is lent
+unfoldable pub needed_of : Limits → Result Lengths Refusal
 unfolding places_in_range areas_in_range packets_in_range lengths_for
 needed_of l =
-    if not (places_in_range l) then Refused 1
-    else if not (areas_in_range l) then Refused 2
-    else if not (packets_in_range l) then Refused 4
-    else bytes (lengths_for l)
+    if not (places_in_range l) then Err PlacesOutOfRange
+    else if not (areas_in_range l) then Err AreasOutOfRange
+    else if not (packets_in_range l) then Err PacketsOutOfRange
+    else Ok (lengths_for l)
 
 -- the first question that is answered no, or 0
 unfoldable pub asked : Limits → Lengths → ℕ
@@ -71,16 +72,11 @@ asked l lent =
     else if not (packets_in_range l) then 4
     else 0
 
--- the number that an opening gives, where every buffer is long enough
-abbrev pub need_number : Need → ℕ
-need_number (bytes n) = 0
-need_number (Refused k) = k
-
 -- what is needed and what is asked agree: with buffers as long as limits need every question is answered yes, and where
 -- every buffer is long enough the number asked is the need's
 pub record Agree (l : Limits) (lent : Lengths) : Type 0 where
-  pub enough : (n : Lengths) → needed_of l ≡ bytes n → long_enough n lent ≡ true → asked l lent ≡ 0
-  pub number : long_enough (lengths_for l) lent ≡ true → asked l lent ≡ need_number (needed_of l)
+  pub enough : (n : Lengths) → needed_of l ≡ Ok n → long_enough n lent ≡ true → asked l lent ≡ 0
+  pub number : long_enough (lengths_for l) lent ≡ true → asked l lent ≡ answer_number (needed_of l)
 
 abbrev pub Agreement : Type 0
 Agreement = (l : Limits) (lent : Lengths) → Agree l lent

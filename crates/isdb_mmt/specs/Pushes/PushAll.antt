@@ -15,6 +15,7 @@ use Rattle.isdb_mmt.specs.declared.decoder.many.Progress.{Progress}
 use Rattle.isdb_mmt.specs.declared.decoder.many.Pushes.{Pushes}
 use Rattle.isdb_mmt.specs.declared.decoder.many.Halt.{Halt}
 use Rattle.isdb_mmt.specs.declared.decoder.many.Halt.TheVariants.{End, Short, Bad, Full, Refused}
+use Rattle.isdb_mmt.specs.Memory.Refusals.{refusal_of}
 
 -- a packet's line: how many records and how many data bytes it handed out
 abbrev pub line_size : ℕ
@@ -83,7 +84,7 @@ pushed_each input most c [] = ran c (halt_at (cut_at input most c.progress.at))
 pushed_each input most c (p ∷ ps) =
     if length c.lines <? line_size * c.progress.packets + line_size then ran c Full
     else if asks c.session (input_at c p) =? 0 then pushed_each input most (after_packet c p (reply_of c.session (input_at c p))) ps
-    else ran c (Refused (asks c.session (input_at c p)))
+    else ran c (Refused (refusal_of (asks c.session (input_at c p))))
 
 -- the call for many packets, with at most `most` data each: what pushing the input's packets one by one gives
 pub record AllPushed (s : Session) (input : Bytes) (most : ℕ) (rows out lines : Bytes) (a : Pushes) (s' : Session) (rows' out' lines' : Bytes) : Type 0 where

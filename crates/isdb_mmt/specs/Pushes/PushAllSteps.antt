@@ -10,7 +10,7 @@ use Rattle.isdb_mmt.specs.Memory.Session.{Session}
 use Rattle.isdb_mmt.specs.Memory.Check.{roomy_count, counts_at_most, sound}
 use Rattle.isdb_mmt.specs.Pushes.Records.{row_size}
 use Rattle.isdb_mmt.specs.Pushes.Push.{Input, asks, leaves_of, reply_of}
-use Rattle.isdb_mmt.specs.declared.decoder.records.Answer.{Answer}
+use Rattle.isdb_mmt.specs.Pushes.Answer.{Answer}
 use Rattle.isdb_mmt.specs.Memory.Octets.{Lent}
 use Rattle.isdb_mmt.specs.Theorems.Room.{most_added, SoundWithin}
 use Rattle.isdb_mmt.specs.declared.decoder.many.Halt.{Halt}

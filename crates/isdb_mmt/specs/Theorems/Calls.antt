@@ -18,10 +18,11 @@ use Rattle.isdb_mmt.specs.Memory.Octets.{Octets, Lent}
 use Rattle.isdb_mmt.specs.Pushes.Records.{read_rows}
 use Rattle.isdb_mmt.specs.Pushes.Push.{Input, packet_of, asks, Pushed, Reply, leaves_of, reply_of}
 use Rattle.isdb_mmt.specs.Answers.TableReadingLaws.{AsKept}
-use Rattle.isdb_mmt.specs.Answers.Readings.{media_found, section_found, counters_read, time_read, count_read, next_media_read, next_control_read, next_key_read, media_read, held_read, control_read, section_read, mpt_read, plt_read, tot_read, asset_read, answer_number, TableTold, nothing, these, told_by}
+use Rattle.isdb_mmt.specs.Answers.Readings.{media_found, section_found, counters_read, time_read, count_read, next_media_read, next_control_read, next_key_read, media_read, held_read, control_read, section_read, mpt_read, plt_read, tot_read, asset_read, TableTold, nothing, these, told_by}
 use Rattle.isdb_mmt.specs.declared.decoder.limits.Limits.{Limits}
 use Rattle.isdb_mmt.specs.declared.decoder.media.Media.{Media}
 use Rattle.isdb_mmt.specs.declared.decoder.section.KeptSection.{KeptSection}
+use Rattle.isdb_mmt.specs.Memory.Refusals.{answer_number}
 
 -- ---- what a session's bytes say of a media id and of a key, by the place that has its name
 

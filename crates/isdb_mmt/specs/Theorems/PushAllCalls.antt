@@ -19,6 +19,7 @@ use Rattle.isdb_mmt.specs.declared.decoder.limits.Limits.{Limits}
 use Rattle.isdb_mmt.specs.declared.decoder.many.Pushes.{Pushes}
 use Rattle.isdb_mmt.specs.declared.decoder.many.Halt.{Halt}
 use Rattle.isdb_mmt.specs.declared.decoder.many.Halt.TheVariants.{End, Short, Bad, Full, Refused}
+use Rattle.isdb_mmt.specs.Memory.Refusals.{number_of}
 
 -- what a call for many packets is given: the input, the most data of a packet, the output buffers
 pub record Batch : Type 0 where
@@ -87,7 +88,7 @@ refusal End = []
 refusal Short = []
 refusal Bad = []
 refusal Full = []
-refusal (Refused n) = n ∷ []
+refusal (Refused r) = number_of r ∷ []
 
 -- the session, and all that is handed out, are those of the pushes `cs`, whose replies are `es`
 pub record PushesGive (s : Session) (b : Batch) (cs : List Call) (es : List (Input × Reply)) (a : Pushes) (s' : Session) (rows' out' lines' : Bytes) : Type 0 where

@@ -29,7 +29,8 @@ use Rattle.isdb_mmt.specs.declared.table.nit.Nit.{Nit}
 use Rattle.isdb_mmt.specs.declared.table.tot.Tot.{Tot}
 use Rattle.isdb_mmt.specs.declared.part.Part.{Part}
 use Rattle.isdb_mmt.specs.declared.timestamp.Extended.{Extended}
-use Rattle.isdb_mmt.specs.declared.timestamp.MpuStep.TheVariants.{Mpu}
+use Rattle.isdb_mmt.specs.declared.walk_step.WalkStep.TheVariants.{Entry as an_mpu}
+use Rattle.isdb_mmt.specs.declared.timestamp.ExtendedMpu.{ExtendedMpu}
 use Rattle.isdb_mmt.specs.declared.desc.Descriptor.TheVariants.{ExtendedTimestamp}
 
 -- the assets of an MPT, and the locations of any asset that a step gives
@@ -111,8 +112,8 @@ ExtendedTheorem = (tag : ℕ) (s : List ℕ) (e : Extended) → descriptor_of ta
     → Ends (mpu_seen_of s e) e.start (whole_extended s e).mpus at_end
 
 abbrev pub UnitsTheorem : Type 0
-UnitsTheorem = (s : List ℕ) (e : Extended) (at q l d n next : ℕ) (units : Part) → mpu_at s e.own_pts_offset at ≡ Mpu q l d n units next
-    → Counts (unit_seen (part_of s units) e) n 0 (units_in (part_of s units) e n)
+UnitsTheorem = (s : List ℕ) (e : Extended) (at next : ℕ) (m : ExtendedMpu) → mpu_at s e.own_pts_offset at ≡ an_mpu m next
+    → Counts (unit_seen (part_of s m.units) e) m.access_units 0 (units_in (part_of s m.units) e m.access_units)
 
 -- a TOT has its descriptors alone
 abbrev pub TotTheorem : Type 0

@@ -9,23 +9,19 @@ use Rattle.isdb_mmt.specs.Formats.Desc.{step_at, descriptor_of, service_at, genr
 use Rattle.isdb_mmt.specs.Formats.Nit.{tlv_step_at}
 use Rattle.isdb_mmt.specs.declared.location.Location.{Location}
 use Rattle.isdb_mmt.specs.declared.location.Location.TheVariants.{SameFlow, Ipv4, Ipv6, Mpeg2Ts, Mpeg2TsIpv6, Url}
-use Rattle.isdb_mmt.specs.declared.timestamp.TimestampStep.{TimestampStep}
-use Rattle.isdb_mmt.specs.declared.timestamp.TimestampStep.TheVariants.{End as no_timestamp, Timestamp}
+use Rattle.isdb_mmt.specs.declared.timestamp.MpuPresentation.{MpuPresentation}
 use Rattle.isdb_mmt.specs.declared.timestamp.Extended.{Extended}
-use Rattle.isdb_mmt.specs.declared.timestamp.MpuStep.{MpuStep}
-use Rattle.isdb_mmt.specs.declared.timestamp.MpuStep.TheVariants.{End as no_mpu, Broken as broken_mpu, Mpu}
+use Rattle.isdb_mmt.specs.Formats.Steps.{MpuStep}
+use Rattle.isdb_mmt.specs.declared.walk_step.WalkStep.TheVariants.{End as no_mpu, Malformed as broken_mpu, Entry as an_mpu}
 use Rattle.isdb_mmt.specs.declared.timestamp.AccessUnit.{AccessUnit}
 use Rattle.isdb_mmt.specs.declared.desc.Language.{Language}
 use Rattle.isdb_mmt.specs.declared.desc.Step.{Step}
 use Rattle.isdb_mmt.specs.declared.desc.Step.TheVariants.{End, Broken, Raw}
 use Rattle.isdb_mmt.specs.declared.desc.Descriptor.{Descriptor}
 use Rattle.isdb_mmt.specs.declared.desc.Descriptor.TheVariants.{MpuTimestamp, ExtendedTimestamp, AccessControl, Scrambler, StreamIdentifier, Service, ServiceList, ShortEvent, Content, Hevc, BroadcasterName, Other}
-use Rattle.isdb_mmt.specs.declared.desc.ServiceStep.{ServiceStep}
-use Rattle.isdb_mmt.specs.declared.desc.ServiceStep.TheVariants.{End as no_service, Service as service}
-use Rattle.isdb_mmt.specs.declared.desc.GenreStep.{GenreStep}
-use Rattle.isdb_mmt.specs.declared.desc.GenreStep.TheVariants.{End as no_genre, Genre as genre}
-use Rattle.isdb_mmt.specs.declared.table.nit.TlvStep.{TlvStep}
-use Rattle.isdb_mmt.specs.declared.table.nit.TlvStep.TheVariants.{End as no_tlv, Descriptor as tlv}
+use Rattle.isdb_mmt.specs.declared.desc.ListedService.{ListedService}
+use Rattle.isdb_mmt.specs.declared.desc.Genre.{Genre as GenreFields}
+use Rattle.isdb_mmt.specs.declared.table.nit.TlvDescriptor.{TlvDescriptor}
 
 -- a location, and the bytes of its URL where it is one; a URL's place counts from the first byte of the location, as `s` does
 pub record WholeLocation : Type 0 where
@@ -56,9 +52,9 @@ pub record MpuTime : Type 0 where
   pub sequence_number : ℕ
   pub presentation_time : ℕ
 
-abbrev pub timestamp_told : TimestampStep → Stood MpuTime
-timestamp_told no_timestamp = at_end
-timestamp_told (Timestamp q t next) = element (record { sequence_number = q; presentation_time = t }) next
+abbrev pub timestamp_told : Option (MpuPresentation × ℕ) → Stood MpuTime
+timestamp_told None = at_end
+timestamp_told (Some (x, next)) = element (record { sequence_number = x.mpu_sequence_number; presentation_time = x.presentation_time }) next
 
 abbrev pub timestamp_seen : List ℕ → ℕ → Stood MpuTime
 timestamp_seen s at = timestamp_told (timestamp_at s at)
@@ -86,12 +82,12 @@ pub record WholeMpu : Type 0 where
 abbrev pub mpu_told : List ℕ → Extended → MpuStep → Stood WholeMpu
 mpu_told s e no_mpu = at_end
 mpu_told s e broken_mpu = malformed
-mpu_told s e (Mpu q l d n units next) =
+mpu_told s e (an_mpu m next) =
     element (record {
-      sequence_number = q;
-      leap_indicator = l;
-      decoding_time_offset = d;
-      access_units = units_in (part_of s units) e n;
+      sequence_number = m.mpu_sequence_number;
+      leap_indicator = m.leap_indicator;
+      decoding_time_offset = m.decoding_time_offset;
+      access_units = units_in (part_of s m.units) e m.access_units;
     }) next
 
 abbrev pub mpu_seen_of : List ℕ → Extended → ℕ → Stood WholeMpu
@@ -115,9 +111,9 @@ pub record Listed : Type 0 where
   pub service_id : ℕ
   pub service_type : ℕ
 
-abbrev pub service_told : ServiceStep → Stood Listed
-service_told no_service = at_end
-service_told (service i t next) = element (record { service_id = i; service_type = t }) next
+abbrev pub service_told : Option (ListedService × ℕ) → Stood Listed
+service_told None = at_end
+service_told (Some (x, next)) = element (record { service_id = x.service_id; service_type = x.service_type }) next
 
 abbrev pub service_seen : List ℕ → ℕ → Stood Listed
 service_seen s at = service_told (service_at s at)
@@ -131,9 +127,9 @@ pub record Genre : Type 0 where
   pub level2 : ℕ
   pub user : ℕ
 
-abbrev pub genre_told : GenreStep → Stood Genre
-genre_told no_genre = at_end
-genre_told (genre a b u next) = element (record { level1 = a; level2 = b; user = u }) next
+abbrev pub genre_told : Option (GenreFields × ℕ) → Stood Genre
+genre_told None = at_end
+genre_told (Some (x, next)) = element (record { level1 = x.level_1; level2 = x.level_2; user = x.user }) next
 
 abbrev pub genre_seen : List ℕ → ℕ → Stood Genre
 genre_seen s at = genre_told (genre_at s at)
@@ -205,9 +201,9 @@ pub record WholeTlv : Type 0 where
   pub tag : ℕ
   pub body : List ℕ
 
-abbrev pub tlv_told : List ℕ → TlvStep → Stood WholeTlv
-tlv_told s no_tlv = at_end
-tlv_told s (tlv tag body next) = element (record { tag = tag; body = part_of s body }) next
+abbrev pub tlv_told : List ℕ → Option (TlvDescriptor × ℕ) → Stood WholeTlv
+tlv_told s None = at_end
+tlv_told s (Some (d, next)) = element (record { tag = d.tag; body = part_of s d.body }) next
 
 abbrev pub tlv_seen : List ℕ → ℕ → Stood WholeTlv
 tlv_seen s at = tlv_told s (tlv_step_at s at)

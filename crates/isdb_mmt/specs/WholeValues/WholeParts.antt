@@ -26,22 +26,21 @@ use Rattle.isdb_mmt.specs.WholeValues.WholeSections.{behind}
 use Rattle.isdb_mmt.specs.declared.part.Part.{Part}
 use Rattle.isdb_mmt.specs.declared.location.Location.{Location}
 use Rattle.isdb_mmt.specs.declared.location.Location.TheVariants.{SameFlow, Ipv4, Ipv6, Mpeg2Ts, Mpeg2TsIpv6, Url}
-use Rattle.isdb_mmt.specs.declared.timestamp.MpuStep.{MpuStep}
-use Rattle.isdb_mmt.specs.declared.timestamp.MpuStep.TheVariants.{End as no_mpu, Broken as broken_mpu, Mpu}
+use Rattle.isdb_mmt.specs.Formats.Steps.{MpuStep}
+use Rattle.isdb_mmt.specs.declared.walk_step.WalkStep.TheVariants.{End as no_mpu, Malformed as broken_mpu, Entry as an_mpu}
 use Rattle.isdb_mmt.specs.declared.desc.Step.{Step}
 use Rattle.isdb_mmt.specs.declared.desc.Step.TheVariants.{End, Broken, Raw}
 use Rattle.isdb_mmt.specs.declared.desc.Descriptor.{Descriptor}
 use Rattle.isdb_mmt.specs.declared.desc.Descriptor.TheVariants.{MpuTimestamp, ExtendedTimestamp, AccessControl, Scrambler, StreamIdentifier, Service, ServiceList, ShortEvent, Content, Hevc, BroadcasterName, Other}
-use Rattle.isdb_mmt.specs.declared.table.eit.EventStep.{EventStep}
-use Rattle.isdb_mmt.specs.declared.table.eit.EventStep.TheVariants.{End as no_event, Malformed as bad_event, Event as event}
-use Rattle.isdb_mmt.specs.declared.table.sdt.SdtStep.{SdtStep}
-use Rattle.isdb_mmt.specs.declared.table.sdt.SdtStep.TheVariants.{End as no_service, Malformed as bad_service, Service as service}
-use Rattle.isdb_mmt.specs.declared.table.bit.BroadcasterStep.{BroadcasterStep}
-use Rattle.isdb_mmt.specs.declared.table.bit.BroadcasterStep.TheVariants.{End as no_broadcaster, Malformed as bad_broadcaster, Broadcaster as broadcaster}
-use Rattle.isdb_mmt.specs.declared.table.nit.StreamStep.{StreamStep}
-use Rattle.isdb_mmt.specs.declared.table.nit.StreamStep.TheVariants.{End as no_stream, Malformed as bad_stream, Stream as stream}
-use Rattle.isdb_mmt.specs.declared.table.nit.TlvStep.{TlvStep}
-use Rattle.isdb_mmt.specs.declared.table.nit.TlvStep.TheVariants.{End as no_tlv, Descriptor as tlv}
+use Rattle.isdb_mmt.specs.Formats.Steps.{EventStep}
+use Rattle.isdb_mmt.specs.declared.walk_step.WalkStep.TheVariants.{End as no_event, Malformed as bad_event, Entry as event}
+use Rattle.isdb_mmt.specs.Formats.Steps.{SdtStep}
+use Rattle.isdb_mmt.specs.declared.walk_step.WalkStep.TheVariants.{End as no_service, Malformed as bad_service, Entry as service}
+use Rattle.isdb_mmt.specs.Formats.Steps.{BroadcasterStep}
+use Rattle.isdb_mmt.specs.declared.walk_step.WalkStep.TheVariants.{End as no_broadcaster, Malformed as bad_broadcaster, Entry as broadcaster}
+use Rattle.isdb_mmt.specs.Formats.Steps.{StreamStep}
+use Rattle.isdb_mmt.specs.declared.walk_step.WalkStep.TheVariants.{End as no_stream, Malformed as bad_stream, Entry as stream}
+use Rattle.isdb_mmt.specs.declared.table.nit.TlvDescriptor.{TlvDescriptor}
 
 abbrev pub Lies : List ℕ → Part → Type 0
 Lies s p = behind p ≤ length s
@@ -86,11 +85,11 @@ TextsLie s (Other t b) = Lies s b
 abbrev pub UnitsLie : List ℕ → MpuStep → Type 0
 UnitsLie s no_mpu = Unit {0}
 UnitsLie s broken_mpu = Unit {0}
-UnitsLie s (Mpu q l d n units next) = Lies s units
+UnitsLie s (an_mpu m next) = Lies s m.units
 
-abbrev pub TlvLies : List ℕ → TlvStep → Type 0
-TlvLies s no_tlv = Unit {0}
-TlvLies s (tlv tag body next) = Lies s body
+abbrev pub TlvLies : List ℕ → Option (TlvDescriptor × ℕ) → Type 0
+TlvLies s None = Unit {0}
+TlvLies s (Some (d, next)) = Lies s d.body
 
 -- MPT and PLT
 abbrev pub MptLies : List ℕ → Option Mpt → Type 0

@@ -18,20 +18,20 @@ use Rattle.isdb_mmt.specs.declared.table.amt.Amt.{Amt}
 use Rattle.isdb_mmt.specs.declared.table.amt.AmtService.{AmtService}
 use Rattle.isdb_mmt.specs.declared.table.eit.Eit.{Eit}
 use Rattle.isdb_mmt.specs.declared.table.eit.Event.{Event}
-use Rattle.isdb_mmt.specs.declared.table.eit.EventStep.{EventStep}
-use Rattle.isdb_mmt.specs.declared.table.eit.EventStep.TheVariants.{End as no_event, Malformed as bad_event, Event as event}
+use Rattle.isdb_mmt.specs.Formats.Steps.{EventStep}
+use Rattle.isdb_mmt.specs.declared.walk_step.WalkStep.TheVariants.{End as no_event, Malformed as bad_event, Entry as event}
 use Rattle.isdb_mmt.specs.declared.table.sdt.Sdt.{Sdt}
 use Rattle.isdb_mmt.specs.declared.table.sdt.SdtService.{SdtService}
-use Rattle.isdb_mmt.specs.declared.table.sdt.SdtStep.{SdtStep}
-use Rattle.isdb_mmt.specs.declared.table.sdt.SdtStep.TheVariants.{End as no_service, Malformed as bad_service, Service as service}
+use Rattle.isdb_mmt.specs.Formats.Steps.{SdtStep}
+use Rattle.isdb_mmt.specs.declared.walk_step.WalkStep.TheVariants.{End as no_service, Malformed as bad_service, Entry as service}
 use Rattle.isdb_mmt.specs.declared.table.bit.Bit.{Bit}
 use Rattle.isdb_mmt.specs.declared.table.bit.Broadcaster.{Broadcaster}
-use Rattle.isdb_mmt.specs.declared.table.bit.BroadcasterStep.{BroadcasterStep}
-use Rattle.isdb_mmt.specs.declared.table.bit.BroadcasterStep.TheVariants.{End as no_broadcaster, Malformed as bad_broadcaster, Broadcaster as broadcaster}
+use Rattle.isdb_mmt.specs.Formats.Steps.{BroadcasterStep}
+use Rattle.isdb_mmt.specs.declared.walk_step.WalkStep.TheVariants.{End as no_broadcaster, Malformed as bad_broadcaster, Entry as broadcaster}
 use Rattle.isdb_mmt.specs.declared.table.nit.Nit.{Nit}
 use Rattle.isdb_mmt.specs.declared.table.nit.NitStream.{NitStream}
-use Rattle.isdb_mmt.specs.declared.table.nit.StreamStep.{StreamStep}
-use Rattle.isdb_mmt.specs.declared.table.nit.StreamStep.TheVariants.{End as no_stream, Malformed as bad_stream, Stream as stream}
+use Rattle.isdb_mmt.specs.Formats.Steps.{StreamStep}
+use Rattle.isdb_mmt.specs.declared.walk_step.WalkStep.TheVariants.{End as no_stream, Malformed as bad_stream, Entry as stream}
 use Rattle.isdb_mmt.specs.declared.table.tot.Tot.{Tot}
 
 -- something with the descriptors that stand in a part of `s`

@@ -17,15 +17,14 @@ fn length_fits(there: bool, n: u32, area: u64) -> bool
     !there || u64::from(n) <= area
 }
 
-// The sum of the high halves of n counts that lie one behind the other from at on. Of halves that are or'ed instead, the compiler reads each
-// byte by itself.
-fn high_halves(p: &[u8], at: usize, n: usize) -> u64
-    requires { (n ≤ 12) × (at + n * 8 ≤ length p.now) }
+// The high halves of n counts that lie one behind the other from at on, or'ed.
+fn high_halves(p: &[u8], at: usize, n: usize) -> u32
+    requires { at + n * 8 ≤ length p.now }
     ensures { result < 2097152 → every count_fits_of (counts_from n at p.now) ≡ true }
 {
     place::places(p, at, 8, n)
-        .map(|q| u64::from(place::word(q, 0)))
-        .sum()
+        .map(|q| place::word(q, 0))
+        .fold(0, |halves, h| halves | h)
 }
 
 pub(crate) fn each_count_fits(p: &[u8], at: usize, n: usize, most: u64) -> bool
@@ -35,9 +34,9 @@ pub(crate) fn each_count_fits(p: &[u8], at: usize, n: usize, most: u64) -> bool
     place::places(p, at, 8, n).all(|q| place::long(q, 0) <= most)
 }
 
-// No high half is above their sum, so one test is enough for counts below 2^53: 2^21 times 2^32.
+// No high half is above them all or'ed, so one test is enough for counts below 2^53: 2^21 times 2^32.
 fn counts_fit(p: &[u8], at: usize, n: usize) -> bool
-    requires { (n ≤ 12) × (at + n * 8 ≤ length p.now) }
+    requires { at + n * 8 ≤ length p.now }
     ensures { result ≡ every count_fits_of (counts_from n at p.now) }
 {
     high_halves(p, at, n) < 2097152 || each_count_fits(p, at, n, layout::MOST_COUNT)
@@ -80,6 +79,7 @@ fn latest_fits(l: Limits, x: Latest) -> bool
     length_fits(x.plt, x.plt_length, l.table_area) && length_fits(x.tot, x.tot_length, l.table_area)
 }
 
+#[tactic(auto, using(crate::proofs::Checks::media_fits, crate::proofs::Checks::media_fails))]
 fn media_fits(l: Limits, p: &[u8]) -> bool
     requires { length p.now ≡ media_size }
     ensures { result ≡ media_sound l (media_place_of p.now) }
@@ -135,7 +135,7 @@ fn head_fits(h: &[u8], l: Limits, u: Used, others: &[u64], lent: Lengths) -> boo
     requires { (length h.now ≡ media_places) × ((l ≡ limits_of h.now) × (u ≡ used_of h.now)) }
     ensures { result ≡ head_sound h.now others.now lent }
 {
-    limits::ask(l, lent) == 0
+    limits::ask(l, lent).is_ok()
         && used_fit(l, u)
         && latest_fits(l, head::latest_there(h))
         && counts_fit(h, layout::COUNTERS, 12)
@@ -176,6 +176,7 @@ fn names_fit(s: &[u8], u: Used) -> bool
 }
 
 // Whether state and counts hold a session, with areas of so many bytes lent. The head is read from a part of known length.
+#[tactic(auto, using(crate::proofs::Checks::too_short, crate::proofs::Checks::front_length, crate::proofs::Checks::head_fails, crate::proofs::Checks::places_fail, crate::proofs::Checks::names_decide))]
 pub(crate) fn ready(s: &[u8], others: &[u64], lent: Lengths) -> bool
     requires { lent.state ≡ length s.now }
     ensures { result ≡ sound_in s.now others.now lent }

@@ -22,6 +22,7 @@ use crate::part::Part;
 use isdb_tlv::bytes;
 
 // A part of a message in two pieces, to a place.
+#[tactic(auto, using(crate::proofs::Commits::put_done))]
 fn put_part(s: &mut [u8], at: usize, a: &[u8], b: &[u8], p: Part)
     requires { CanPut s.old at (a.now ++ b.now) p }
     ensures { s.new ≡ over at (part_of (a.now ++ b.now) p) s.old }
@@ -50,6 +51,7 @@ fn store_one(tables: &mut [u8], ix: &[u8], log: &[u64], i: usize, area: usize, a
 }
 
 // The sections of the places that are logged, each to its area.
+#[tactic(auto, using(crate::proofs::Commits::storing_on, crate::proofs::Commits::storing_end))]
 pub(crate) fn store_sections(
     tables: &mut [u8],
     ix: &[u8],

@@ -26,6 +26,7 @@ pub(crate) struct Control {
     pub mpt_length: u32,
 }
 
+#[tactic(auto, unfolding(crate::specs::Memory::Session::control_place_of))]
 pub(crate) fn control_of(p: &[u8]) -> Control
     ensures { result ≡ control_place_of p.now }
 {

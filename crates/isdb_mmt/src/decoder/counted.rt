@@ -11,6 +11,7 @@ use crate::decoder::head::Time;
 use crate::decoder::{counts, head};
 
 // One packet more, with what is counted of it beside tables.
+#[tactic(auto, unfolding(crate::specs::Decoder::Model::packet_counted))]
 pub(crate) fn packet_counted(c: Counters, ip: u64, non: u64, time: u64) -> Counters
     requires { Countable c ip non time }
     ensures { result ≡ packet_counted c ip non time }
@@ -36,15 +37,14 @@ fn store_seen(state: &mut [u8], t: Option<u64>)
     requires { StateCountable state.old 0 0 1 }
     ensures { state.new ≡ with_time (time_given t) state.old }
 {
-    match t {
-        None => (),
-        Some(timestamp) => head::store_time(
+    if let Some(timestamp) = t {
+        head::store_time(
             state,
             Time {
                 seen: true,
                 timestamp,
             },
-        ),
+        );
     }
 }
 

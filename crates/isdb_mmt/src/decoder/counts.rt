@@ -41,6 +41,7 @@ pub struct Counters {
 }
 
 // From a media place's bytes.
+#[tactic(auto, unfolding(crate::specs::Memory::Session::stats_of))]
 pub(crate) fn stats_of(p: &[u8]) -> AssetStats
     ensures { result ≡ stats_of p.now }
 {
@@ -82,6 +83,7 @@ pub(crate) fn put_stats(p: &mut [u8], s: AssetStats)
 }
 
 // From the session's state.
+#[tactic(auto, unfolding(crate::specs::Memory::Session::counters_of))]
 pub(crate) fn counters_of(s: &[u8]) -> Counters
     ensures { result ≡ counters_of s.now }
 {

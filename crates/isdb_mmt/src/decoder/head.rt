@@ -40,6 +40,7 @@ pub(crate) struct Time {
 }
 
 // Laid into each caller, so that it reads only those that it uses.
+#[tactic(auto, unfolding(crate::specs::Memory::Session::limits_of))]
 #[inline(always)]
 pub(crate) fn load_limits(s: &[u8]) -> Limits
     ensures { result ≡ limits_of s.now }
@@ -58,6 +59,7 @@ pub(crate) fn load_limits(s: &[u8]) -> Limits
 
 // The same of a head that is there, read without a test of each place: question 5 is asked at every call, and with `load_limits` it takes
 // some nanoseconds more.
+#[tactic(auto, unfolding(crate::specs::Memory::Session::limits_of))]
 pub(crate) fn limits_there(s: &[u8]) -> Limits
     requires { length s.now ≡ media_places }
     ensures { result ≡ limits_of s.now }
@@ -99,6 +101,7 @@ pub(crate) fn store_limits(s: &mut [u8], l: Limits)
 }
 
 // Laid into each caller likewise.
+#[tactic(auto, unfolding(crate::specs::Memory::Session::used_of))]
 #[inline(always)]
 pub(crate) fn load_used(s: &[u8]) -> Used
     ensures { result ≡ used_of s.now }
@@ -110,7 +113,8 @@ pub(crate) fn load_used(s: &[u8]) -> Used
     }
 }
 
-// The same of a head that is there.
+// The same of a head that is there, without a test of each place for the same reason.
+#[tactic(auto, unfolding(crate::specs::Memory::Session::used_of))]
 pub(crate) fn used_there(s: &[u8]) -> Used
     requires { length s.now ≡ media_places }
     ensures { result ≡ used_of s.now }
@@ -137,6 +141,7 @@ pub(crate) fn store_used(s: &mut [u8], u: Used)
     );
 }
 
+#[tactic(auto, unfolding(crate::specs::Memory::Session::latest_of))]
 pub(crate) fn load_latest(s: &[u8]) -> Latest
     ensures { result ≡ latest_of s.now }
 {
@@ -148,7 +153,8 @@ pub(crate) fn load_latest(s: &[u8]) -> Latest
     }
 }
 
-// The same of a head that is there.
+// The same of a head that is there, without a test of each place for the same reason.
+#[tactic(auto, unfolding(crate::specs::Memory::Session::latest_of))]
 pub(crate) fn latest_there(s: &[u8]) -> Latest
     requires { length s.now ≡ media_places }
     ensures { result ≡ latest_of s.now }
@@ -176,6 +182,7 @@ pub(crate) fn store_latest(s: &mut [u8], x: Latest)
     );
 }
 
+#[tactic(auto, unfolding(crate::specs::Memory::Session::time_of))]
 pub(crate) fn load_time(s: &[u8]) -> Time
     ensures { result ≡ time_of s.now }
 {

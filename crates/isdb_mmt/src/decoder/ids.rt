@@ -1,14 +1,11 @@
 // Packet ids and keys of a session in ascending order, and what is known of a packet id.
-ghost use Rattle.std.specs.Prelude.{◌≡◌, ◌+◌, ◌*◌, ◌<◌, ◌≤◌, length, None};
-ghost use Rattle.isdb_tlv.specs.Guards.{◌<?◌};
-ghost use Rattle.std.specs.Prelude.{if◌then◌else◌};
+ghost use Rattle.std.specs.Prelude.{◌≡◌, ℕ, ◌+◌, ◌*◌, ◌<◌, ◌≤◌, length, Some, None};
 ghost use Rattle.isdb_mmt.specs.Memory.Lent.{names_from, found_from};
-ghost use Rattle.isdb_mmt.specs.Memory.Layout.{most_media_ids, most_mfu_area, media_places, media_size, control_places, control_size};
+ghost use Rattle.isdb_mmt.specs.Memory.Layout.{most_media_ids, most_control_ids, most_mfu_area, media_places, media_size, control_places, control_size};
 ghost use Rattle.isdb_mmt.specs.Memory.Session.{used_of};
 ghost use Rattle.isdb_mmt.specs.Memory.Check.{PlacesThere};
 ghost use Rattle.isdb_mmt.specs.Memory.Lending.{lent_by};
-ghost use Rattle.isdb_mmt.specs.Memory.View.{header_given};
-ghost use Rattle.isdb_mmt.specs.Answers.Readings.{lesser, least_from, next_media_read, next_control_read, next_key_read, u32_if, media_state_of, media_read, held_object_of, held_at, held_read, control_state_of, control_read};
+ghost use Rattle.isdb_mmt.specs.Answers.Readings.{least_from, next_media_read, next_control_read, next_key_read, media_state_of, media_read, held_object_of, held_at, held_read, control_state_of, control_read};
 
 use crate::decoder::control::Control;
 use crate::decoder::limits::Limits;
@@ -17,36 +14,7 @@ use crate::decoder::readings::{ControlState, Held, HeldObject, MediaState, MpuRa
 use crate::decoder::refusal::Refusal;
 use crate::decoder::session::Session;
 use crate::decoder::{control, head, layout, media, place};
-use crate::mpu::MfuHeader;
 use crate::part::Part;
-use isdb_tlv::bytes;
-
-fn lesser_of(x: Option<u32>, y: u32) -> Option<u32>
-    ensures { result ≡ lesser x y }
-{
-    match x {
-        None => Some(y),
-        Some(z) => {
-            if y < z {
-                return Some(y);
-            }
-            Some(z)
-        }
-    }
-}
-
-// The least so far with one more name: those below first and above last do not count.
-fn least_with(x: Option<u32>, first: u32, last: u32, y: u32) -> Option<u32>
-    ensures { result ≡ (if y <? first then x else if last <? y then x else lesser x y) }
-{
-    if y < first {
-        return x;
-    }
-    if last < y {
-        return x;
-    }
-    lesser_of(x, y)
-}
 
 // The least name from first to last, of n places from at on.
 pub(crate) fn least(
@@ -57,20 +25,20 @@ pub(crate) fn least(
     first: u32,
     last: u32,
 ) -> Option<u32>
-    requires { at + n * size ≤ length s.now }
+    requires { (4 ≤ size) × (at + n * size ≤ length s.now) }
     ensures { result ≡ least_from None first last (names_from n size at s.now) }
 {
-    let mut x = None;
-    for i in 0..n {
-        x = least_with(x, first, last, bytes::get_u32(s, at + i * size));
-    }
-    x
+    place::places(s, at, size, n)
+        .map(|p| place::word(p, 0))
+        .filter(|y| first <= *y && *y <= last)
+        .min()
 }
 
 // Which place a packet id has.
 fn find_media(state: &[u8], id: u32) -> Option<usize>
     requires { PlacesThere state.now }
-    ensures { result ≡ found_from 0 (names_from (used_of state.now).media_ids media_size media_places state.now) id }
+    ensures found { result ≡ found_from 0 (names_from (used_of state.now).media_ids media_size media_places state.now) id }
+    ensures in_use { (i : ℕ) → result ≡ Some i → i < most_media_ids }
 {
     let u = head::load_used(state);
     place::find(
@@ -84,7 +52,8 @@ fn find_media(state: &[u8], id: u32) -> Option<usize>
 
 pub(crate) fn find_control(state: &[u8], id: u32) -> Option<usize>
     requires { PlacesThere state.now }
-    ensures { result ≡ found_from 0 (names_from (used_of state.now).control_ids control_size control_places state.now) id }
+    ensures found { result ≡ found_from 0 (names_from (used_of state.now).control_ids control_size control_places state.now) id }
+    ensures in_use { (i : ℕ) → result ≡ Some i → i < most_control_ids }
 {
     let u = head::load_used(state);
     place::find(
@@ -96,37 +65,17 @@ pub(crate) fn find_control(state: &[u8], id: u32) -> Option<usize>
     )
 }
 
-fn u32_if(there: bool, x: u32) -> Option<u32>
-    ensures { result ≡ u32_if there x }
-{
-    if there {
-        return Some(x);
-    }
-    None
-}
-
-fn header_if(there: bool, h: MfuHeader) -> Option<MfuHeader>
-    ensures { result ≡ header_given there h }
-{
-    if there {
-        return Some(h);
-    }
-    None
-}
-
 fn media_state(m: Media) -> MediaState
     ensures { result ≡ media_state_of m }
 {
-    let o = m.object;
-    let stats = m.stats;
     MediaState {
-        stats,
-        sequence: u32_if(m.seen, m.sequence),
+        stats: m.stats,
+        sequence: m.seen.then_some(m.sequence),
         mpu_range: m.mpu_seen.then_some(MpuRange {
             first: m.first_mpu,
             last: m.mpu,
         }),
-        held: u32_if(m.held, o.length),
+        held: m.held.then_some(m.object.length),
     }
 }
 
@@ -136,16 +85,15 @@ fn held_object(l: Limits, i: usize, m: Media) -> HeldObject
     ensures { result ≡ held_object_of l i m }
 {
     let o = m.object;
-    let bytes = Part {
-        start: i * l.mfu_area as usize,
-        length: o.length as usize,
-    };
     HeldObject {
         mpu_sequence_number: o.mpu_sequence_number,
         rap: o.rap,
-        mfu: header_if(o.timed, o.header),
-        item_id: u32_if(o.item, o.item_id),
-        bytes,
+        mfu: o.timed.then_some(o.header),
+        item_id: o.item.then_some(o.item_id),
+        bytes: Part {
+            start: i * l.mfu_area as usize,
+            length: o.length as usize,
+        },
     }
 }
 
@@ -163,12 +111,12 @@ fn control_state(c: Control) -> ControlState
     ensures { result ≡ control_state_of c }
 {
     ControlState {
-        sequence: u32_if(c.seen, c.sequence),
-        joined: u32_if(c.joining, c.length),
+        sequence: c.seen.then_some(c.sequence),
+        joined: c.joining.then_some(c.length),
     }
 }
 
-#[tactic(auto, unfolding(crate::specs::Memory::Lending::session_asked, crate::specs::Answers::Readings::media_found, crate::specs::Answers::Readings::control_found, crate::specs::Answers::Readings::next_media_read, crate::specs::Answers::Readings::next_control_read, crate::specs::Answers::Readings::next_key_read, crate::specs::Answers::Readings::media_read, crate::specs::Answers::Readings::held_read, crate::specs::Answers::Readings::control_read))]
+#[tactic(auto, unfolding(crate::specs::Memory::Lending::session_asked, crate::specs::Answers::Readings::media_found, crate::specs::Answers::Readings::control_found, crate::specs::Answers::Readings::next_media_read, crate::specs::Answers::Readings::next_control_read, crate::specs::Answers::Readings::next_key_read, crate::specs::Answers::Readings::media_read, crate::specs::Answers::Readings::held_read, crate::specs::Answers::Readings::control_read), using(crate::proofs::ReadSteps::asked_there, crate::proofs::ReadSteps::asked_area, crate::proofs::Checks::media_within, crate::proofs::Checks::controls_within, crate::proofs::Checks::sections_within))]
 impl<'a> Session<'a> {
     // The least media packet id from a number on.
     pub fn next_media(self, from: u32) -> Result<Option<u32>, Refusal>

@@ -1,34 +1,24 @@
 // A joined message in two pieces, one behind the other: a lies in the message area, b in the packet that makes it whole. An
 // undivided message is b alone.
-ghost use Rattle.std.specs.Prelude.{◌≡◌, ◌+◌, ◌-◌, ◌*◌, ◌≤◌, ◌++◌, length, slice_index};
+ghost use Rattle.std.specs.Prelude.{◌≡◌, ◌+◌, ◌*◌, ◌≤◌, ◌++◌, length, slice_index};
 ghost use Rattle.isdb_tlv.specs.Bytes.{be};
 ghost use Rattle.isdb_mmt.specs.Memory.Layout.{most_message_area};
 ghost use Rattle.isdb_mmt.specs.Formats.Message.{prefix_width, aggregated_at, body_part, section_table, pa_tables, content_of, table_at};
 ghost use Rattle.isdb_mmt.specs.Pushes.Placed.{behind as behind_in};
 
-use crate::message::{Content, MessageStep, TableStep};
+use crate::message::Content;
 use crate::part::Part;
+use crate::walk_step::WalkStep;
 use isdb_tlv::bytes;
 
-// How much the first is above the second.
-fn above(x: usize, y: usize) -> usize
-    ensures { result ≡ x - y }
-{
-    if x <= y {
-        return 0;
-    }
-    x - y
-}
-
 // Of a part of the message, where the first piece has n bytes: what lies in the second.
+#[tactic(auto, unfolding(crate::specs::Pushes::Placed::behind))]
 pub(crate) fn behind(n: usize, p: Part) -> Part
     ensures { result ≡ behind_in n p }
 {
-    let start = p.start;
-    let length = p.length;
     Part {
-        start: above(start, n),
-        length: above(length, above(n, start)),
+        start: p.start.saturating_sub(n),
+        length: p.length.saturating_sub(n.saturating_sub(p.start)),
     }
 }
 
@@ -39,6 +29,7 @@ fn size(a: &[u8], b: &[u8]) -> usize
     a.len() + b.len()
 }
 
+#[tactic(auto, using(crate::proofs::Joined::byte_left, crate::proofs::Joined::byte_right))]
 fn byte(a: &[u8], b: &[u8], i: usize) -> u8
     ensures { result ≡ slice_index (a.now ++ b.now) i }
 {
@@ -48,6 +39,7 @@ fn byte(a: &[u8], b: &[u8], i: usize) -> u8
     bytes::get_u8(b, i - a.len())
 }
 
+#[tactic(auto, unfolding(isdb_tlv::specs::Bytes::be))]
 fn half(a: &[u8], b: &[u8], at: usize) -> u16
     requires { at ≤ 2 * most_message_area }
     ensures { result ≡ be 2 (a.now ++ b.now) at }
@@ -80,21 +72,22 @@ fn prefix_width(long: bool) -> usize
 }
 
 // The messages of an aggregated payload, by a cursor that starts at 0.
-pub(crate) fn next_message(a: &[u8], b: &[u8], long: bool, at: usize) -> MessageStep
+#[tactic(auto, unfolding(crate::specs::Formats::Message::aggregated_at))]
+pub(crate) fn next_message(a: &[u8], b: &[u8], long: bool, at: usize) -> WalkStep<Part>
     requires { length (a.now ++ b.now) ≤ most_message_area }
     ensures { result ≡ aggregated_at (a.now ++ b.now) long at }
 {
     let k = prefix_width(long);
     let all = size(a, b);
-    if above(all, at) < k {
-        return MessageStep::End;
+    if all.saturating_sub(at) < k {
+        return WalkStep::End;
     }
     let start = at + k;
     let n = prefix(a, b, long, at);
     if all - start < n {
-        return MessageStep::Malformed;
+        return WalkStep::Malformed;
     }
-    MessageStep::Message(Part { start, length: n }, start + n)
+    WalkStep::Entry(Part { start, length: n }, start + n)
 }
 
 fn body_part(a: &[u8], b: &[u8]) -> Part
@@ -102,19 +95,13 @@ fn body_part(a: &[u8], b: &[u8]) -> Part
     ensures { result ≡ body_part (a.now ++ b.now) }
 {
     let n = word(a, b, 3) as usize;
-    let rest = above(size(a, b), 7);
-    if rest < n {
-        return Part {
-            start: 7,
-            length: rest,
-        };
-    }
     Part {
         start: 7,
-        length: n,
+        length: size(a, b).saturating_sub(7).min(n),
     }
 }
 
+#[tactic(auto, unfolding(crate::specs::Formats::Message::section_table))]
 fn section_table(a: &[u8], b: &[u8]) -> Content
     requires { length (a.now ++ b.now) ≤ most_message_area }
     ensures { result ≡ section_table (a.now ++ b.now) }
@@ -133,6 +120,7 @@ fn section_table(a: &[u8], b: &[u8]) -> Content
     })
 }
 
+#[tactic(auto, unfolding(crate::specs::Formats::Message::pa_tables))]
 fn pa_tables(a: &[u8], b: &[u8]) -> Content
     requires { length (a.now ++ b.now) ≤ most_message_area }
     ensures { result ≡ pa_tables (a.now ++ b.now) }
@@ -151,6 +139,7 @@ fn pa_tables(a: &[u8], b: &[u8]) -> Content
 }
 
 // What a message holds.
+#[tactic(auto, unfolding(crate::specs::Formats::Message::content_of))]
 pub(crate) fn content_of(a: &[u8], b: &[u8]) -> Content
     requires { length (a.now ++ b.now) ≤ most_message_area }
     ensures { result ≡ content_of (a.now ++ b.now) }
@@ -158,33 +147,28 @@ pub(crate) fn content_of(a: &[u8], b: &[u8]) -> Content
     if size(a, b) < 2 {
         return Content::Malformed;
     }
-    let id = half(a, b, 0);
-    if id == 0x0000 {
-        return pa_tables(a, b);
+    match half(a, b, 0) {
+        0x0000 => pa_tables(a, b),
+        0x8000..=0x8002 => section_table(a, b),
+        _ => Content::Nothing,
     }
-    if id < 0x8000 {
-        return Content::Nothing;
-    }
-    if id <= 0x8002 {
-        return section_table(a, b);
-    }
-    Content::Nothing
 }
 
 // The tables of a PA message's body, by a cursor that starts where content says.
-pub(crate) fn next_table(a: &[u8], b: &[u8], at: usize) -> TableStep
+#[tactic(auto, unfolding(crate::specs::Formats::Message::table_at))]
+pub(crate) fn next_table(a: &[u8], b: &[u8], at: usize) -> WalkStep<Part>
     requires { length (a.now ++ b.now) ≤ most_message_area }
     ensures { result ≡ table_at (a.now ++ b.now) at }
 {
-    let left = above(size(a, b), at);
+    let left = size(a, b).saturating_sub(at);
     if left < 4 {
-        return TableStep::End;
+        return WalkStep::End;
     }
     let n = half(a, b, at + 2) as usize + 4;
     if left < n {
-        return TableStep::Malformed;
+        return WalkStep::Malformed;
     }
-    TableStep::Table(
+    WalkStep::Entry(
         Part {
             start: at,
             length: n,

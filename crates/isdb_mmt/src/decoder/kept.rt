@@ -9,7 +9,7 @@ ghost use Rattle.isdb_mmt.specs.Memory.Layout.{control_places, control_size};
 ghost use Rattle.isdb_mmt.specs.Formats.Plt.{plt_of};
 ghost use Rattle.isdb_mmt.specs.Formats.Tot.{tot_of};
 ghost use Rattle.isdb_mmt.specs.Memory.Session.{limits_of, control_at};
-ghost use Rattle.isdb_mmt.specs.Answers.Readings.{area_part, mpt_at, section_found, section_part, control_found, mpt_part, plt_part, tot_part, section_read, mpt_read, plt_read, tot_read, is_this, first_carried, asset_in, asset_if, asset_among, asset_read, most_name, least_from, ascending_from};
+ghost use Rattle.isdb_mmt.specs.Answers.Readings.{area_part, mpt_at, section_found, section_part, control_found, mpt_part, plt_part, tot_part, section_read, mpt_read, plt_read, tot_read, first_carried, asset_in, asset_if, asset_among, asset_read, most_name, least_from, ascending_from};
 ghost use Rattle.isdb_mmt.specs.Memory.Lending.{lent_by};
 ghost use Rattle.isdb_mmt.specs.Answers.KeptParts.{Reachable, AllInUse, AnArea, MptReachable};
 
@@ -26,6 +26,7 @@ use crate::table::section::long_section;
 use crate::table::{mpt, plt, tot};
 
 // Whether a section's header, its CRC and its body as the table of an id are good.
+#[tactic(auto, using(crate::proofs::KeptParts::parses_good, crate::proofs::KeptParts::parses_bad))]
 fn parses_as(id: u8, b: &[u8]) -> bool
     ensures { result ≡ parses_as id b.now }
 {
@@ -85,23 +86,15 @@ fn handed_out(parses: bool, p: Part) -> Result<Option<Part>, Refusal>
     Err(Refusal::NotASession)
 }
 
-fn is_this(p: u16, q: Option<u16>) -> bool
-    ensures { result ≡ is_this p q }
-{
-    match q {
-        None => false,
-        Some(x) => x == p,
-    }
-}
-
 // The first of n assets of an MPT, from a place on, that a packet id carries.
 fn carried_asset(b: &[u8], n: u8, from: usize, packet_id: u16) -> Option<Asset>
     ensures { result ≡ first_carried packet_id b.now (assets_from n b.now from).found }
 {
+    // By a cursor: where the next asset starts is known only once this one is read.
     let mut at = from;
     for i in 0..n {
         let (a, next) = mpt::asset_at(b, at)?;
-        if is_this(packet_id, a.packet_id(b)) {
+        if a.packet_id(b) == Some(packet_id) {
             return Some(a);
         }
         at = next;
@@ -113,23 +106,22 @@ fn carried_asset(b: &[u8], n: u8, from: usize, packet_id: u16) -> Option<Asset>
 fn asset_in(b: &[u8], id: u32, m: Part, packet_id: u16) -> Result<Option<CarriedAsset>, Refusal>
     ensures { result ≡ asset_in packet_id id m b.now (mpt_of b.now).mpt (Ok None) }
 {
-    let x = mpt::parse(b);
-    let q = x.mpt;
-    match q {
-        None => Err(Refusal::NotASession),
-        Some(t) => match carried_asset(b, t.assets, t.start, packet_id) {
-            None => Ok(None),
-            Some(asset) => Ok(Some(CarriedAsset {
-                control_id: id,
-                mpt: m,
-                service_id: t.service_id(b),
-                asset,
-            })),
-        },
+    let Some(t) = mpt::parse(b).mpt else {
+        return Err(Refusal::NotASession);
+    };
+    match carried_asset(b, t.assets, t.start, packet_id) {
+        None => Ok(None),
+        Some(asset) => Ok(Some(CarriedAsset {
+            control_id: id,
+            mpt: m,
+            service_id: t.service_id(b),
+            asset,
+        })),
     }
 }
 
 // The least of n packet ids of control messages from a number on, which may be above all.
+#[tactic(auto, using(crate::proofs::AssetReadings::above_all))]
 fn next_id(state: &[u8], n: usize, from: u64) -> Option<u32>
     requires { control_places + n * control_size ≤ length state.now }
     ensures { result ≡ least_from None from most_name (names_from n control_size control_places state.now) }
@@ -147,43 +139,39 @@ fn next_id(state: &[u8], n: usize, from: u64) -> Option<u32>
     )
 }
 
-#[tactic(auto, unfolding(crate::specs::Memory::Lending::session_asked, crate::specs::Answers::Readings::section_found, crate::specs::Answers::Readings::control_found, crate::specs::Answers::Readings::section_read, crate::specs::Answers::Readings::mpt_read, crate::specs::Answers::Readings::plt_read, crate::specs::Answers::Readings::tot_read, crate::specs::Answers::Readings::asset_read))]
+#[tactic(auto, unfolding(crate::specs::Memory::Lending::session_asked, crate::specs::Answers::Readings::section_found, crate::specs::Answers::Readings::control_found, crate::specs::Answers::Readings::section_read, crate::specs::Answers::Readings::mpt_read, crate::specs::Answers::Readings::plt_read, crate::specs::Answers::Readings::tot_read, crate::specs::Answers::Readings::asset_read), using(crate::proofs::KeptParts::asked_reached))]
 impl<'a> Session<'a> {
+    #[tactic(auto, unfolding(crate::specs::Answers::Readings::section_found), using(crate::proofs::KeptParts::section_in_use, crate::proofs::KeptParts::section_area))]
     fn section_part(self, key: u32) -> Option<Part>
         requires { Reachable self.state.now }
         ensures { result ≡ section_part (lent_by self.entry) (section_found (lent_by self.entry) key) }
     {
         let u = head::load_used(self.state);
-        match place::find(
+        let i = place::find(
             self.state,
             SECTION_PLACES,
             SECTION_SIZE,
             u.sections as usize,
             key,
-        ) {
-            None => None,
-            Some(i) => {
-                let x = load_section(self.state, i);
-                Some(area_part(head::load_limits(self.state), i, x.length))
-            }
-        }
+        )?;
+        let x = load_section(self.state, i);
+        Some(area_part(head::load_limits(self.state), i, x.length))
     }
 
+    #[tactic(auto, unfolding(crate::specs::Answers::Readings::control_found), using(crate::proofs::KeptParts::mpt_in_use))]
     fn mpt_part(self, id: u32) -> Option<Part>
         requires { Reachable self.state.now }
         ensures { result ≡ mpt_part (lent_by self.entry) (control_found (lent_by self.entry) id) }
     {
         let u = head::load_used(self.state);
-        match place::find(
+        let i = place::find(
             self.state,
             CONTROL_PLACES,
             CONTROL_SIZE,
             u.control_ids as usize,
             id,
-        ) {
-            None => None,
-            Some(i) => mpt_part_at(self.state, i),
-        }
+        )?;
+        mpt_part_at(self.state, i)
     }
 
     fn plt_part(self) -> Option<Part>
@@ -221,6 +209,7 @@ impl<'a> Session<'a> {
         requires { AllInUse self.state.now n }
         ensures { result ≡ asset_among (lent_by self.entry) packet_id (ascending_from n 0 (names_from n control_size control_places self.entry.state.now)) }
     {
+        // By a cursor: the next id is looked for above the one that was found.
         let mut from = 0u64;
         for i in 0..n {
             let Some(id) = next_id(self.state, n, from) else {

@@ -1,8 +1,10 @@
 // The limits that an opening sets, the memory that they ask for, and questions 1 to 4.
 ghost use Rattle.std.specs.Prelude.{◌≡◌, true};
 ghost use Rattle.isdb_mmt.specs.Memory.Limits.{in_range, places_in_range, areas_in_range, packets_in_range, lengths_for, long_enough, needed_of, asked};
+ghost use Rattle.isdb_mmt.specs.Memory.Refusals.{answer_number};
 
 use crate::decoder::layout;
+use crate::decoder::refusal::Refusal;
 
 #[derive(Clone, Copy)]
 pub struct Limits {
@@ -29,52 +31,39 @@ pub struct Lengths {
     pub tables: u64,
 }
 
-// What limits ask for, or the number of the question that they fail.
-#[derive(Clone, Copy)]
-pub enum Need {
-    Bytes(Lengths),
-    Refused(u8),
-}
-
+#[tactic(auto, unfolding(crate::specs::Memory::Limits::in_range))]
 fn in_range(most: u64, x: u64) -> bool
     ensures { result ≡ in_range most x }
 {
-    if x < 1 {
-        return false;
-    }
-    x <= most
+    1 <= x && x <= most
 }
 
+#[tactic(auto, unfolding(crate::specs::Memory::Limits::places_in_range))]
 fn places_in_range(l: Limits) -> bool
     ensures { result ≡ places_in_range l }
 {
-    if !in_range(layout::MOST_MEDIA_IDS, l.media_ids) {
-        return false;
-    }
-    if !in_range(layout::MOST_CONTROL_IDS, l.control_ids) {
-        return false;
-    }
-    in_range(layout::MOST_SECTIONS, l.sections)
+    in_range(layout::MOST_MEDIA_IDS, l.media_ids)
+        && in_range(layout::MOST_CONTROL_IDS, l.control_ids)
+        && in_range(layout::MOST_SECTIONS, l.sections)
 }
 
+#[tactic(auto, unfolding(crate::specs::Memory::Limits::areas_in_range))]
 fn areas_in_range(l: Limits) -> bool
     ensures { result ≡ areas_in_range l }
 {
-    if !in_range(layout::MOST_MFU_AREA, l.mfu_area) {
-        return false;
-    }
-    if !in_range(layout::MOST_MESSAGE_AREA, l.message_area) {
-        return false;
-    }
-    in_range(layout::MOST_TABLE_AREA, l.table_area)
+    in_range(layout::MOST_MFU_AREA, l.mfu_area)
+        && in_range(layout::MOST_MESSAGE_AREA, l.message_area)
+        && in_range(layout::MOST_TABLE_AREA, l.table_area)
 }
 
+#[tactic(auto, unfolding(crate::specs::Memory::Limits::packets_in_range))]
 fn packets_in_range(l: Limits) -> bool
     ensures { result ≡ packets_in_range l }
 {
     in_range(layout::MOST_PACKETS, l.packets)
 }
 
+#[tactic(auto, using(crate::proofs::Limits::in_ranges), unfolding(crate::specs::Memory::Limits::lengths_for))]
 fn lengths_for(l: Limits) -> Lengths
     requires { (places_in_range l ≡ true) × (areas_in_range l ≡ true) }
     ensures { result ≡ lengths_for l }
@@ -87,53 +76,50 @@ fn lengths_for(l: Limits) -> Lengths
     }
 }
 
+#[tactic(auto, unfolding(crate::specs::Memory::Limits::long_enough))]
 fn long_enough(need: Lengths, lent: Lengths) -> bool
     ensures { result ≡ long_enough need lent }
 {
-    if lent.state < need.state {
-        return false;
-    }
-    if lent.objects < need.objects {
-        return false;
-    }
-    if lent.messages < need.messages {
-        return false;
-    }
-    need.tables <= lent.tables
+    need.state <= lent.state
+        && need.objects <= lent.objects
+        && need.messages <= lent.messages
+        && need.tables <= lent.tables
 }
 
-// How long each lent buffer has to be. Limits out of range get the number that an opening would give them where the
-// buffers are long enough; of shorter ones an opening says 3 before it asks for packets.
-pub fn needed(l: Limits) -> Need
+// How long each lent buffer has to be. Limits out of range are refused as an opening would refuse them where the buffers are long
+// enough; of shorter ones an opening says so before it asks for packets.
+#[tactic(auto, unfolding(crate::specs::Memory::Limits::needed_of))]
+pub fn needed(l: Limits) -> Result<Lengths, Refusal>
     ensures { result ≡ needed_of l }
 {
     if !places_in_range(l) {
-        return Need::Refused(1);
+        return Err(Refusal::PlacesOutOfRange);
     }
     if !areas_in_range(l) {
-        return Need::Refused(2);
+        return Err(Refusal::AreasOutOfRange);
     }
     if !packets_in_range(l) {
-        return Need::Refused(4);
+        return Err(Refusal::PacketsOutOfRange);
     }
-    Need::Bytes(lengths_for(l))
+    Ok(lengths_for(l))
 }
 
-// Questions 1 to 4: the number of the first that is answered no, or 0.
-pub fn ask(l: Limits, lent: Lengths) -> u8
-    ensures { result ≡ asked l lent }
+// Questions 1 to 4.
+#[tactic(auto, unfolding(crate::specs::Memory::Limits::asked))]
+pub fn ask(l: Limits, lent: Lengths) -> Result<(), Refusal>
+    ensures { answer_number result ≡ asked l lent }
 {
     if !places_in_range(l) {
-        return 1;
+        return Err(Refusal::PlacesOutOfRange);
     }
     if !areas_in_range(l) {
-        return 2;
+        return Err(Refusal::AreasOutOfRange);
     }
     if !long_enough(lengths_for(l), lent) {
-        return 3;
+        return Err(Refusal::BufferTooShort);
     }
     if !packets_in_range(l) {
-        return 4;
+        return Err(Refusal::PacketsOutOfRange);
     }
-    0
+    Ok(())
 }

@@ -43,32 +43,31 @@ pub(crate) struct Media {
     pub stats: AssetStats,
 }
 
+#[tactic(auto, unfolding(crate::specs::Memory::Session::held_object_at))]
 fn object_of(p: &[u8]) -> Object
     ensures { result ≡ held_object_at p.now }
 {
-    let header = MfuHeader {
-        movie_fragment_sequence_number: bytes::get_u32(p, OBJECT + 6),
-        sample_number: bytes::get_u32(p, OBJECT + 10),
-        offset: bytes::get_u32(p, OBJECT + 14),
-        priority: bytes::get_u8(p, OBJECT + 18),
-        dependency_counter: bytes::get_u8(p, OBJECT + 19),
-    };
     Object {
         mpu_sequence_number: bytes::get_u32(p, OBJECT),
         rap: flag(p, OBJECT + 4),
         timed: flag(p, OBJECT + 5),
-        header,
+        header: MfuHeader {
+            movie_fragment_sequence_number: bytes::get_u32(p, OBJECT + 6),
+            sample_number: bytes::get_u32(p, OBJECT + 10),
+            offset: bytes::get_u32(p, OBJECT + 14),
+            priority: bytes::get_u8(p, OBJECT + 18),
+            dependency_counter: bytes::get_u8(p, OBJECT + 19),
+        },
         item: flag(p, OBJECT + 20),
         item_id: bytes::get_u32(p, OBJECT + 21),
         length: bytes::get_u32(p, OBJECT_LENGTH),
     }
 }
 
+#[tactic(auto, unfolding(crate::specs::Memory::Session::media_place_of))]
 fn media_of(p: &[u8]) -> Media
     ensures { result ≡ media_place_of p.now }
 {
-    let object = object_of(p);
-    let stats = counts::stats_of(p);
     Media {
         packet_id: bytes::get_u32(p, 0),
         seen: flag(p, 4),
@@ -77,8 +76,8 @@ fn media_of(p: &[u8]) -> Media
         mpu: bytes::get_u32(p, 10),
         first_mpu: bytes::get_u32(p, 14),
         held: flag(p, HELD),
-        object,
-        stats,
+        object: object_of(p),
+        stats: counts::stats_of(p),
     }
 }
 
@@ -90,6 +89,7 @@ pub(crate) fn load_media(s: &[u8], i: usize) -> Media
     media_of(bytes::part(s, MEDIA_PLACES + MEDIA_SIZE * i, MEDIA_SIZE))
 }
 
+#[tactic(auto, using(crate::proofs::Lent::put_none))]
 fn put_numbers(p: &mut [u8], m: Media)
     ensures { p.new ≡ puts 0 (number_fields m) p.old }
 {
@@ -113,6 +113,7 @@ fn put_numbers(p: &mut [u8], m: Media)
     );
 }
 
+#[tactic(auto, using(isdb_tlv::proofs::Numbers::length_put_be, crate::proofs::Lent::put_none))]
 fn put_object(p: &mut [u8], o: Object)
     ensures { p.new ≡ puts object_place (object_fields o) p.old }
 {

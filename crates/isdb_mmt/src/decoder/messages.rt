@@ -7,7 +7,8 @@ ghost use Rattle.isdb_mmt.specs.Pushes.Leaves.{control_place_for};
 ghost use Rattle.isdb_mmt.specs.Pushes.Fragments.{in_sequence, grown_length, continued as continued_as, fragment_outcome, flags_in, joined_with, joined_still, joined_by, control_with, laid_by, area_by, completes, counted_with, fragment_counted, CanCount};
 ghost use Rattle.isdb_mmt.specs.Pushes.FragmentPush.{blank_place, place_in, PlaceForThere, length_if, normal_latest, with_more, with_reassembly, with_counts, place_next, state_next, CanStoreReassembly, CanJoinAt, JoinedAt, received_fragment, CanReceive, CanJoin};
 ghost use Rattle.isdb_mmt.specs.Decoder.Packet.{message_packet, message};
-ghost use Rattle.isdb_mmt.specs.Memory.Opening.{lent};
+ghost use Rattle.isdb_mmt.specs.Memory.Lending.{lent_mut, SameBuffers};
+ghost use Rattle.isdb_mmt.specs.Memory.Refusals.{answer_number};
 ghost use Rattle.isdb_mmt.specs.Pushes.Push.{most_bytes, QuietPushed};
 
 use crate::decoder::control::Control;
@@ -15,6 +16,8 @@ use crate::decoder::counts::Counters;
 use crate::decoder::head::{Latest, Used};
 use crate::decoder::layout::{CONTROL_PLACES, CONTROL_SIZE};
 use crate::decoder::place::PlaceFor;
+use crate::decoder::refusal::Refusal;
+use crate::decoder::session::SessionMut;
 use crate::decoder::{control, counts, head, place, reassembler};
 use crate::message::{Division, Fragment};
 use isdb_tlv::bytes;
@@ -58,6 +61,7 @@ pub(crate) struct ReceivedFragment {
 const MOST_MESSAGE: u64 = 1048576;
 
 // Whether a message is there to be continued: a gap takes it away.
+#[tactic(auto, unfolding(crate::specs::Pushes::Fragments::in_sequence))]
 fn in_sequence(c: Control, n: u32) -> bool
     ensures { result ≡ in_sequence c n }
 {
@@ -75,6 +79,7 @@ fn grown_length(c: Control, b: &[u8]) -> u64
     c.length as u64 + bytes::rest(b, 2).len() as u64
 }
 
+#[tactic(auto, unfolding(crate::specs::Pushes::Fragments::continued))]
 fn continued(ends: bool, c: Control, n: u32, b: &[u8]) -> FragmentOutcome
     requires { length b.now ≤ most_bytes }
     ensures { result ≡ continued_as ends c n b.now }
@@ -98,6 +103,7 @@ pub(crate) fn flags_in(b: &[u8]) -> Fragment
     Fragment::from(bytes::get_u8(b, 0))
 }
 
+#[tactic(auto, unfolding(crate::specs::Pushes::Fragments::fragment_outcome))]
 pub(crate) fn fragment_outcome(c: Control, n: u32, b: &[u8]) -> FragmentOutcome
     requires { length b.now ≤ most_bytes }
     ensures { result ≡ fragment_outcome c n b.now }
@@ -134,18 +140,18 @@ fn joined_still(c: Control) -> Option<Joined>
 }
 
 // The longest message that a fragment joins.
+#[tactic(auto, unfolding(crate::specs::Pushes::Fragments::area_by))]
 pub(crate) fn area_by(f: FragmentOutcome, c: Control, b: &[u8]) -> u64
     requires { length b.now ≤ most_bytes }
     ensures { result ≡ area_by f c b.now }
 {
     match f {
-        FragmentOutcome::Short => 0,
-        FragmentOutcome::Undivided => 0,
         FragmentOutcome::First => bytes::rest(b, 2).len() as u64,
-        FragmentOutcome::Orphan => 0,
-        FragmentOutcome::Oversize => 0,
-        FragmentOutcome::Grown => grown_length(c, b),
-        FragmentOutcome::Whole => grown_length(c, b),
+        FragmentOutcome::Grown | FragmentOutcome::Whole => grown_length(c, b),
+        FragmentOutcome::Short
+        | FragmentOutcome::Undivided
+        | FragmentOutcome::Orphan
+        | FragmentOutcome::Oversize => 0,
     }
 }
 
@@ -157,15 +163,15 @@ pub(crate) fn joined_by(f: FragmentOutcome, c: Control, b: &[u8], area: u32) -> 
 {
     match f {
         FragmentOutcome::Short => joined_still(c),
-        FragmentOutcome::Undivided => None,
         FragmentOutcome::First => {
             let x = flags_in(b);
             Some(joined_with(x.long_length, x.aggregated, area))
         }
-        FragmentOutcome::Orphan => None,
-        FragmentOutcome::Oversize => None,
         FragmentOutcome::Grown => Some(joined_with(c.long_length, c.aggregated, area)),
-        FragmentOutcome::Whole => None,
+        FragmentOutcome::Undivided
+        | FragmentOutcome::Orphan
+        | FragmentOutcome::Oversize
+        | FragmentOutcome::Whole => None,
     }
 }
 
@@ -193,6 +199,7 @@ pub(crate) fn control_with(
 }
 
 // A fragment's data go to the area of its message.
+#[tactic(auto, using(crate::proofs::Fragments::first_fits, crate::proofs::Fragments::grown_fits), unfolding(crate::specs::Pushes::Fragments::laid_by))]
 pub(crate) fn put_fragment(
     messages: &mut [u8],
     i: usize,
@@ -213,11 +220,11 @@ pub(crate) fn put_fragment(
             c.length as usize,
             bytes::rest(b, 2),
         ),
-        FragmentOutcome::Short => {}
-        FragmentOutcome::Undivided => {}
-        FragmentOutcome::Orphan => {}
-        FragmentOutcome::Oversize => {}
-        FragmentOutcome::Whole => {}
+        FragmentOutcome::Short
+        | FragmentOutcome::Undivided
+        | FragmentOutcome::Orphan
+        | FragmentOutcome::Oversize
+        | FragmentOutcome::Whole => {}
     }
 }
 
@@ -241,12 +248,12 @@ pub(crate) fn fragment_counted(f: FragmentOutcome, c: Counters) -> Counters
 {
     match f {
         FragmentOutcome::Short => counted_with(c, 0, 0, 1),
-        FragmentOutcome::Undivided => counted_with(c, 0, 0, 0),
-        FragmentOutcome::First => counted_with(c, 0, 0, 0),
         FragmentOutcome::Orphan => counted_with(c, 1, 0, 0),
         FragmentOutcome::Oversize => counted_with(c, 0, 1, 0),
-        FragmentOutcome::Grown => counted_with(c, 0, 0, 0),
-        FragmentOutcome::Whole => counted_with(c, 0, 0, 0),
+        FragmentOutcome::Undivided
+        | FragmentOutcome::First
+        | FragmentOutcome::Grown
+        | FragmentOutcome::Whole => counted_with(c, 0, 0, 0),
     }
 }
 
@@ -267,6 +274,7 @@ fn blank_place() -> Control
 }
 
 // Where a control id has its place, or takes the next one.
+#[tactic(auto, using(crate::proofs::FragmentPushes::place_for_is))]
 pub(crate) fn control_place_for(s: &[u8], id: u32) -> PlaceFor
     requires { PlacesThere s.now }
     ensures { result ≡ control_place_for s.now id }
@@ -284,17 +292,18 @@ pub(crate) fn control_place_for(s: &[u8], id: u32) -> PlaceFor
 }
 
 // An id without a place has a blank one.
+#[tactic(auto, unfolding(crate::specs::Pushes::FragmentPush::place_in))]
 pub(crate) fn place_in(s: &[u8], t: PlaceFor) -> Control
     requires { PlaceForThere t }
     ensures { result ≡ place_in s.now t }
 {
-    match t {
-        PlaceFor::Own(i) => control::load_control(s, i),
-        PlaceFor::Free(i) => blank_place(),
-        PlaceFor::NoneFree => blank_place(),
-    }
+    let PlaceFor::Own(i) = t else {
+        return blank_place();
+    };
+    control::load_control(s, i)
 }
 
+#[tactic(auto, using(crate::proofs::FragmentPushes::place_for_place, crate::proofs::FragmentPushes::received_is))]
 pub(crate) fn receive(state: &[u8], id: u16, n: u32, b: &[u8]) -> ReceivedFragment
     requires { CanReceive state.now b.now }
     ensures { result ≡ received_fragment state.now (message_packet id n b.now) }
@@ -313,15 +322,7 @@ pub(crate) fn receive(state: &[u8], id: u16, n: u32, b: &[u8]) -> ReceivedFragme
 pub(crate) fn makes_whole(f: FragmentOutcome) -> bool
     ensures { result ≡ completes f }
 {
-    match f {
-        FragmentOutcome::Short => false,
-        FragmentOutcome::Undivided => true,
-        FragmentOutcome::First => false,
-        FragmentOutcome::Orphan => false,
-        FragmentOutcome::Oversize => false,
-        FragmentOutcome::Grown => false,
-        FragmentOutcome::Whole => true,
-    }
+    matches!(f, FragmentOutcome::Undivided | FragmentOutcome::Whole)
 }
 
 fn length_if(there: bool, n: u32) -> u32
@@ -379,6 +380,7 @@ fn place_next(id: u32, n: u32, c: Control, f: FragmentOutcome, b: &[u8], area: u
     control_with(id, n, j, c.mpt, length_if(c.mpt, c.mpt_length))
 }
 
+#[tactic(auto, using(crate::proofs::FragmentPushes::next_stored))]
 fn store_next(s: &mut [u8], i: usize, k: u32, d: Control, f: FragmentOutcome)
     requires { CanStoreReassembly s.old i k }
     ensures { s.new ≡ state_next i k d f s.old }
@@ -390,7 +392,7 @@ fn store_next(s: &mut [u8], i: usize, k: u32, d: Control, f: FragmentOutcome)
     store_counts(s, counters, latest);
 }
 
-// A fragment at the place i of its id; k is 1 where it is a new one. 9 where its area is too short, with nothing changed.
+// A fragment at the place i of its id; k is 1 where it is a new one. Turned down where its area is too short, with nothing changed.
 fn join_at(
     state: &mut [u8],
     messages: &mut [u8],
@@ -401,42 +403,40 @@ fn join_at(
     b: &[u8],
     c: Control,
     f: FragmentOutcome,
-) -> u8
+) -> Result<(), Refusal>
     requires { CanJoinAt state.old messages.old i k b.now }
-    ensures { JoinedAt state.old messages.old i k id n b.now c f result state.new messages.new }
+    ensures { JoinedAt state.old messages.old i k id n b.now c f (answer_number result) state.new messages.new }
 {
     let l = head::load_limits(state);
     let area = area_by(f, c, b);
     if l.message_area < area {
-        return 9;
+        return Err(Refusal::AreaTooSmall);
     }
     store_next(state, i, k, place_next(id, n, c, f, b, area as u32), f);
     put_fragment(messages, i, l.message_area as usize, f, c, b);
-    0
+    Ok(())
 }
 
-// A message packet with which no message is whole, from the place of its id and what becomes of it: 0, or the number of the
-// first question that is answered no, with nothing changed.
+// A message packet with which no message is whole, from the place of its id and what becomes of it. Turned down with nothing changed.
 pub(crate) fn push_fragment(
-    state: &mut [u8],
-    others: &[u64],
-    objects: &[u8],
-    messages: &mut [u8],
-    tables: &[u8],
+    session: &mut SessionMut<'_>,
     id: u16,
     n: u32,
     b: &[u8],
     y: ReceivedFragment,
-) -> u8
-    requires { CanJoin (lent state.old others.now objects.now messages.old tables.now) (message_packet id n b.now) y }
-    ensures { QuietPushed (lent state.old others.now objects.now messages.old tables.now) (message (message_packet id n b.now)) result (lent state.new others.now objects.now messages.new tables.now) }
+) -> Result<(), Refusal>
+    requires { CanJoin (lent_mut session.old) (message_packet id n b.now) y }
+    ensures same_buffers { SameBuffers session.old session.new }
+    ensures pushed { QuietPushed (lent_mut session.old) (message (message_packet id n b.now)) (answer_number result) (lent_mut session.new) }
 {
     let c = y.place;
     let f = y.outcome;
+    let state = &mut *session.state;
+    let messages = &mut *session.messages;
     place::octets(state);
     match y.place_for {
         PlaceFor::Own(i) => join_at(state, messages, i, 0, id as u32, n, b, c, f),
         PlaceFor::Free(i) => join_at(state, messages, i, 1, id as u32, n, b, c, f),
-        PlaceFor::NoneFree => 8,
+        PlaceFor::NoneFree => Err(Refusal::NoPlaceFree),
     }
 }

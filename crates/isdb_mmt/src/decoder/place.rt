@@ -9,6 +9,7 @@ ghost use Rattle.isdb_mmt.specs.Memory.Octets.{Octets};
 use isdb_tlv::bytes;
 use std::slice::ChunksExact;
 
+// By name, not From: what is read is a byte of a buffer.
 pub(crate) fn flag(p: &[u8], at: usize) -> bool
     ensures { result ≡ flag_at p.now at }
 {
@@ -40,6 +41,7 @@ pub(crate) fn find(s: &[u8], at: usize, size: usize, n: usize, x: u32) -> Option
     places(s, at, size, n).position(|p| word(p, 0) == x)
 }
 
+#[tactic(auto, using(crate::proofs::Names::place_for_old, crate::proofs::Names::place_for_new, crate::proofs::Names::place_for_full))]
 pub(crate) fn place_for(
     s: &[u8],
     at: usize,
@@ -53,17 +55,14 @@ pub(crate) fn place_for(
 {
     match find(s, at, size, n, x) {
         Some(i) => PlaceFor::Own(i),
-        None => {
-            if n < limit {
-                return PlaceFor::Free(n);
-            }
-            PlaceFor::NoneFree
-        }
+        None if n < limit => PlaceFor::Free(n),
+        None => PlaceFor::NoneFree,
     }
 }
 
 // Where a name is marked. Any number below 32,768 would do; this one spreads ids that follow one another and keys that differ
 // in a few bits.
+#[tactic(auto, unfolding(crate::specs::Memory::Lent::cell_of))]
 fn cell(x: u32) -> u32
     ensures { (result ≡ cell_of x) × (result < 32768) }
 {
@@ -71,6 +70,7 @@ fn cell(x: u32) -> u32
 }
 
 // The number in the 4 bytes from p on. They are there, so that they are read without a test.
+#[tactic(auto, using(crate::proofs::Lent::word_read))]
 pub(crate) fn word(s: &[u8], p: usize) -> u32
     requires { p + 4 ≤ length s.now }
     ensures { result ≡ be 4 s.now p }
@@ -80,6 +80,7 @@ pub(crate) fn word(s: &[u8], p: usize) -> u32
 }
 
 // A number stored there, likewise.
+#[tactic(auto, using(crate::proofs::Stored::long_put))]
 pub(crate) fn put_long(s: &mut [u8], p: usize, v: u64)
     requires { p + 8 ≤ length s.old }
     ensures { s.new ≡ put_be 8 p v s.old }
@@ -89,6 +90,7 @@ pub(crate) fn put_long(s: &mut [u8], p: usize, v: u64)
 }
 
 // The number in 8 bytes that are there: a balanced sum, which the compiler makes one load of wherever it stands.
+#[tactic(auto, unfolding(isdb_tlv::specs::Bytes::be))]
 pub(crate) fn long(s: &[u8], p: usize) -> u64
     requires { p + 8 ≤ length s.now }
     ensures { result ≡ be 8 s.now p }
@@ -161,6 +163,7 @@ fn few_apart(s: &[u8], at: usize, size: usize, n: usize) -> bool
 }
 
 // Whether no name stands twice. For a few names no 512 words of marks are cleared.
+#[tactic(auto, using(crate::proofs::Names::short_apart))]
 pub(crate) fn names_apart(s: &[u8], at: usize, size: usize, n: usize) -> bool
     requires { (4 ≤ size) × (at + n * size ≤ length s.now) }
     ensures { result ≡ distinct (names_from n size at s.now) }
@@ -185,6 +188,7 @@ const BLOCK: usize = 4096;
 
 // By way of an array that nothing else shares. The compiler knows then that neither copy overlaps, makes them one call of memmove, and
 // leaves the array out; of a copy from slice to slice it does not know that.
+#[tactic(auto, using(crate::proofs::Lent::lent_at))]
 fn put_block(s: &mut [u8], at: usize, b: &[u8])
     requires { (length b.now ≤ 4096) × (at + length b.now ≤ length s.old) }
     ensures { s.new ≡ over at b.now s.old }

@@ -8,7 +8,7 @@ ghost use Rattle.isdb_tlv.specs.Fields.{field, written, puts};
 ghost use Rattle.isdb_mmt.specs.Memory.Layout.{most_media_ids};
 ghost use Rattle.isdb_mmt.specs.Memory.Session.{media_place_of, media_fields, media_at};
 ghost use Rattle.isdb_mmt.specs.Memory.Check.{PlacesThere};
-ghost use Rattle.isdb_mmt.specs.Memory.Opening.{lent};
+ghost use Rattle.isdb_mmt.specs.Memory.Lending.{lent_mut, SameBuffers};
 ghost use Rattle.isdb_mmt.specs.Decoder.Packet.{media_of};
 ghost use Rattle.isdb_mmt.specs.Pushes.Push.{input};
 ghost use Rattle.isdb_mmt.specs.Pushes.Giving.{Gave};
@@ -23,6 +23,7 @@ use crate::decoder::layout::{
 use crate::decoder::media::Object;
 use crate::decoder::place::flag;
 use crate::decoder::records::ROW_SIZE;
+use crate::decoder::session::SessionMut;
 use crate::decoder::{place, records, take};
 use crate::mpu;
 use crate::mpu::{MfuHeader, PayloadHeader};
@@ -43,29 +44,15 @@ const WHOLE: u8 = 0x28;
 const MIDDLE: u8 = 0x2C;
 
 // An MPU payload starts at 15.
+#[tactic(auto, unfolding(crate::specs::Pushes::Plain::is_mpu))]
 fn is_mpu(kind: u8, b: &[u8]) -> bool
     ensures { result ≡ is_mpu kind b.now }
 {
-    if kind != 3 {
-        return false;
-    }
-    if b.len() < 15 {
-        return false;
-    }
-    if b[2] != 0x61 {
-        return false;
-    }
-    let flags = b[3];
-    if 32 <= flags {
-        return false;
-    }
-    if flags / 2 % 2 == 1 {
-        return false;
-    }
-    b[4] % 64 == 0
+    kind == 3 && 15 <= b.len() && b[2] == 0x61 && b[3] < 32 && b[3] / 2 % 2 != 1 && b[4] % 64 == 0
 }
 
 // One timed unit is all that the payload holds, under these flags.
+#[tactic(auto, unfolding(crate::specs::Pushes::Plain::is_unit))]
 fn is_unit(p: &[u8], flags: u8) -> bool
     ensures { result ≡ is_unit flags p.now }
 {
@@ -84,22 +71,18 @@ fn is_unit(p: &[u8], flags: u8) -> bool
 }
 
 // Whether packet n of an MPU is the next one of a place.
+#[tactic(auto, unfolding(crate::specs::Pushes::Plain::is_next, crate::specs::Memory::Session::media_place_of))]
 fn is_next(p: &[u8], n: u32, mpu: u32) -> bool
     ensures { result ≡ is_next (media_place_of p.now) n mpu }
 {
-    if !flag(p, 4) {
-        return false;
-    }
-    if !flag(p, 9) {
-        return false;
-    }
-    if bytes::get_u32(p, 10) != mpu {
-        return false;
-    }
-    mpu::follows_on(bytes::get_u32(p, 5), n)
+    flag(p, 4)
+        && flag(p, 9)
+        && bytes::get_u32(p, 10) == mpu
+        && mpu::follows_on(bytes::get_u32(p, 5), n)
 }
 
 // Its place, where it is.
+#[tactic(auto, using(crate::proofs::PlainTests::used_there, crate::proofs::PlainTests::places_in, crate::proofs::PlainTests::stride_fits, crate::proofs::PlainTests::place_fits))]
 fn next_place(s: &[u8], id: u16, n: u32, mpu: u32) -> Option<usize>
     requires { PlacesThere s.now }
     ensures { NextAt s.now id n mpu result }
@@ -114,16 +97,11 @@ fn next_place(s: &[u8], id: u16, n: u32, mpu: u32) -> Option<usize>
 }
 
 // Whether a place holds an object of timed units.
+#[tactic(auto, unfolding(crate::specs::Pushes::Plain::growing, crate::specs::Memory::Session::media_place_of))]
 fn grows(p: &[u8]) -> bool
     ensures { result ≡ growing (media_place_of p.now) }
 {
-    if !flag(p, HELD) {
-        return false;
-    }
-    if !flag(p, OBJECT + 5) {
-        return false;
-    }
-    !flag(p, OBJECT + 20)
+    flag(p, HELD) && flag(p, OBJECT + 5) && !flag(p, OBJECT + 20)
 }
 
 // How long the object of place i is with n bytes more, where they have room in its area.
@@ -143,6 +121,7 @@ fn grown_length(s: &[u8], i: usize, n: usize) -> Option<u32>
 }
 
 // The header of a payload for place i, where it holds no object.
+#[tactic(auto, using(crate::proofs::PlainTests::free_header))]
 fn unit_header(s: &[u8], i: usize, b: &[u8]) -> Option<PayloadHeader>
     requires { i < most_media_ids }
     ensures { FreeHeader s.now i b.now result }
@@ -154,6 +133,7 @@ fn unit_header(s: &[u8], i: usize, b: &[u8]) -> Option<PayloadHeader>
     mpu::parse_header(b)
 }
 
+#[tactic(auto, using(crate::proofs::PlainStores::raised))]
 fn raise(s: &mut [u8], at: usize)
     requires { CanRaise s.old at }
     ensures { s.new ≡ puts at (field 8 (be 8 s.old at + 1) ∷ []) s.old }
@@ -162,6 +142,7 @@ fn raise(s: &mut [u8], at: usize)
     place::put_long(s, at, n);
 }
 
+#[tactic(auto, using(crate::proofs::PlainStores::can_raise_packets, crate::proofs::PlainStores::can_raise_mfus, crate::proofs::PlainStores::stored_next))]
 fn store_next(p: &mut [u8], n: u32)
     requires { CanStoreNext p.old }
     ensures { p.new ≡ written (media_fields (next_of (media_place_of p.old) n)) }
@@ -175,6 +156,7 @@ fn store_next(p: &mut [u8], n: u32)
     raise(p, STATS + 24);
 }
 
+#[tactic(auto, using(crate::proofs::PlainStores::can_next, crate::proofs::PlainStores::can_raise_plain))]
 fn store_plain(s: &mut [u8], i: usize, n: u32)
     requires { CanStorePlain s.old i }
     ensures { s.new ≡ state_after s.old (next_of (media_at s.old i) n) (Own i) }
@@ -186,6 +168,7 @@ fn store_plain(s: &mut [u8], i: usize, n: u32)
 }
 
 // With packet n the object has k bytes.
+#[tactic(auto, using(crate::proofs::PlainStores::can_raise_grown, crate::proofs::PlainStores::stored_grown))]
 fn store_grown(p: &mut [u8], n: u32, k: u32)
     requires { CanStoreNext p.old }
     ensures { p.new ≡ written (media_fields (grown_of (media_place_of p.old) n k)) }
@@ -200,6 +183,7 @@ fn store_grown(p: &mut [u8], n: u32, k: u32)
     raise(p, STATS);
 }
 
+#[tactic(auto, using(crate::proofs::PlainStores::can_next, crate::proofs::PlainStores::can_raise_part))]
 fn store_part(s: &mut [u8], i: usize, n: u32, k: u32)
     requires { CanStorePlain s.old i }
     ensures { s.new ≡ state_after s.old (grown_of (media_at s.old i) n k) (Own i) }
@@ -221,21 +205,15 @@ fn commit_part(state: &mut [u8], objects: &mut [u8], b: &[u8], i: usize, n: u32,
     store_part(state, i, n, k);
 }
 
-// A clear payload of one middle part. What is lent beside the state and the objects is not looked at.
-fn push_part(
-    state: &mut [u8],
-    others: &[u64],
-    objects: &mut [u8],
-    messages: &[u8],
-    tables: &[u8],
-    h: Header,
-    b: &[u8],
-    rows: &[u8],
-    out: &[u8],
-) -> Plain
-    requires { CanPushUnit middle_part (lent state.old others.now objects.old messages.now tables.now) h b.now }
-    ensures { UnitPushed (lent state.old others.now objects.old messages.now tables.now) h b.now rows.now out.now result (lent state.new others.now objects.new messages.now tables.now) rows.now out.now }
+// A clear payload of one middle part. Of what is lent, the state and the objects are looked at.
+#[tactic(auto, using(crate::proofs::PlainTests::data_there, crate::proofs::PlainPushes::unit_left))]
+fn push_part(session: &mut SessionMut<'_>, h: Header, b: &[u8], rows: &[u8], out: &[u8]) -> Plain
+    requires { CanPushUnit middle_part (lent_mut session.old) h b.now }
+    ensures same_buffers { SameBuffers session.old session.new }
+    ensures pushed { UnitPushed (lent_mut session.old) h b.now rows.now out.now result (lent_mut session.new) rows.now out.now }
 {
+    let state = &mut *session.state;
+    let objects = &mut *session.objects;
     let n = bytes::get_u16(b, 0) as usize - 20;
     match next_place(state, h.packet_id, h.sequence, bytes::get_u32(b, 4)) {
         None => Plain::No,
@@ -250,6 +228,7 @@ fn push_part(
 }
 
 // The one unit that the declared bytes q hold: one record.
+#[tactic(auto, using(crate::proofs::PlainPushes::length_cast, crate::proofs::PlainPushes::data_there))]
 fn give_unit(q: &[u8], mpu: u32, id: u16, rap: bool, rows: &mut [u8], out: &mut [u8])
     requires { RoomForUnit q.now rows.old out.old }
     ensures { Gave q.now true false id mpu rap rows.old out.old rows.new out.new }
@@ -275,13 +254,9 @@ fn give_unit(q: &[u8], mpu: u32, id: u16, rap: bool, rows: &mut [u8], out: &mut 
     place::put_bytes(out, 0, d);
 }
 
-// The unit handed out, and what it leaves of the state. What is lent beside the state is not looked at.
+// The unit handed out, and what it leaves of the state.
 fn commit_unit(
-    state: &mut [u8],
-    others: &[u64],
-    objects: &[u8],
-    messages: &[u8],
-    tables: &[u8],
+    session: &mut SessionMut<'_>,
     h: Header,
     p: &[u8],
     i: usize,
@@ -289,9 +264,11 @@ fn commit_unit(
     rows: &mut [u8],
     out: &mut [u8],
 )
-    requires { WholeUnit (lent state.old others.now objects.now messages.now tables.now) h p.now rows.old out.old i x }
-    ensures { MediaPushed (lent state.old others.now objects.now messages.now tables.now) rows.old out.old (media_of h p.now) 0 1 (unit_bytes p.now) (lent state.new others.now objects.now messages.now tables.now) rows.new out.new }
+    requires { WholeUnit (lent_mut session.old) h p.now rows.old out.old i x }
+    ensures same_buffers { SameBuffers session.old session.new }
+    ensures pushed { MediaPushed (lent_mut session.old) rows.old out.old (media_of h p.now) 0 1 (unit_bytes p.now) (lent_mut session.new) rows.new out.new }
 {
+    let state = &mut *session.state;
     give_unit(
         mpu::declared(p),
         x.mpu_sequence_number,
@@ -303,20 +280,18 @@ fn commit_unit(
     store_plain(state, i, h.sequence);
 }
 
-// A clear payload of one whole timed unit. What is lent beside the state is not looked at.
+// A clear payload of one whole timed unit. Of what is lent, the state is looked at.
+#[tactic(auto, using(crate::proofs::PlainTests::data_there, crate::proofs::PlainTests::next_index, crate::proofs::PlainPushes::unit_left, crate::proofs::PlainPushes::whole_unit_lem, crate::proofs::PlainPushes::unit_told_lem))]
 fn push_unit(
-    state: &mut [u8],
-    others: &[u64],
-    objects: &[u8],
-    messages: &[u8],
-    tables: &[u8],
+    session: &mut SessionMut<'_>,
     h: Header,
     p: &[u8],
     rows: &mut [u8],
     out: &mut [u8],
 ) -> Plain
-    requires { CanPushUnit whole_unit (lent state.old others.now objects.now messages.now tables.now) h p.now }
-    ensures { UnitPushed (lent state.old others.now objects.now messages.now tables.now) h p.now rows.old out.old result (lent state.new others.now objects.now messages.now tables.now) rows.new out.new }
+    requires { CanPushUnit whole_unit (lent_mut session.old) h p.now }
+    ensures same_buffers { SameBuffers session.old session.new }
+    ensures pushed { UnitPushed (lent_mut session.old) h p.now rows.old out.old result (lent_mut session.new) rows.new out.new }
 {
     if rows.len() < ROW_SIZE {
         return Plain::No;
@@ -325,14 +300,13 @@ fn push_unit(
     if out.len() < n {
         return Plain::No;
     }
+    let state = &mut *session.state;
     match next_place(state, h.packet_id, h.sequence, bytes::get_u32(p, 4)) {
         None => Plain::No,
         Some(i) => match unit_header(state, i, p) {
             None => Plain::No,
             Some(x) => {
-                commit_unit(
-                    state, others, objects, messages, tables, h, p, i, x, rows, out,
-                );
+                commit_unit(session, h, p, i, x, rows, out);
                 Plain::Yes(n)
             }
         },
@@ -356,19 +330,17 @@ fn header_in(b: &[u8]) -> Header
 }
 
 // A packet, question 5 answered yes.
+#[tactic(auto, using(crate::proofs::PlainPushes::plain_left, crate::proofs::PlainPushes::long_packet, crate::proofs::PlainPushes::can_unit, crate::proofs::PlainPushes::plain_pushed))]
 pub(crate) fn push_plain(
-    state: &mut [u8],
-    others: &[u64],
-    objects: &mut [u8],
-    messages: &[u8],
-    tables: &[u8],
+    session: &mut SessionMut<'_>,
     kind: u8,
     b: &[u8],
     rows: &mut [u8],
     out: &mut [u8],
 ) -> Plain
-    requires { CanTryPlain (lent state.old others.now objects.old messages.now tables.now) }
-    ensures { PlainPushed (lent state.old others.now objects.old messages.now tables.now) (input kind b.now rows.old out.old) result (lent state.new others.now objects.new messages.now tables.now) rows.new out.new }
+    requires { CanTryPlain (lent_mut session.old) }
+    ensures same_buffers { SameBuffers session.old session.new }
+    ensures pushed { PlainPushed (lent_mut session.old) (input kind b.now rows.old out.old) result (lent_mut session.new) rows.new out.new }
 {
     if !is_mpu(kind, b) {
         return Plain::No;
@@ -377,16 +349,17 @@ pub(crate) fn push_plain(
         return Plain::No;
     }
     let p = bytes::rest(b, 15);
+    let state = &mut *session.state;
     if !take::may_take(state) {
         return Plain::No;
     }
     place::octets(b);
     let h = header_in(b);
     if is_unit(p, WHOLE) {
-        return push_unit(state, others, objects, messages, tables, h, p, rows, out);
+        return push_unit(session, h, p, rows, out);
     }
     if is_unit(p, MIDDLE) {
-        return push_part(state, others, objects, messages, tables, h, p, rows, out);
+        return push_part(session, h, p, rows, out);
     }
     Plain::No
 }

@@ -1,10 +1,13 @@
 // A control packet: its sections are walked over on copies, then committed, or nothing is changed.
-ghost use Rattle.isdb_mmt.specs.Memory.Opening.{lent};
+ghost use Rattle.isdb_mmt.specs.Memory.Lending.{lent_mut, SameBuffers};
+ghost use Rattle.isdb_mmt.specs.Memory.Refusals.{answer_number};
 ghost use Rattle.isdb_mmt.specs.Pushes.Push.{CanTakePacket, QuietPushed};
 ghost use Rattle.isdb_mmt.specs.Pushes.Start.{signal_of, CopiesLent, CanLeave, SectionsLeft};
 
 use crate::decoder::counts::Counters;
 use crate::decoder::head::Used;
+use crate::decoder::refusal::Refusal;
+use crate::decoder::session::SessionMut;
 use crate::decoder::walk::WalkState;
 use crate::decoder::{commit, counted, counts, head, start, walk};
 use isdb_tlv::bytes;
@@ -45,49 +48,38 @@ fn leave(
 }
 
 fn push_on(
-    state: &mut [u8],
-    others: &mut [u64],
-    objects: &[u8],
-    messages: &[u8],
-    tables: &mut [u8],
+    session: &mut SessionMut<'_>,
     ix: &mut [u8],
     log: &mut [u64],
     mine: &mut [u64],
     b: &[u8],
-) -> u8
-    requires { CanTakePacket (lent state.old others.old objects.now messages.now tables.old) b.now × CopiesLent ix.old log.old mine.old }
-    ensures { QuietPushed (lent state.old others.old objects.now messages.now tables.old) (signal_of b.now) result (lent state.new others.new objects.now messages.now tables.new) }
+) -> Result<(), Refusal>
+    requires { CanTakePacket (lent_mut session.old) b.now × CopiesLent ix.old log.old mine.old }
+    ensures same_buffers { SameBuffers session.old session.new }
+    ensures pushed { QuietPushed (lent_mut session.old) (signal_of b.now) (answer_number result) (lent_mut session.new) }
 {
+    let state = &mut *session.state;
+    let others = &mut *session.others;
+    let tables = &mut *session.tables;
     let c = counted::packet_counted(counts::counters_of(state), 0, 0, 0);
     start::load_index(ix, state);
     log.fill(0);
     mine.copy_from_slice(others);
     let first = start::walk_start(state, tables, c, None);
     let g = walk::sections(ix, log, mine, first, b);
-    let n = start::tables_ask(head::load_limits(state), g);
-    if n != 0 {
-        return n;
-    }
+    start::tables_ask(head::load_limits(state), g)?;
     leave(state, others, tables, ix, log, mine, c, g, b);
-    0
+    Ok(())
 }
 
-// A control packet, questions 5 to 7 answered: 0, or the number of the question that it fails, with nothing changed.
-pub(crate) fn push_control(
-    state: &mut [u8],
-    others: &mut [u64],
-    objects: &[u8],
-    messages: &[u8],
-    tables: &mut [u8],
-    b: &[u8],
-) -> u8
-    requires { CanTakePacket (lent state.old others.old objects.now messages.now tables.old) b.now }
-    ensures { QuietPushed (lent state.old others.old objects.now messages.now tables.old) (signal_of b.now) result (lent state.new others.new objects.now messages.now tables.new) }
+// A control packet, questions 5 to 7 answered. Turned down with nothing changed.
+pub(crate) fn push_control(session: &mut SessionMut<'_>, b: &[u8]) -> Result<(), Refusal>
+    requires { CanTakePacket (lent_mut session.old) b.now }
+    ensures same_buffers { SameBuffers session.old session.new }
+    ensures pushed { QuietPushed (lent_mut session.old) (signal_of b.now) (answer_number result) (lent_mut session.new) }
 {
     let mut ix = [0u8; 4608];
     let mut log = [0u64; 512];
     let mut mine = [0u64; 256];
-    push_on(
-        state, others, objects, messages, tables, &mut ix, &mut log, &mut mine, b,
-    )
+    push_on(session, &mut ix, &mut log, &mut mine, b)
 }

@@ -9,7 +9,9 @@ ghost use Rattle.isdb_mmt.specs.Formats.Mpu.{units_of};
 ghost use Rattle.isdb_mmt.specs.Memory.Layout.{most_media_ids, media_places, media_size, state_size};
 ghost use Rattle.isdb_mmt.specs.Memory.Lent.{part, over};
 ghost use Rattle.isdb_mmt.specs.Memory.Session.{media_fields};
-ghost use Rattle.isdb_mmt.specs.Memory.Opening.{lent};
+ghost use Rattle.isdb_mmt.specs.Memory.Lending.{lent_mut, SameBuffers};
+ghost use Rattle.isdb_mmt.specs.Memory.Refusals.{answer_number};
+ghost use Rattle.isdb_mmt.specs.Pushes.Answer.{answered};
 ghost use Rattle.isdb_mmt.specs.Pushes.MediaEffect.{unit_object, object_or, with_length};
 ghost use Rattle.isdb_mmt.specs.Pushes.MediaPlace.{start_of};
 ghost use Rattle.isdb_mmt.specs.Pushes.MediaPush.{one_more_of, with_used, with_packets, media_place_for, MediaPushed};
@@ -22,15 +24,19 @@ use crate::decoder::limits::Limits;
 use crate::decoder::media::Media;
 use crate::decoder::place::PlaceFor;
 use crate::decoder::reassembler::{MediaEffect, MediaOutcome};
-use crate::decoder::records::{Answer, ROW_SIZE};
+use crate::decoder::records::{HandedOut, ROW_SIZE};
+use crate::decoder::refusal::Refusal;
+use crate::decoder::session::SessionMut;
 use crate::decoder::{head, media, place, reassembler, records};
 use crate::mpu;
-use crate::mpu::{FragmentationIndicator, PayloadHeader, Unit, UnitStep};
+use crate::mpu::{FragmentationIndicator, PayloadHeader, Unit};
 use crate::part::Part;
+use crate::walk_step::WalkStep;
 use isdb_tlv::bytes;
 use isdb_tlv::mmtp::Header;
 
 // The place of a media id.
+#[tactic(auto, using(crate::proofs::Checks::media_within), unfolding(crate::specs::Pushes::MediaPush::media_place_for))]
 fn media_place_for(s: &[u8], l: Limits, id: u16) -> PlaceFor
     requires { CanTakePlace s.now l }
     ensures { result ≡ media_place_for s.now id }
@@ -75,6 +81,7 @@ fn blank_media() -> Media
 }
 
 // The place that a packet starts from.
+#[tactic(auto, unfolding(crate::specs::Pushes::MediaCommit::place_in))]
 fn place_in(s: &[u8], place_for: PlaceFor) -> Media
     requires { index_of place_for < most_media_ids }
     ensures { result ≡ place_in s.now place_for }
@@ -97,52 +104,48 @@ fn index_of(place_for: PlaceFor) -> usize
 }
 
 // Whether a payload is passed on, scrambled as it is.
+#[tactic(auto, unfolding(crate::specs::Pushes::MediaCommit::passes_on))]
 fn passes_on(pass: bool, scrambled: bool, h: Option<PayloadHeader>) -> bool
     ensures { result ≡ passes_on pass scrambled h }
 {
-    match h {
-        None => false,
-        Some(x) => {
-            if pass {
-                return scrambled;
-            }
-            false
-        }
-    }
+    h.is_some() && pass && scrambled
 }
 
 // The bytes that are passed on of n: all but the first 8.
 fn passed_bytes(passed: bool, n: u64) -> u64
     ensures { result ≡ (if passed then n - 8 else 0) }
 {
-    if passed {
-        if n < 8 {
-            return 0;
-        }
-        return n - 8;
-    }
-    0
+    if passed { n.saturating_sub(8) } else { 0 }
 }
 
 // Questions 9 and 10.
-fn fits_number(area: u64, longest: u64, rows: u64, given: u64, records: u64, bytes: u64) -> u8
+#[tactic(auto, unfolding(crate::specs::Pushes::MediaCommit::fits_number))]
+fn fits(
+    area: u64,
+    longest: u64,
+    rows: u64,
+    given: u64,
+    records: u64,
+    bytes: u64,
+) -> Result<(), Refusal>
     requires { records ≤ 65538 }
-    ensures { result ≡ fits_number area longest rows given records bytes }
+    ensures { answer_number result ≡ fits_number area longest rows given records bytes }
 {
     if area < longest {
-        return 9;
+        return Err(Refusal::AreaTooSmall);
     }
     if rows < ROW_SIZE as u64 * records {
-        return 10;
+        return Err(Refusal::OutputTooSmall);
     }
     if given < bytes {
-        return 10;
+        return Err(Refusal::OutputTooSmall);
     }
-    0
+    Ok(())
 }
 
-// The number of the first question of 8 to 10 that is answered no, or 0.
-fn number_of(
+// Questions 8 to 10.
+#[tactic(auto, unfolding(crate::specs::Pushes::MediaCommit::number_of))]
+fn ask(
     place_for: PlaceFor,
     area: u64,
     longest: u64,
@@ -150,18 +153,19 @@ fn number_of(
     given: u64,
     records: u64,
     bytes: u64,
-) -> u8
+) -> Result<(), Refusal>
     requires { records ≤ 65538 }
-    ensures { result ≡ number_of place_for area longest rows given records bytes }
+    ensures { answer_number result ≡ number_of place_for area longest rows given records bytes }
 {
     match place_for {
-        PlaceFor::NoneFree => 8,
-        PlaceFor::Own(i) => fits_number(area, longest, rows, given, records, bytes),
-        PlaceFor::Free(i) => fits_number(area, longest, rows, given, records, bytes),
+        PlaceFor::NoneFree => Err(Refusal::NoPlaceFree),
+        PlaceFor::Own(i) => fits(area, longest, rows, given, records, bytes),
+        PlaceFor::Free(i) => fits(area, longest, rows, given, records, bytes),
     }
 }
 
 // From the limits and the outcome of a payload of n bytes.
+#[tactic(auto, using(crate::proofs::Answers::add_records, crate::proofs::Answers::add_bytes, crate::proofs::Answers::few_records, crate::proofs::Answers::answer_yes, crate::proofs::Answers::answer_no, crate::proofs::Refusals::refusal_some))]
 fn answer_of(
     place_for: PlaceFor,
     l: Limits,
@@ -170,25 +174,23 @@ fn answer_of(
     n: u64,
     rows: u64,
     given: u64,
-) -> Answer
+) -> Result<HandedOut, Refusal>
     requires { Small r.units × (n ≤ 65535) }
-    ensures { result ≡ answer_of place_for l scrambled r n rows given }
+    ensures { answered result ≡ answer_of place_for l scrambled r n rows given }
 {
     let t = r.units;
     let k = r.header;
     let passed = passes_on(l.pass_scrambled, scrambled, k);
     let records = u64::from(passed) + t.records;
     let bytes = passed_bytes(passed, n) + t.bytes;
-    let number = number_of(
+    ask(
         place_for, l.mfu_area, t.longest, rows, given, records, bytes,
-    );
-    if number == 0 {
-        return records::accepted(records, bytes);
-    }
-    records::refused(number)
+    )?;
+    records::accepted(records, bytes)
 }
 
 // Where the place is there already.
+#[tactic(auto, using(crate::proofs::MediaStores::stored_old))]
 pub(crate) fn store_old(s: &mut [u8], i: usize, m: Media, packets: u64)
     requires { (i < most_media_ids) × (state_size ≤ length s.old) }
     ensures { s.new ≡ with_packets packets (over (media_places + media_size * i) (written (media_fields m)) s.old) }
@@ -198,6 +200,7 @@ pub(crate) fn store_old(s: &mut [u8], i: usize, m: Media, packets: u64)
 }
 
 // Where it is a new one.
+#[tactic(auto, using(crate::proofs::MediaStores::stored_new))]
 pub(crate) fn store_new(s: &mut [u8], i: usize, m: Media, u: Used, packets: u64)
     requires { (i < most_media_ids) × (state_size ≤ length s.old) }
     ensures { s.new ≡ with_packets packets (with_used u (over (media_places + media_size * i) (written (media_fields m)) s.old)) }
@@ -218,6 +221,7 @@ fn one_more(u: Used) -> Used
 }
 
 // The place after a packet, and one packet more.
+#[tactic(auto, unfolding(crate::specs::Pushes::MediaCommit::state_after, crate::specs::Memory::Session::counters_of))]
 fn store_place(s: &mut [u8], place_for: PlaceFor, m: Media)
     requires { CanStore s.old place_for }
     ensures { s.new ≡ state_after s.old m place_for }
@@ -240,11 +244,12 @@ fn append_units(s: &mut [u8], from: usize, q: &[u8], timed: bool, aggregated: bo
 {
     let mut at: usize = 8;
     let mut k = from;
+    // No iterator: of a step's three cases two end the walk, and where to go on is known once the unit is read.
     loop {
         match mpu::next_unit(q, timed, aggregated, at) {
-            UnitStep::End => return,
-            UnitStep::Malformed => return,
-            UnitStep::Unit(u, next) => {
+            WalkStep::End => return,
+            WalkStep::Malformed => return,
+            WalkStep::Entry(u, next) => {
                 let b = u.data.of(q);
                 place::put_in_area(s, 0, 0, k, b);
                 k += b.len();
@@ -255,6 +260,7 @@ fn append_units(s: &mut [u8], from: usize, q: &[u8], timed: bool, aggregated: bo
 }
 
 // The end of the held object: one record.
+#[tactic(auto, using(crate::proofs::MediaCommits::can_end, crate::proofs::MediaCommits::end_is))]
 fn end_object(
     objects: &[u8],
     at: usize,
@@ -281,6 +287,7 @@ fn end_object(
 }
 
 // A scrambled payload as it is, from byte 8 to its end: one record.
+#[tactic(auto, using(crate::proofs::MediaCommits::can_pass, crate::proofs::MediaCommits::pass_is))]
 fn pass_on(mpu: u32, h: Header, b: &[u8], rows: &mut [u8], out: &mut [u8])
     requires { CanPass b.now rows.old out.old }
     ensures { OnePut h.packet_id true (unit_object mpu h.rap (passed_unit (length b.now)) (length b.now - 8)) (drop 8 b.now) [] rows.old out.old rows.new out.new }
@@ -380,6 +387,7 @@ fn commit(
 }
 
 // And what it leaves in the state.
+#[tactic(auto, using(crate::proofs::MediaPushes::all_place, crate::proofs::MediaPushes::all_can, crate::proofs::MediaPushes::all_done))]
 fn commit_all(
     state: &mut [u8],
     objects: &mut [u8],
@@ -409,21 +417,21 @@ fn commit_all(
     store_place(state, place_for, m);
 }
 
-// A media packet with the MMTP header h and the payload b. What is lent beside the state and the objects is not looked at.
+// A media packet with the MMTP header h and the payload b. Of what is lent, the state and the objects are looked at.
+#[tactic(auto, using(crate::proofs::MediaPushes::push_place_for, crate::proofs::MediaPushes::push_index, crate::proofs::MediaPushes::push_outcome, crate::proofs::MediaPushes::pushed_no, crate::proofs::Refusals::err_number))]
 pub(crate) fn push_media(
-    state: &mut [u8],
-    others: &[u64],
-    objects: &mut [u8],
-    messages: &[u8],
-    tables: &[u8],
+    session: &mut SessionMut<'_>,
     h: Header,
     b: &[u8],
     rows: &mut [u8],
     out: &mut [u8],
-) -> Answer
-    requires { CanPushMedia (lent state.old others.now objects.old messages.now tables.now) b.now }
-    ensures { MediaPushed (lent state.old others.now objects.old messages.now tables.now) rows.old out.old (media_of h b.now) result.number result.records result.bytes (lent state.new others.now objects.new messages.now tables.now) rows.new out.new }
+) -> Result<HandedOut, Refusal>
+    requires { CanPushMedia (lent_mut session.old) b.now }
+    ensures same_buffers { SameBuffers session.old session.new }
+    ensures pushed { MediaPushed (lent_mut session.old) rows.old out.old (media_of h b.now) (answered result).number (answered result).records (answered result).bytes (lent_mut session.new) rows.new out.new }
 {
+    let state = &mut *session.state;
+    let objects = &mut *session.objects;
     let l = head::load_limits(state);
     let place_for = media_place_for(state, l, h.packet_id);
     let p = place_in(state, place_for);
@@ -437,8 +445,7 @@ pub(crate) fn push_media(
         rows.len() as u64,
         out.len() as u64,
     );
-    let taken = a.number == 0;
-    if taken {
+    if a.is_ok() {
         commit_all(state, objects, l, place_for, p, r, h, b, rows, out);
     }
     a

@@ -3,7 +3,8 @@ ghost use Rattle.std.specs.Prelude.{◌≡◌, ◌+◌, ◌*◌, ◌≤◌, leng
 ghost use Rattle.isdb_mmt.specs.Memory.Lent.{part};
 ghost use Rattle.isdb_mmt.specs.Pushes.WholeMessage.{is_last, before_by, long_by, aggregated_by, join_by, held_in, WalkedWhole, CanWalkWhole, whole_ask, state_left, CanLeaveState, place_for_at, CanPushAt, CanPushWhole};
 ghost use Rattle.isdb_mmt.specs.Decoder.Packet.{message_packet, message};
-ghost use Rattle.isdb_mmt.specs.Memory.Opening.{lent};
+ghost use Rattle.isdb_mmt.specs.Memory.Lending.{lent_mut, SameBuffers};
+ghost use Rattle.isdb_mmt.specs.Memory.Refusals.{answer_number};
 ghost use Rattle.isdb_mmt.specs.Pushes.Push.{CanTakePacket, QuietPushed};
 
 use crate::decoder::control::Control;
@@ -13,6 +14,8 @@ use crate::decoder::layout::{SECTION_PLACES, SECTION_SIZE};
 use crate::decoder::limits::Limits;
 use crate::decoder::messages::{FragmentOutcome, ReceivedFragment};
 use crate::decoder::place::PlaceFor;
+use crate::decoder::refusal::Refusal;
+use crate::decoder::session::SessionMut;
 use crate::decoder::walk::WalkState;
 use crate::decoder::{commit, counts, head, messages, place, start, walk};
 use isdb_tlv::bytes;
@@ -21,15 +24,7 @@ use isdb_tlv::bytes;
 fn is_last(f: FragmentOutcome) -> bool
     ensures { result ≡ is_last f }
 {
-    match f {
-        FragmentOutcome::Short => false,
-        FragmentOutcome::Undivided => false,
-        FragmentOutcome::First => false,
-        FragmentOutcome::Orphan => false,
-        FragmentOutcome::Oversize => false,
-        FragmentOutcome::Grown => false,
-        FragmentOutcome::Whole => true,
-    }
+    matches!(f, FragmentOutcome::Whole)
 }
 
 // What was joined before the packet, which lies in area i.
@@ -38,29 +33,30 @@ fn before_by(joined: &[u8], i: usize, area: usize, c: Control, last: bool) -> &[
     ensures { result.now ≡ before_by last (part (i * area) c.length joined.now) }
 {
     if last {
-        return place::in_area(joined, i, area, c.length as usize);
+        place::in_area(joined, i, area, c.length as usize)
+    } else {
+        bytes::part(joined, 0, 0)
     }
-    bytes::part(joined, 0, 0)
 }
 
 fn long_by(last: bool, c: Control, b: &[u8]) -> bool
     ensures { result ≡ long_by last c b.now }
 {
     if last {
-        return c.long_length;
+        c.long_length
+    } else {
+        messages::flags_in(b).long_length
     }
-    let x = messages::flags_in(b);
-    x.long_length
 }
 
 fn aggregated_by(last: bool, c: Control, b: &[u8]) -> bool
     ensures { result ≡ aggregated_by last c b.now }
 {
     if last {
-        return c.aggregated;
+        c.aggregated
+    } else {
+        messages::flags_in(b).aggregated
     }
-    let x = messages::flags_in(b);
-    x.aggregated
 }
 
 // The walk over the tables of the message, on the copies.
@@ -95,17 +91,15 @@ fn walk_whole(
 }
 
 // The questions, in their order: places, the message's area, the tables' areas.
-fn whole_ask(l: Limits, area: u64, g: WalkState) -> u8
-    ensures { result ≡ whole_ask l area g }
+#[tactic(auto, using(crate::proofs::WholePush::whole_no, crate::proofs::Refusals::refusal_some), unfolding(crate::specs::Pushes::WholeMessage::whole_ask))]
+fn whole_ask(l: Limits, area: u64, g: WalkState) -> Result<(), Refusal>
+    ensures { answer_number result ≡ whole_ask l area g }
 {
-    let n = start::tables_ask(l, g);
-    if n == 8 {
-        return 8;
-    }
+    start::tables_ask(l, g)?;
     if l.message_area < area {
-        return 9;
+        return Err(Refusal::AreaTooSmall);
     }
-    n
+    Ok(())
 }
 
 fn leave_state(
@@ -138,11 +132,7 @@ fn leave_state(
 
 // At the place i of the packet's id; k is 1 where it is a new one.
 fn whole_at(
-    state: &mut [u8],
-    others: &mut [u64],
-    objects: &[u8],
-    joined: &[u8],
-    tables: &mut [u8],
+    session: &mut SessionMut<'_>,
     ix: &mut [u8],
     log: &mut [u64],
     mine: &mut [u64],
@@ -152,10 +142,15 @@ fn whole_at(
     y: ReceivedFragment,
     i: usize,
     k: u32,
-) -> u8
-    requires { CanPushAt (lent state.old others.old objects.now joined.now tables.old) (message_packet id n b.now) y i k ix.old log.old mine.old }
-    ensures { QuietPushed (lent state.old others.old objects.now joined.now tables.old) (message (message_packet id n b.now)) result (lent state.new others.new objects.now joined.now tables.new) }
+) -> Result<(), Refusal>
+    requires { CanPushAt (lent_mut session.old) (message_packet id n b.now) y i k ix.old log.old mine.old }
+    ensures same_buffers { SameBuffers session.old session.new }
+    ensures pushed { QuietPushed (lent_mut session.old) (message (message_packet id n b.now)) (answer_number result) (lent_mut session.new) }
 {
+    let state = &mut *session.state;
+    let others = &mut *session.others;
+    let joined = &mut *session.messages;
+    let tables = &mut *session.tables;
     let c = y.place;
     let f = y.outcome;
     let l = head::load_limits(state);
@@ -164,10 +159,7 @@ fn whole_at(
     let g = walk_whole(
         state, others, joined, tables, ix, log, mine, i, c, last, cs, b,
     );
-    let x = whole_ask(l, messages::area_by(f, c, b), g);
-    if x != 0 {
-        return x;
-    }
+    whole_ask(l, messages::area_by(f, c, b), g)?;
     let mpt = g.mpt;
     let length = start::recent_length(mpt);
     let d = messages::control_with(id as u32, n, None, mpt.is_some(), length);
@@ -175,74 +167,64 @@ fn whole_at(
     commit::store_areas(tables, ix, log, g, l, i, a, bytes::rest(b, 2));
     others.copy_from_slice(mine);
     leave_state(state, ix, i, k, d, cs, g);
-    0
+    Ok(())
 }
 
 // The same, with the copies that the walk goes over.
 fn whole_in(
-    state: &mut [u8],
-    others: &mut [u64],
-    objects: &[u8],
-    joined: &[u8],
-    tables: &mut [u8],
+    session: &mut SessionMut<'_>,
     id: u16,
     n: u32,
     b: &[u8],
     y: ReceivedFragment,
     i: usize,
     k: u32,
-) -> u8
-    requires { CanPushWhole (lent state.old others.old objects.now joined.now tables.old) (message_packet id n b.now) y × ((y.place_for ≡ place_for_at i k) × (k ≤ 1)) }
-    ensures { QuietPushed (lent state.old others.old objects.now joined.now tables.old) (message (message_packet id n b.now)) result (lent state.new others.new objects.now joined.now tables.new) }
+) -> Result<(), Refusal>
+    requires { CanPushWhole (lent_mut session.old) (message_packet id n b.now) y × ((y.place_for ≡ place_for_at i k) × (k ≤ 1)) }
+    ensures same_buffers { SameBuffers session.old session.new }
+    ensures pushed { QuietPushed (lent_mut session.old) (message (message_packet id n b.now)) (answer_number result) (lent_mut session.new) }
 {
     let mut ix = [0u8; 4608];
     let mut log = [0u64; 512];
     let mut mine = [0u64; 256];
-    whole_at(
-        state, others, objects, joined, tables, &mut ix, &mut log, &mut mine, id, n, b, y, i, k,
-    )
+    whole_at(session, &mut ix, &mut log, &mut mine, id, n, b, y, i, k)
 }
 
-// A message packet with which a message is whole, from the place of its id and what becomes of it: 0, or the number of the
-// first question that is answered no, with nothing changed.
+// A message packet with which a message is whole, from the place of its id and what becomes of it. Turned down with nothing changed.
+#[tactic(auto, using(crate::proofs::WholeLaws::whole_full))]
 fn push_whole(
-    state: &mut [u8],
-    others: &mut [u64],
-    objects: &[u8],
-    joined: &[u8],
-    tables: &mut [u8],
+    session: &mut SessionMut<'_>,
     id: u16,
     n: u32,
     b: &[u8],
     y: ReceivedFragment,
-) -> u8
-    requires { CanPushWhole (lent state.old others.old objects.now joined.now tables.old) (message_packet id n b.now) y }
-    ensures { QuietPushed (lent state.old others.old objects.now joined.now tables.old) (message (message_packet id n b.now)) result (lent state.new others.new objects.now joined.now tables.new) }
+) -> Result<(), Refusal>
+    requires { CanPushWhole (lent_mut session.old) (message_packet id n b.now) y }
+    ensures same_buffers { SameBuffers session.old session.new }
+    ensures pushed { QuietPushed (lent_mut session.old) (message (message_packet id n b.now)) (answer_number result) (lent_mut session.new) }
 {
     match y.place_for {
-        PlaceFor::Own(i) => whole_in(state, others, objects, joined, tables, id, n, b, y, i, 0),
-        PlaceFor::Free(i) => whole_in(state, others, objects, joined, tables, id, n, b, y, i, 1),
-        PlaceFor::NoneFree => 8,
+        PlaceFor::Own(i) => whole_in(session, id, n, b, y, i, 0),
+        PlaceFor::Free(i) => whole_in(session, id, n, b, y, i, 1),
+        PlaceFor::NoneFree => Err(Refusal::NoPlaceFree),
     }
 }
 
-// A message packet, questions 5 to 7 answered: 0, or the number of the question that it fails, with nothing changed.
+// A message packet, questions 5 to 7 answered. Turned down with nothing changed.
 pub(crate) fn push_message(
-    state: &mut [u8],
-    others: &mut [u64],
-    objects: &[u8],
-    joined: &mut [u8],
-    tables: &mut [u8],
+    session: &mut SessionMut<'_>,
     id: u16,
     n: u32,
     b: &[u8],
-) -> u8
-    requires { CanTakePacket (lent state.old others.old objects.now joined.old tables.old) b.now }
-    ensures { QuietPushed (lent state.old others.old objects.now joined.old tables.old) (message (message_packet id n b.now)) result (lent state.new others.new objects.now joined.new tables.new) }
+) -> Result<(), Refusal>
+    requires { CanTakePacket (lent_mut session.old) b.now }
+    ensures same_buffers { SameBuffers session.old session.new }
+    ensures pushed { QuietPushed (lent_mut session.old) (message (message_packet id n b.now)) (answer_number result) (lent_mut session.new) }
 {
+    let state = &mut *session.state;
     let y = messages::receive(state, id, n, b);
     if messages::makes_whole(y.outcome) {
-        return push_whole(state, others, objects, joined, tables, id, n, b, y);
+        return push_whole(session, id, n, b, y);
     }
-    messages::push_fragment(state, others, objects, joined, tables, id, n, b, y)
+    messages::push_fragment(session, id, n, b, y)
 }

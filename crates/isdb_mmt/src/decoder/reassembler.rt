@@ -1,5 +1,5 @@
 // A media packet's units and its place: what the packet needs is found by a walk that writes nothing.
-ghost use Rattle.std.specs.Prelude.{◌≡◌, ◌+◌, ◌<◌, max, ◌&&◌, length};
+ghost use Rattle.std.specs.Prelude.{◌≡◌, ◌+◌, ◌<◌, length};
 ghost use Rattle.isdb_mmt.specs.Formats.Mpu.{units_of};
 ghost use Rattle.isdb_mmt.specs.Memory.Layout.{most_count};
 ghost use Rattle.isdb_mmt.specs.Pushes.MediaPush.{no_object};
@@ -10,8 +10,9 @@ ghost use Rattle.isdb_mmt.specs.Pushes.MediaOutcome.{outcome_with, units_outcome
 use crate::decoder::counts::AssetStats;
 use crate::decoder::media::{Media, Object};
 use crate::mpu;
-use crate::mpu::{FragmentType, FragmentationIndicator, MfuHeader, PayloadHeader, Unit, UnitStep};
+use crate::mpu::{FragmentType, FragmentationIndicator, MfuHeader, PayloadHeader, Unit};
 use crate::part::Part;
+use crate::walk_step::WalkStep;
 
 // What the units do: the object held after them, how many are dropped, the records and data given out, the longest object held
 // on the way, and the data of the last unit.
@@ -25,24 +26,14 @@ pub(crate) struct MediaEffect {
     pub last: Part,
 }
 
-fn larger(a: u64, b: u64) -> u64
-    ensures { result ≡ max a b }
-{
-    if a < b {
-        return b;
-    }
-    a
-}
-
 pub(crate) fn no_object() -> Object
     ensures { result ≡ no_object }
 {
-    let header = mpu::NO_HEADER;
     Object {
         mpu_sequence_number: 0,
         rap: false,
         timed: false,
-        header,
+        header: mpu::NO_HEADER,
         item: false,
         item_id: 0,
         length: 0,
@@ -50,19 +41,17 @@ pub(crate) fn no_object() -> Object
 }
 
 // What is known of the object that a unit begins.
+#[tactic(auto, unfolding(crate::specs::Pushes::MediaEffect::unit_object))]
 pub(crate) fn unit_object(mpu: u32, rap: bool, u: Unit, n: u32) -> Object
     ensures { result ≡ unit_object mpu rap u n }
 {
-    let m = u.mfu;
-    let i = u.item_id;
-    let header = m.unwrap_or(mpu::NO_HEADER);
     Object {
         mpu_sequence_number: mpu,
         rap,
-        timed: m.is_some(),
-        header,
-        item: i.is_some(),
-        item_id: i.unwrap_or(0),
+        timed: u.mfu.is_some(),
+        header: u.mfu.unwrap_or(mpu::NO_HEADER),
+        item: u.item_id.is_some(),
+        item_id: u.item_id.unwrap_or(0),
         length: n,
     }
 }
@@ -90,8 +79,8 @@ fn complete_unit(t: MediaEffect, p: Part, n: u64) -> MediaEffect
         drops: t.drops + u64::from(t.object.is_some()),
         records: t.records + 1,
         bytes: t.bytes + n,
-        longest: t.longest,
         last: p,
+        ..t
     }
 }
 
@@ -103,7 +92,7 @@ fn head_unit(t: MediaEffect, o: Object, p: Part, n: u64) -> MediaEffect
     MediaEffect {
         object: Some(o),
         drops: t.drops + u64::from(t.object.is_some()),
-        longest: larger(t.longest, n),
+        longest: t.longest.max(n),
         last: p,
         ..t
     }
@@ -130,16 +119,16 @@ fn grown_to(ends: bool, o: Object, t: MediaEffect, p: Part, n: u64) -> MediaEffe
     if ends {
         return MediaEffect {
             object: None,
-            drops: t.drops,
             records: t.records + 1,
             bytes: t.bytes + n,
-            longest: larger(t.longest, n),
+            longest: t.longest.max(n),
             last: p,
+            ..t
         };
     }
     MediaEffect {
         object: Some(with_length(n as u32, o)),
-        longest: larger(t.longest, n),
+        longest: t.longest.max(n),
         last: p,
         ..t
     }
@@ -163,6 +152,7 @@ fn grown_unit(ends: bool, t: MediaEffect, p: Part, n: u64) -> MediaEffect
     dropped_unit(t, p)
 }
 
+#[tactic(auto, unfolding(crate::specs::Pushes::MediaEffect::with_unit))]
 fn step(
     f: FragmentationIndicator,
     mpu: u32,
@@ -183,6 +173,7 @@ fn step(
     }
 }
 
+#[tactic(auto, using(crate::proofs::MediaEffects::going_first, crate::proofs::MediaEffects::going_end, crate::proofs::MediaEffects::going_bad, crate::proofs::MediaEffects::going_less))]
 pub(crate) fn units_effect(
     q: &[u8],
     timed: bool,
@@ -195,13 +186,14 @@ pub(crate) fn units_effect(
     requires { Ready q.now start }
     ensures { result ≡ units_effect f mpu rap q.now start (units_of q.now timed aggregated) }
 {
+    // By a cursor: a step has three cases, and two of them end the loop differently.
     let mut at: usize = 8;
     let mut t = start;
     loop {
         match mpu::next_unit(q, timed, aggregated, at) {
-            UnitStep::End => return Some(t),
-            UnitStep::Malformed => return None,
-            UnitStep::Unit(u, next) => {
+            WalkStep::End => return Some(t),
+            WalkStep::Malformed => return None,
+            WalkStep::Entry(u, next) => {
                 let n = u.data.of(q).len();
                 t = step(f, mpu, rap, t, u, n as u64);
                 at = next;
@@ -214,18 +206,17 @@ pub(crate) fn units_effect(
 pub(crate) fn is_gap(seen: bool, last: u32, n: u32) -> bool
     ensures { result ≡ gap_after seen last n }
 {
-    if seen {
-        return !mpu::follows_on(last, n);
-    }
-    false
+    seen && !mpu::follows_on(last, n)
 }
 
+#[tactic(auto, unfolding(crate::specs::Pushes::MediaPlace::gap_in))]
 fn gap_in(p: Media, n: u32) -> bool
     ensures { result ≡ gap_in p n }
 {
     is_gap(p.seen, p.sequence, n)
 }
 
+#[tactic(auto, unfolding(crate::specs::Pushes::MediaPlace::lost_in))]
 fn lost_in(p: Media, n: u32) -> u32
     ensures { result ≡ lost_in p n }
 {
@@ -238,27 +229,21 @@ fn lost_in(p: Media, n: u32) -> u32
 fn header_if(there: bool, h: MfuHeader) -> MfuHeader
     ensures { result ≡ header_if there h }
 {
-    if there {
-        return h;
-    }
-    mpu::NO_HEADER
+    if there { h } else { mpu::NO_HEADER }
 }
 
 fn item_if(there: bool, x: u32) -> u32
     ensures { result ≡ item_if there x }
 {
-    if there {
-        return x;
-    }
-    0
+    if there { x } else { 0 }
 }
 
+#[tactic(auto, unfolding(crate::specs::Pushes::MediaPlace::normal_object))]
 fn normal_object(o: Object) -> Object
     ensures { result ≡ normal_object o }
 {
-    let header = header_if(o.timed, o.header);
     Object {
-        header,
+        header: header_if(o.timed, o.header),
         item_id: item_if(o.item, o.item_id),
         ..o
     }
@@ -267,17 +252,16 @@ fn normal_object(o: Object) -> Object
 fn begin(object: Option<Object>, drops: u64) -> MediaEffect
     ensures { result ≡ begun object drops }
 {
-    let last = Part {
-        start: 0,
-        length: 0,
-    };
     MediaEffect {
         object,
         drops,
         records: 0,
         bytes: 0,
         longest: 0,
-        last,
+        last: Part {
+            start: 0,
+            length: 0,
+        },
     }
 }
 
@@ -295,44 +279,27 @@ pub(crate) fn start_of(p: Media, n: u32) -> MediaEffect
     begin(Some(normal_object(p.object)), 0)
 }
 
+#[tactic(auto, unfolding(crate::specs::Pushes::MediaPlace::new_in))]
 fn new_in(p: Media, h: Option<PayloadHeader>) -> bool
     ensures { result ≡ new_in p h }
 {
-    match h {
-        None => false,
-        Some(x) => {
-            if p.mpu_seen {
-                return x.mpu_sequence_number != p.mpu;
-            }
-            true
-        }
-    }
+    h.is_some_and(|x| !p.mpu_seen || x.mpu_sequence_number != p.mpu)
 }
 
+#[tactic(auto, unfolding(crate::specs::Pushes::MediaPlace::jump_in))]
 fn jump_in(p: Media, h: Option<PayloadHeader>) -> bool
     ensures { result ≡ jump_in p h }
 {
-    match h {
-        None => false,
-        Some(x) => {
-            if !p.mpu_seen {
-                return false;
-            }
-            if x.mpu_sequence_number == p.mpu {
-                return false;
-            }
-            !mpu::follows_on(p.mpu, x.mpu_sequence_number)
-        }
-    }
+    let Some(x) = h else {
+        return false;
+    };
+    p.mpu_seen && x.mpu_sequence_number != p.mpu && !mpu::follows_on(p.mpu, x.mpu_sequence_number)
 }
 
 fn seen_mpu(p: Media, h: Option<PayloadHeader>) -> bool
     ensures { result ≡ seen_mpu p h }
 {
-    match h {
-        None => p.mpu_seen,
-        Some(x) => true,
-    }
+    p.mpu_seen || h.is_some()
 }
 
 fn last_mpu(p: Media, h: Option<PayloadHeader>) -> u32
@@ -344,36 +311,20 @@ fn last_mpu(p: Media, h: Option<PayloadHeader>) -> u32
     }
 }
 
+#[tactic(auto, unfolding(crate::specs::Pushes::MediaPlace::first_mpu_of))]
 fn first_mpu(p: Media, h: Option<PayloadHeader>) -> u32
     ensures { result ≡ first_mpu_of p h }
 {
-    match h {
-        None => item_if(p.mpu_seen, p.first_mpu),
-        Some(x) => {
-            if p.mpu_seen {
-                return p.first_mpu;
-            }
-            x.mpu_sequence_number
-        }
+    if p.mpu_seen {
+        return p.first_mpu;
     }
+    h.map_or(0, |x| x.mpu_sequence_number)
 }
 
 fn completes_in(h: Option<PayloadHeader>) -> bool
     ensures { result ≡ completes_in h }
 {
-    match h {
-        None => false,
-        Some(x) => { x.fragmentation.completes() }
-    }
-}
-
-fn both(a: bool, b: bool) -> bool
-    ensures { result ≡ a && b }
-{
-    if a {
-        return b;
-    }
-    false
+    h.is_some_and(|x| x.fragmentation.completes())
 }
 
 // What a packet would do: whether its payload is malformed, whether its units are taken, the payload's header, the effect of the
@@ -402,48 +353,45 @@ fn outcome_with(
     }
 }
 
+#[tactic(auto, using(crate::proofs::MediaOutcomes::outcome_malformed, crate::proofs::MediaOutcomes::outcome_metadata, crate::proofs::MediaOutcomes::outcome_movie, crate::proofs::MediaOutcomes::outcome_reserved, crate::proofs::MediaOutcomes::ready_declared))]
 fn units_outcome(t: MediaEffect, h: PayloadHeader, rap: bool, b: &[u8]) -> MediaOutcome
     requires { Ready b.now t }
     ensures { result ≡ units_outcome t h rap b.now h.fragment_type }
 {
-    match h.fragment_type {
-        FragmentType::Mfu => {
-            match units_effect(
-                mpu::declared(b),
-                h.timed,
-                h.aggregated,
-                h.fragmentation,
-                h.mpu_sequence_number,
-                rap,
-                t,
-            ) {
-                None => outcome_with(true, false, Some(h), t),
-                Some(r) => outcome_with(false, true, Some(h), r),
-            }
-        }
-        FragmentType::MpuMetadata => outcome_with(false, false, Some(h), t),
-        FragmentType::MovieFragmentMetadata => outcome_with(false, false, Some(h), t),
-        FragmentType::Reserved(c) => outcome_with(false, false, Some(h), t),
+    let FragmentType::Mfu = h.fragment_type else {
+        return outcome_with(false, false, Some(h), t);
+    };
+    match units_effect(
+        mpu::declared(b),
+        h.timed,
+        h.aggregated,
+        h.fragmentation,
+        h.mpu_sequence_number,
+        rap,
+        t,
+    ) {
+        None => outcome_with(true, false, Some(h), t),
+        Some(r) => outcome_with(false, true, Some(h), r),
     }
 }
 
+#[tactic(auto, using(crate::proofs::MediaOutcomes::outcome_none, crate::proofs::MediaOutcomes::outcome_clear))]
 pub(crate) fn media_outcome(p: Media, n: u32, scrambled: bool, rap: bool, b: &[u8]) -> MediaOutcome
     requires { CanReadUnits p b.now }
     ensures { result ≡ media_outcome p n scrambled rap b.now }
 {
     let t = start_of(p, n);
-    match mpu::parse_header(b) {
-        None => outcome_with(true, false, None, t),
-        Some(h) => {
-            if scrambled {
-                return outcome_with(false, false, Some(h), t);
-            }
-            units_outcome(t, h, rap, b)
-        }
+    let Some(h) = mpu::parse_header(b) else {
+        return outcome_with(true, false, None, t);
+    };
+    if scrambled {
+        return outcome_with(false, false, Some(h), t);
     }
+    units_outcome(t, h, rap, b)
 }
 
 // What a packet adds to the counts.
+#[tactic(auto, using(crate::proofs::MediaOutcomes::adds_made))]
 fn adds_of(
     p: Media,
     n: u32,
@@ -459,7 +407,7 @@ fn adds_of(
         packets_lost: lost_in(p, n) as u64,
         scrambled_packets: u64::from(scrambled),
         mfus: t.records,
-        scrambled_mfus: u64::from(both(scrambled, completes_in(h))),
+        scrambled_mfus: u64::from(scrambled && completes_in(h)),
         mfus_dropped: t.drops,
         mpus: u64::from(new_in(p, h)),
         mpu_sequence_jumps: u64::from(jump_in(p, h)),
@@ -467,6 +415,7 @@ fn adds_of(
     }
 }
 
+#[tactic(auto, unfolding(crate::specs::Pushes::MediaPlace::summed))]
 fn add_stats(s: AssetStats, d: AssetStats) -> AssetStats
     requires { StatsWithin most_count s × StatsWithin 4294967295 d }
     ensures { result ≡ summed s d }
@@ -485,6 +434,7 @@ fn add_stats(s: AssetStats, d: AssetStats) -> AssetStats
 }
 
 // The place after a packet.
+#[tactic(auto, unfolding(crate::specs::Pushes::MediaPlace::place_after_of, crate::specs::Pushes::MediaPlace::stats_after))]
 pub(crate) fn place_after(
     id: u32,
     p: Media,
@@ -497,7 +447,6 @@ pub(crate) fn place_after(
     requires { StatsWithin most_count p.stats × ((t.records < 4294967296) × (t.drops < 4294967296)) }
     ensures { result ≡ place_after_of id p n scrambled h bad t }
 {
-    let stats = add_stats(p.stats, adds_of(p, n, scrambled, h, bad, t));
     Media {
         packet_id: id,
         seen: true,
@@ -507,6 +456,6 @@ pub(crate) fn place_after(
         first_mpu: first_mpu(p, h),
         held: t.object.is_some(),
         object: object_or(t.object),
-        stats,
+        stats: add_stats(p.stats, adds_of(p, n, scrambled, h, bad, t)),
     }
 }

@@ -4,43 +4,31 @@ ghost use Rattle.isdb_tlv.specs.Fields.{written};
 ghost use Rattle.isdb_mmt.specs.Memory.Lent.{over};
 ghost use Rattle.isdb_mmt.specs.Pushes.Records.{row_size, record_flags, record_fields, row_fields, held_fields};
 ghost use Rattle.isdb_mmt.specs.Pushes.Giving.{Outputs, Gave};
-ghost use Rattle.isdb_mmt.specs.Pushes.MediaCommit.{refused as refused_as, accepted as accepted_as, OneFits, OnePut};
+ghost use Rattle.isdb_mmt.specs.Pushes.MediaCommit.{accepted as accepted_as, OneFits, OnePut};
+ghost use Rattle.isdb_mmt.specs.Pushes.Answer.{answered};
 
 use crate::decoder::media::Object;
 use crate::decoder::readings::HeldObject;
+use crate::decoder::refusal::Refusal;
 use crate::decoder::{place, reassembler};
 use crate::mpu;
-use crate::mpu::{MfuHeader, PayloadHeader, UnitStep};
+use crate::mpu::{MfuHeader, PayloadHeader};
+use crate::walk_step::WalkStep;
 use isdb_tlv::bytes;
 
 pub(crate) const ROW_SIZE: usize = 36;
 
-// What a push answers: 0, or the number of the question that is answered no; the records and data bytes handed out.
-#[derive(Clone, Copy)]
-pub struct Answer {
-    pub number: u8,
+// How many records and data bytes a push hands out.
+#[derive(Clone, Copy, Debug, PartialEq, Eq)]
+pub struct HandedOut {
     pub records: u64,
     pub bytes: u64,
 }
 
-pub(crate) fn refused(number: u8) -> Answer
-    ensures { result ≡ refused_as number }
+pub(crate) fn accepted(records: u64, bytes: u64) -> Result<HandedOut, Refusal>
+    ensures { answered result ≡ accepted_as records bytes }
 {
-    Answer {
-        number,
-        records: 0,
-        bytes: 0,
-    }
-}
-
-pub(crate) fn accepted(records: u64, bytes: u64) -> Answer
-    ensures { result ≡ accepted_as records bytes }
-{
-    Answer {
-        number: 0,
-        records,
-        bytes,
-    }
+    Ok(HandedOut { records, bytes })
 }
 
 fn row_flags(rap: bool, scrambled: bool, timed: bool, item: bool) -> u64
@@ -85,6 +73,7 @@ fn put_fields(
 }
 
 // A row at a place of the rows; its data start at start.
+#[tactic(auto, using(crate::proofs::Gives::row_sent))]
 pub(crate) fn put_row(rows: &mut [u8], at: usize, id: u16, scrambled: bool, o: Object, start: u32)
     requires { at + row_size ≤ length rows.old }
     ensures { rows.new ≡ over at (written (row_fields id scrambled o start)) rows.old }
@@ -105,6 +94,7 @@ pub(crate) fn put_row(rows: &mut [u8], at: usize, id: u16, scrambled: bool, o: O
 }
 
 // The record of a held object as it would be delivered now.
+#[tactic(auto, using(crate::proofs::Gives::held_put))]
 pub fn held_row(row: &mut [u8; 36], id: u32, o: HeldObject)
     ensures { row.new ≡ written (held_fields id o) }
 {
@@ -139,11 +129,12 @@ pub(crate) fn give_units(
     let mut at: usize = 8;
     let mut k: usize = 0;
     let mut d: usize = 0;
+    // No iterator: of a step's three cases two end the walk, and where to go on is known once the unit is read.
     loop {
         match mpu::next_unit(q, x.timed, x.aggregated, at) {
-            UnitStep::End => return,
-            UnitStep::Malformed => return,
-            UnitStep::Unit(u, next) => {
+            WalkStep::End => return,
+            WalkStep::Malformed => return,
+            WalkStep::Entry(u, next) => {
                 let p = u.data;
                 let b = p.of(q);
                 let n = b.len();

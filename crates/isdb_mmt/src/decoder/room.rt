@@ -10,6 +10,7 @@ use crate::decoder::{check, head, layout, place};
 // 2^52.
 const ROOMY_COUNT: u64 = 4503599627370496;
 
+#[tactic(auto, using(crate::proofs::RoomTest::media_room))]
 fn media_has_room(p: &[u8]) -> bool
     requires { length p.now ≡ media_size }
     ensures { result ≡ stats_at_most roomy_count (media_place_of p.now) }

@@ -28,13 +28,8 @@ fn flow_route(at: usize, flow: Option<Flow>) -> Route
     ensures { result ≡ flow_route at flow }
 {
     match flow {
-        None => Route::Mmtp(at),
-        Some(f) => {
-            if f.dport == 123 {
-                return Route::Time(at);
-            }
-            Route::Mmtp(at)
-        }
+        Some(f) if f.dport == 123 => Route::Time(at),
+        _ => Route::Mmtp(at),
     }
 }
 

@@ -17,6 +17,7 @@ pub(crate) struct KeptSection {
 }
 
 // The section place that starts at a place of some bytes.
+#[tactic(auto, unfolding(crate::specs::Memory::Session::section_place_of))]
 pub(crate) fn section_at(s: &[u8], at: usize) -> KeptSection
     ensures { result ≡ section_place_of (part at section_size s.now) }
 {

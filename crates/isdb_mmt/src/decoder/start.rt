@@ -4,11 +4,13 @@ ghost use Rattle.isdb_mmt.specs.Memory.Lent.{part};
 ghost use Rattle.isdb_mmt.specs.Memory.Layout.{section_places, state_size};
 ghost use Rattle.isdb_mmt.specs.Pushes.TableOutcome.{index_size, recent_length};
 ghost use Rattle.isdb_mmt.specs.Pushes.Start.{recent_at, start_of, counters_with, walk_start, latest_with, tables_ask, CanGo};
+ghost use Rattle.isdb_mmt.specs.Memory.Refusals.{answer_number};
 
 use crate::decoder::counts::Counters;
 use crate::decoder::head::Latest;
 use crate::decoder::layout::{MOST_SECTIONS, SECTION_PLACES, SECTION_SIZE};
 use crate::decoder::limits::Limits;
+use crate::decoder::refusal::Refusal;
 use crate::decoder::table_outcome::Recent;
 use crate::decoder::walk::WalkState;
 use crate::decoder::{head, place};
@@ -17,6 +19,7 @@ use isdb_tlv::bytes;
 // All section places.
 pub(crate) const INDEX_SIZE: usize = MOST_SECTIONS as usize * SECTION_SIZE;
 
+#[tactic(auto, using(crate::proofs::Starting::index_length))]
 pub(crate) fn load_index(ix: &mut [u8], state: &[u8])
     requires { (length ix.old ≡ index_size) × (state_size ≤ length state.now) }
     ensures { ix.new ≡ part section_places index_size state.now }
@@ -96,19 +99,17 @@ pub(crate) fn walk_start(state: &[u8], tables: &[u8], c: Counters, mpt: Option<R
 }
 
 // Questions 8 and 9 of the tables, after a walk.
-pub(crate) fn tables_ask(l: Limits, g: WalkState) -> u8
-    ensures { result ≡ tables_ask l g }
+#[tactic(auto, unfolding(crate::specs::Pushes::Start::tables_ask))]
+pub(crate) fn tables_ask(l: Limits, g: WalkState) -> Result<(), Refusal>
+    ensures { answer_number result ≡ tables_ask l g }
 {
-    if g.full {
-        return 8;
-    }
-    if l.sections < g.used as u64 {
-        return 8;
+    if g.full || l.sections < g.used as u64 {
+        return Err(Refusal::NoPlaceFree);
     }
     if l.table_area < g.longest as u64 {
-        return 9;
+        return Err(Refusal::AreaTooSmall);
     }
-    0
+    Ok(())
 }
 
 // How long a table is, where it is there.

@@ -53,6 +53,7 @@ pub(crate) struct TableOutcome {
     pub act: TableAction,
 }
 
+#[tactic(auto, unfolding(isdb_tlv::specs::Bytes::be))]
 fn key_of(t: &[u8]) -> u32
     ensures { result ≡ key_of t.now }
 {
@@ -81,22 +82,31 @@ fn unbroken<T: Copy>(r: Result<T, SectionError>) -> BodyRead
     }
 }
 
-// The body of a section whose header is good.
+// The body of a section whose header is good. The readers answer different types, so no list of functions holds them.
+#[tactic(auto, unfolding(crate::specs::Pushes::TableOutcome::body_from))]
 pub(crate) fn body_read(id: u8, h: SectionHeader, b: &[u8]) -> BodyRead
     ensures { result ≡ body_from id h b.now }
 {
     match id {
         0x9D => told(bit::read(h, b)),
-        0x9F => told(sdt::read(h, b)),
-        0xA0 => told(sdt::read(h, b)),
-        0x40 => unbroken(nit::read(h, b)),
-        0x41 => unbroken(nit::read(h, b)),
+        0x9F | 0xA0 => told(sdt::read(h, b)),
+        0x40 | 0x41 => unbroken(nit::read(h, b)),
         0xFE => unbroken(amt::read(h, b)),
         _ => told(eit::read(h, b)),
     }
 }
 
+// A table that adds nothing and leaves nothing to do.
+const SAME: TableOutcome = TableOutcome {
+    crc_errors: 0,
+    malformed: 0,
+    version_changes: 0,
+    breaks: 0,
+    act: TableAction::Nothing,
+};
+
 // What a good section leaves, with what it counts as a version change, for the place i.
+#[tactic(auto, using(crate::proofs::TableOutcomes::body_bad, crate::proofs::TableOutcomes::body_good))]
 fn body_outcome(
     t: &[u8],
     h: SectionHeader,
@@ -111,17 +121,14 @@ fn body_outcome(
     let breaks = x.breaks as u64;
     if !x.ok {
         return TableOutcome {
-            crc_errors: 0,
             malformed: 1,
             version_changes: change,
             breaks,
-            act: TableAction::Nothing,
+            ..SAME
         };
     }
     let d = bytes::part(t, 0, bytes::get_u12(t, 1) as usize + 3);
     TableOutcome {
-        crc_errors: 0,
-        malformed: 0,
         version_changes: change,
         breaks,
         act: TableAction::Put(
@@ -132,18 +139,7 @@ fn body_outcome(
                 length: d.len() as u32,
             },
         ),
-    }
-}
-
-fn same() -> TableOutcome
-    ensures { result ≡ outcome 0 0 0 0 TableAction.Nothing }
-{
-    TableOutcome {
-        crc_errors: 0,
-        malformed: 0,
-        version_changes: 0,
-        breaks: 0,
-        act: TableAction::Nothing,
+        ..SAME
     }
 }
 
@@ -151,11 +147,8 @@ fn bad() -> TableOutcome
     ensures { result ≡ outcome 0 1 0 0 TableAction.Nothing }
 {
     TableOutcome {
-        crc_errors: 0,
         malformed: 1,
-        version_changes: 0,
-        breaks: 0,
-        act: TableAction::Nothing,
+        ..SAME
     }
 }
 
@@ -164,10 +157,7 @@ fn crc_bad() -> TableOutcome
 {
     TableOutcome {
         crc_errors: 1,
-        malformed: 0,
-        version_changes: 0,
-        breaks: 0,
-        act: TableAction::Nothing,
+        ..SAME
     }
 }
 
@@ -175,15 +165,13 @@ fn other(id: u8) -> TableOutcome
     ensures { result ≡ outcome 0 0 0 0 (TableAction.Other id) }
 {
     TableOutcome {
-        crc_errors: 0,
-        malformed: 0,
-        version_changes: 0,
-        breaks: 0,
         act: TableAction::Other(id),
+        ..SAME
     }
 }
 
 // A good section, by what the index has of its key.
+#[tactic(auto, using(crate::proofs::TableOutcomes::found_place, crate::proofs::TableOutcomes::version_new))]
 fn version_outcome(ix: &[u8], used: usize, t: &[u8], h: SectionHeader, b: &[u8]) -> TableOutcome
     requires { (used ≤ most_sections) × (length ix.now ≡ index_size) }
     ensures { result ≡ version_for (index_of used ix.now) t.now h b.now }
@@ -193,7 +181,7 @@ fn version_outcome(ix: &[u8], used: usize, t: &[u8], h: SectionHeader, b: &[u8])
         Some(i) => {
             let k = section_at(ix, SECTION_SIZE * i);
             if k.version == h.version {
-                return same();
+                return SAME;
             }
             body_outcome(t, h, b, 1, i, key)
         }
@@ -202,20 +190,19 @@ fn version_outcome(ix: &[u8], used: usize, t: &[u8], h: SectionHeader, b: &[u8])
 }
 
 // A section that reaches `keep`.
+#[tactic(auto, using(crate::proofs::TableOutcomes::outcome_good, crate::proofs::TableOutcomes::outcome_crc, crate::proofs::TableOutcomes::outcome_short, crate::proofs::TableOutcomes::outcome_bad))]
 pub(crate) fn section_outcome(ix: &[u8], used: usize, t: &[u8]) -> TableOutcome
     requires { (used ≤ most_sections) × (length ix.now ≡ index_size) }
     ensures { result ≡ section_outcome (index_of used ix.now) (section_of t.now) }
 {
     match section::long_section(t) {
         Ok(h) => { version_outcome(ix, used, t, h, h.body.of(t)) }
-        Err(e) => match e {
-            SectionError::Crc => crc_bad(),
-            SectionError::Truncated => bad(),
-            SectionError::Malformed => bad(),
-        },
+        Err(SectionError::Crc) => crc_bad(),
+        Err(_) => bad(),
     }
 }
 
+#[tactic(auto, using(crate::proofs::TableOutcomes::long_short, crate::proofs::TableOutcomes::long_section))]
 fn long_outcome(ix: &[u8], used: usize, t: &[u8]) -> TableOutcome
     requires { (used ≤ most_sections) × (length ix.now ≡ index_size) }
     ensures { result ≡ long_outcome (index_of used ix.now) t.now }
@@ -233,33 +220,28 @@ fn change(r: Option<Recent>, v: u8) -> u64
     u64::from(r.is_some_and(|x| x.version != v))
 }
 
+#[tactic(auto, using(crate::proofs::TableOutcomes::mpt_some))]
 fn mpt_outcome(m: Option<Recent>, t: &[u8]) -> TableOutcome
     ensures { result ≡ mpt_outcome m (mpt_parses (mpt_of t.now).mpt) (mpt_of t.now).breaks (declared_table t.now) }
 {
     let x = mpt::parse(t);
     let breaks = x.breaks as u64;
     match x.mpt {
-        None => TableOutcome {
-            crc_errors: 0,
-            malformed: 1,
-            version_changes: 0,
-            breaks,
-            act: TableAction::Nothing,
-        },
+        None => TableOutcome { breaks, ..bad() },
         Some(y) => {
             let d = bytes::part(t, 0, bytes::get_u16(t, 2) as usize + 4);
             let v = bytes::get_u8(d, 1);
             TableOutcome {
-                crc_errors: 0,
-                malformed: 0,
                 version_changes: change(m, v),
                 breaks,
                 act: TableAction::Mpt(v, d.len() as u32),
+                ..SAME
             }
         }
     }
 }
 
+#[tactic(auto, using(crate::proofs::TableOutcomes::plt_some))]
 fn plt_outcome(p: Option<Recent>, t: &[u8]) -> TableOutcome
     ensures { result ≡ plt_outcome p (plt_parses (plt_of t.now)) (declared_table t.now) }
 {
@@ -269,26 +251,11 @@ fn plt_outcome(p: Option<Recent>, t: &[u8]) -> TableOutcome
             let d = bytes::part(t, 0, bytes::get_u16(t, 2) as usize + 4);
             let v = bytes::get_u8(d, 1);
             TableOutcome {
-                crc_errors: 0,
-                malformed: 0,
                 version_changes: change(p, v),
-                breaks: 0,
                 act: TableAction::Plt(v, d.len() as u32),
+                ..SAME
             }
         }
-    }
-}
-
-// A table that is not read.
-fn failed(crc_errors: u64, malformed: u64, breaks: u64) -> TableOutcome
-    ensures { result ≡ outcome crc_errors malformed 0 breaks TableAction.Nothing }
-{
-    TableOutcome {
-        crc_errors,
-        malformed,
-        version_changes: 0,
-        breaks,
-        act: TableAction::Nothing,
     }
 }
 
@@ -301,21 +268,20 @@ fn tot_outcome(t: &[u8]) -> TableOutcome
         Ok(y) => {
             let d = bytes::part(t, 0, bytes::get_u12(t, 1) as usize + 3);
             TableOutcome {
-                crc_errors: 0,
-                malformed: 0,
-                version_changes: 0,
                 breaks,
                 act: TableAction::Tot(d.len() as u32),
+                ..SAME
             }
         }
-        Err(e) => match e {
-            SectionError::Crc => failed(1, 0, breaks),
-            SectionError::Truncated => failed(0, 1, breaks),
-            SectionError::Malformed => failed(0, 1, breaks),
+        Err(SectionError::Crc) => TableOutcome {
+            breaks,
+            ..crc_bad()
         },
+        Err(_) => TableOutcome { breaks, ..bad() },
     }
 }
 
+#[tactic(auto, unfolding(crate::specs::Decoder::Kept::table_by_id, crate::specs::Pushes::TableOutcome::table_outcome))]
 fn by_id(
     ix: &[u8],
     used: usize,
@@ -327,37 +293,17 @@ fn by_id(
     requires { (used ≤ most_sections) × (length ix.now ≡ index_size) }
     ensures { result ≡ table_outcome (index_of used ix.now) m p (table_by_id id t.now) }
 {
-    if id < 0x11 {
-        return other(id);
+    match id {
+        0x11..=0x20 => mpt_outcome(m, t),
+        0x80 => plt_outcome(p, t),
+        0xA1 => tot_outcome(t),
+        0x8B..=0x9B | 0x9D | 0x9F | 0xA0 => long_outcome(ix, used, t),
+        _ => other(id),
     }
-    if id <= 0x20 {
-        return mpt_outcome(m, t);
-    }
-    if id == 0x80 {
-        return plt_outcome(p, t);
-    }
-    if id == 0xA1 {
-        return tot_outcome(t);
-    }
-    if id < 0x8B {
-        return other(id);
-    }
-    if id <= 0x9B {
-        return long_outcome(ix, used, t);
-    }
-    if id == 0x9D {
-        return long_outcome(ix, used, t);
-    }
-    if id == 0x9F {
-        return long_outcome(ix, used, t);
-    }
-    if id == 0xA0 {
-        return long_outcome(ix, used, t);
-    }
-    other(id)
 }
 
 // What is decided of a table of a message.
+#[tactic(auto, using(crate::proofs::TableOutcomes::outcome_empty, crate::proofs::TableOutcomes::outcome_by_id))]
 pub(crate) fn outcome_of(
     ix: &[u8],
     used: usize,
@@ -369,7 +315,7 @@ pub(crate) fn outcome_of(
     ensures { result ≡ table_outcome (index_of used ix.now) m p (table_read t.now) }
 {
     if t.len() == 0 {
-        return same();
+        return SAME;
     }
     by_id(ix, used, m, p, bytes::get_u8(t, 0), t)
 }

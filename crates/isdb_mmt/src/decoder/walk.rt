@@ -1,18 +1,19 @@
 // One walk over the tables of a message or over the sections of a control packet, on local copies with a log.
-ghost use Rattle.std.specs.Prelude.{◌≡◌, ◌+◌, ◌*◌, ◌<◌, ◌≤◌, max, [], ◌∷◌, ◌++◌, length, slice_index, slice_set};
+ghost use Rattle.std.specs.Prelude.{◌≡◌, ◌+◌, ◌*◌, ◌<◌, ◌≤◌, [], ◌∷◌, ◌++◌, length, slice_index, slice_set};
 ghost use Rattle.isdb_mmt.specs.Memory.Layout.{most_sections, most_count, table_ids};
 ghost use Rattle.isdb_mmt.specs.Formats.Message.{tables_from};
 ghost use Rattle.isdb_mmt.specs.Decoder.Reassembly.{tables_of, cut_of};
 ghost use Rattle.isdb_mmt.specs.Decoder.Kept.{table_read};
 ghost use Rattle.isdb_mmt.specs.Pushes.Placed.{join_of, placed, placed_of, placed_from, malformed_from, placed_cut, placed_sections};
-ghost use Rattle.isdb_mmt.specs.Pushes.PendingTables.{most_before, section_read, recent as recent_of, CanApply, CanCount, counted_by, kept_with, marked as marked_of, cut_short, used_with, Applied, Walked, at as placed_at, CanTakeSection, CanWalkSections, CanTake, CanWalk, in_body};
+ghost use Rattle.isdb_mmt.specs.Pushes.PendingTables.{most_before, section_read, recent as recent_of, CanApply, CanCount, counted_by, cut_short, used_with, Applied, Walked, at as placed_at, CanTakeSection, CanWalkSections, CanTake, CanWalk, in_body};
 
 use crate::decoder::layout::{MOST_SECTIONS, SECTION_SIZE};
 use crate::decoder::section::put_section_at;
 use crate::decoder::table_outcome::{Recent, TableAction, TableOutcome};
 use crate::decoder::{joined, table_outcome};
-use crate::message::{Content, MessageStep, TableStep};
+use crate::message::Content;
 use crate::part::Part;
+use crate::walk_step::WalkStep;
 use isdb_tlv::{bytes, si};
 
 const SECTIONS: usize = MOST_SECTIONS as usize;
@@ -36,23 +37,11 @@ pub(crate) struct WalkState {
     pub full: bool,
 }
 
-fn longer(a: u32, b: u32) -> u32
-    ensures { result ≡ max a b }
-{
-    if a < b {
-        return b;
-    }
-    a
-}
-
 fn next_used(used: usize, i: usize) -> usize
     requires { i ≤ most_sections }
     ensures { result ≡ used_with used i }
 {
-    if i < used {
-        return used;
-    }
-    i + 1
+    used.max(i + 1)
 }
 
 fn recent(version: u8, from: u64, length: u32) -> Option<Recent>
@@ -79,51 +68,22 @@ fn counted(g: WalkState, t: TableOutcome) -> WalkState
     }
 }
 
-fn kept(
-    g: WalkState,
-    used: usize,
-    mpt: Option<Recent>,
-    plt: Option<Recent>,
-    tot: Option<Recent>,
-    n: u32,
-) -> WalkState
-    ensures { result ≡ kept_with g used mpt plt tot n }
-{
-    WalkState {
-        used,
-        mpt,
-        plt,
-        tot,
-        longest: longer(g.longest, n),
-        ..g
-    }
-}
-
-fn marked(g: WalkState, message_malformed: u64, full: bool) -> WalkState
-    ensures { result ≡ marked_of g message_malformed full }
-{
-    WalkState {
-        message_malformed,
-        full,
-        ..g
-    }
-}
-
 // A message, or a table of one, is cut short.
 fn cut_short(g: WalkState) -> WalkState
     requires { g.message_malformed ≤ most_before }
     ensures { result ≡ cut_short g }
 {
-    let n = g.message_malformed + 1;
-    marked(g, n, g.full)
+    WalkState {
+        message_malformed: g.message_malformed + 1,
+        ..g
+    }
 }
 
 fn count_other(others: &mut [u64], id: u8)
     requires { (length others.old ≡ table_ids) × (slice_index others.old id ≤ most_before) }
     ensures { others.new ≡ slice_set others.old id (slice_index others.old id + 1) }
 {
-    let k = id as usize;
-    others[k] = others[k] + 1;
+    others[id as usize] += 1;
 }
 
 // One step on the copies.
@@ -142,26 +102,38 @@ pub(crate) fn apply(
         return g;
     }
     let c = counted(g, t);
-    let mpt = c.mpt;
-    let plt = c.plt;
-    let tot = c.tot;
-    let used = c.used;
     match t.act {
         TableAction::Nothing => c,
         TableAction::Other(id) => {
             count_other(others, id);
             c
         }
-        TableAction::Mpt(v, n) => kept(c, used, recent(v, from, n), plt, tot, n),
-        TableAction::Plt(v, n) => kept(c, used, mpt, recent(v, from, n), tot, n),
-        TableAction::Tot(n) => kept(c, used, mpt, plt, recent(0, from, n), n),
+        TableAction::Mpt(v, n) => WalkState {
+            mpt: recent(v, from, n),
+            longest: c.longest.max(n),
+            ..c
+        },
+        TableAction::Plt(v, n) => WalkState {
+            plt: recent(v, from, n),
+            longest: c.longest.max(n),
+            ..c
+        },
+        TableAction::Tot(n) => WalkState {
+            tot: recent(0, from, n),
+            longest: c.longest.max(n),
+            ..c
+        },
         TableAction::Put(i, x) => {
             if SECTIONS <= i {
-                return marked(c, c.message_malformed, true);
+                return WalkState { full: true, ..c };
             }
             put_section_at(ix, SECTION_SIZE * i, x);
             log[i] = from;
-            kept(c, next_used(used, i), mpt, plt, tot, x.length)
+            WalkState {
+                used: next_used(c.used, i),
+                longest: c.longest.max(x.length),
+                ..c
+            }
         }
     }
 }
@@ -194,20 +166,15 @@ pub(crate) fn sections(
     ensures { Walked section_read ix.old log.old others.old start (placed_sections b.now 0) (length b.now + 1) 0 result ix.new log.new others.new }
 {
     let mut g = start;
+    // By a cursor: where the next section is looked for is known only once this one is found.
     let mut at: usize = 0;
-    loop {
-        match si::next_section(b, at) {
-            Some(x) => {
-                let k = x.offset;
-                let n = x.size;
-                g = section(ix, log, others, g, bytes::part(b, k, n), k);
-                at = k + n;
-            }
-            None => {
-                return g;
-            }
-        }
+    while let Some(x) = si::next_section(b, at) {
+        let k = x.offset;
+        let n = x.size;
+        g = section(ix, log, others, g, bytes::part(b, k, n), k);
+        at = k + n;
     }
+    g
 }
 
 // A table that is a part of a message, or of its body, which starts at a place of the joined data.
@@ -245,19 +212,16 @@ fn tables(
     ensures { Walked table_read ix.old log.old others.old start (in_body (a.now ++ b.now) from first) (length (a.now ++ b.now) + 1) (tables_from (a.now ++ b.now) first).malformed result ix.new log.new others.new }
 {
     let mut g = start;
+    // By a cursor: a step has three cases, and two of them end the loop differently.
     let mut at = first;
     loop {
         match joined::next_table(a, b, at) {
-            TableStep::Table(p, next) => {
+            WalkStep::Entry(p, next) => {
                 g = table(ix, log, others, g, a, b, p, from);
                 at = next;
             }
-            TableStep::Malformed => {
-                return cut_short(g);
-            }
-            TableStep::End => {
-                return g;
-            }
+            WalkStep::Malformed => return cut_short(g),
+            WalkStep::End => return g,
         }
     }
 }
@@ -301,20 +265,17 @@ fn messages(
     ensures { Walked table_read ix.old log.old others.old start (placed_from (a.now ++ b.now) long 0) (length (a.now ++ b.now) + 1) (malformed_from (a.now ++ b.now) long 0) result ix.new log.new others.new }
 {
     let mut g = start;
+    // By a cursor, for the same reason.
     let mut at: usize = 0;
     loop {
         match joined::next_message(a, b, long, at) {
-            MessageStep::Message(p, next) => {
+            WalkStep::Entry(p, next) => {
                 let q = joined::behind(a.len(), p);
                 g = message(ix, log, others, g, p.of(a), q.of(b), p.start);
                 at = next;
             }
-            MessageStep::Malformed => {
-                return cut_short(g);
-            }
-            MessageStep::End => {
-                return g;
-            }
+            WalkStep::Malformed => return cut_short(g),
+            WalkStep::End => return g,
         }
     }
 }

@@ -87,12 +87,12 @@ pub fn service_at(body: &[u8], at: usize) -> Option<(AmtService, usize)>
 }
 
 // Whether n services stand from a place on.
-#[tactic(auto, using(crate::proofs::Services::whole_none, crate::proofs::Services::whole_on_lem))]
+#[tactic(auto, using(crate::proofs::Services::whole_done, crate::proofs::Services::whole_none, crate::proofs::Services::whole_on_lem))]
 fn services_whole(body: &[u8], n: u16, from: usize) -> bool
     ensures { result ≡ services_whole n body.now from }
 {
     let mut at = from;
-    for i in 0..n {
+    for _ in 0..n {
         let Some((_, next)) = service_at(body, at) else {
             return false;
         };

@@ -5,7 +5,8 @@ ghost use Rattle.isdb_mmt.specs.Formats.Bit.{bit_body, bit_of, broadcaster_of, b
 
 use crate::part::Part;
 use crate::table::section;
-use crate::table::section::{Entry, EntryStep, Parsed, SectionError, SectionHeader};
+use crate::table::section::{Entry, Parsed, SectionError, SectionHeader};
+use crate::walk_step::WalkStep;
 use isdb_tlv::bytes;
 
 // The fields of a section's body: its first descriptor loop, and how many broadcasters stand behind it.
@@ -17,7 +18,7 @@ pub struct Bit {
 }
 
 // The body of a section whose header has been read.
-#[tactic(auto, using(crate::proofs::Entries::whole_told, crate::proofs::Entries::count_told, crate::proofs::Entries::breaks_told, isdb_tlv::proofs::Fields::be_one), unfolding(crate::specs::Formats::Bit::bit_body))]
+#[tactic(auto, using(crate::proofs::Entries::whole_told, crate::proofs::Entries::count_told, crate::proofs::Entries::breaks_told, crate::proofs::Entries::breaks_fit, isdb_tlv::proofs::Fields::be_one), unfolding(crate::specs::Formats::Bit::bit_body))]
 pub fn read(header: SectionHeader, body: &[u8]) -> Parsed<(SectionHeader, Bit)>
     ensures { result ≡ bit_body header body.now }
 {
@@ -49,14 +50,14 @@ pub fn read(header: SectionHeader, body: &[u8]) -> Parsed<(SectionHeader, Bit)>
     }
 }
 
-// A whole section.
+// A whole section. No trait over what eit, sdt and bit read: its law and its three impls are longer than the three matches.
 #[tactic(auto, unfolding(crate::specs::Formats::Bit::bit_of))]
 pub fn parse(b: &[u8]) -> Parsed<(SectionHeader, Bit)>
     ensures { result ≡ bit_of b.now }
 {
     match section::long_section(b) {
         Err(e) => section::refused(e, 0),
-        Ok(header) => { read(header, header.body.of(b)) }
+        Ok(header) => read(header, header.body.of(b)),
     }
 }
 
@@ -64,13 +65,6 @@ pub fn parse(b: &[u8]) -> Parsed<(SectionHeader, Bit)>
 pub struct Broadcaster {
     pub broadcaster_id: u8,
     pub descriptors: Part,
-}
-
-#[derive(Clone, Copy)]
-pub enum BroadcasterStep {
-    End,
-    Malformed,
-    Broadcaster(Broadcaster, usize),
 }
 
 #[tactic(auto, using(isdb_tlv::proofs::Fields::be_one))]
@@ -85,12 +79,12 @@ fn broadcaster_of(body: &[u8], e: Entry) -> Broadcaster
 
 // The broadcasters of a body, by a cursor that starts behind the first descriptor loop.
 #[tactic(auto, unfolding(crate::specs::Formats::Bit::broadcaster_step))]
-pub fn next_broadcaster(body: &[u8], at: usize) -> BroadcasterStep
+pub fn next_broadcaster(body: &[u8], at: usize) -> WalkStep<Broadcaster>
     ensures { result ≡ broadcaster_step body.now at }
 {
     match section::next_entry(body, 1, at) {
-        EntryStep::End => BroadcasterStep::End,
-        EntryStep::Malformed => BroadcasterStep::Malformed,
-        EntryStep::Entry(e, next) => { BroadcasterStep::Broadcaster(broadcaster_of(body, e), next) }
+        WalkStep::End => WalkStep::End,
+        WalkStep::Malformed => WalkStep::Malformed,
+        WalkStep::Entry(e, next) => { WalkStep::Entry(broadcaster_of(body, e), next) }
     }
 }

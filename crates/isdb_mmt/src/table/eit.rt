@@ -9,7 +9,8 @@ use crate::desc;
 use crate::desc::{Descriptor, tag};
 use crate::part::Part;
 use crate::table::section;
-use crate::table::section::{Entry, EntryStep, Parsed, SectionError, SectionHeader};
+use crate::table::section::{Entry, Parsed, SectionError, SectionHeader};
+use crate::walk_step::WalkStep;
 use isdb_tlv::bytes;
 
 // The fields of a section's body, and how many events it has.
@@ -47,14 +48,14 @@ pub fn read(header: SectionHeader, body: &[u8]) -> Parsed<(SectionHeader, Eit)>
     }
 }
 
-// A whole section.
+// A whole section. No trait over what eit, sdt and bit read: its law and its three impls are longer than the three matches.
 #[tactic(auto, unfolding(crate::specs::Formats::Eit::eit_of))]
 pub fn parse(b: &[u8]) -> Parsed<(SectionHeader, Eit)>
     ensures { result ≡ eit_of b.now }
 {
     match section::long_section(b) {
         Err(e) => section::refused(e, 0),
-        Ok(header) => { read(header, header.body.of(b)) }
+        Ok(header) => read(header, header.body.of(b)),
     }
 }
 
@@ -70,14 +71,7 @@ pub struct Event {
     pub descriptors: Part,
 }
 
-#[derive(Clone, Copy)]
-pub enum EventStep {
-    End,
-    Malformed,
-    Event(Event, usize),
-}
-
-#[tactic(auto, using(crate::proofs::Fields::first_field, crate::proofs::Fields::byte_field, crate::proofs::Fields::long_field))]
+#[tactic(auto, using(crate::proofs::Fields::first_field, crate::proofs::Fields::byte_field, crate::proofs::Fields::long_field, crate::proofs::Fields::three_fit))]
 fn event_of(body: &[u8], e: Entry) -> Event
     ensures { result ≡ event_of body.now e }
 {
@@ -95,13 +89,13 @@ fn event_of(body: &[u8], e: Entry) -> Event
 
 // The events of a body, by a cursor that starts at 6.
 #[tactic(auto, unfolding(crate::specs::Formats::Eit::event_step))]
-pub fn next_event(body: &[u8], at: usize) -> EventStep
+pub fn next_event(body: &[u8], at: usize) -> WalkStep<Event>
     ensures { result ≡ event_step body.now at }
 {
     match section::next_entry(body, 10, at) {
-        EntryStep::End => EventStep::End,
-        EntryStep::Malformed => EventStep::Malformed,
-        EntryStep::Entry(e, next) => EventStep::Event(event_of(body, e), next),
+        WalkStep::End => WalkStep::End,
+        WalkStep::Malformed => WalkStep::Malformed,
+        WalkStep::Entry(e, next) => WalkStep::Entry(event_of(body, e), next),
     }
 }
 

@@ -53,7 +53,7 @@ fn locations_end(t: &[u8], n: u8, from: usize) -> Option<usize>
     ensures { result ≡ locations_end n t.now from }
 {
     let mut at = from;
-    for i in 0..n {
+    for _ in 0..n {
         let (_, taken) = location_at(t, at)?;
         at += taken;
     }
@@ -120,13 +120,13 @@ pub struct AssetLoop {
     pub breaks: usize,
 }
 
-#[tactic(auto, unfolding(crate::specs::Formats::Mpt::assets_told))]
+#[tactic(auto, using(crate::proofs::Entries::broken_le, crate::proofs::Assets::plus_zero, crate::proofs::Assets::loop_end, crate::proofs::Assets::loop_on, crate::proofs::Assets::loop_done), unfolding(crate::specs::Formats::Mpt::assets_told))]
 fn read_loop(t: &[u8], n: u8, from: usize) -> AssetLoop
     ensures { result ≡ assets_told n t.now from }
 {
     let mut at = from;
     let mut breaks: usize = 0;
-    for i in 0..n {
+    for _ in 0..n {
         let Some((a, next)) = asset_at(t, at) else {
             return AssetLoop {
                 whole: false,
@@ -155,7 +155,7 @@ pub struct Mpt {
     pub start: usize,
 }
 
-// What a table gives, and how many descriptor loops broke on the way.
+// What a table gives, and how many descriptor loops broke on the way. Not section::Parsed: why a table is not read has no name.
 #[derive(Clone, Copy)]
 pub struct MptParsed {
     pub mpt: Option<Mpt>,
@@ -254,7 +254,7 @@ impl Asset {
         ensures { result ≡ first_packet_id (locations_of self.locations t.now self.locations_start) }
     {
         let mut at = self.locations_start;
-        for i in 0..self.locations {
+        for _ in 0..self.locations {
             let (l, taken) = location_at(t, at)?;
             if let Some(p) = l.packet_id() {
                 return Some(p);

@@ -7,7 +7,8 @@ ghost use Rattle.isdb_mmt.specs.Formats.Nit.{nit_body, nit_of, stream_of, stream
 use crate::part;
 use crate::part::Part;
 use crate::table::section;
-use crate::table::section::{Entry, EntryStep, SectionError, SectionHeader};
+use crate::table::section::{Entry, SectionError, SectionHeader};
+use crate::walk_step::WalkStep;
 use isdb_tlv::bytes;
 
 // The parts of a section's body: the network's descriptors, the loop of streams, and how many they are.
@@ -74,13 +75,6 @@ pub struct NitStream {
     pub descriptors: Part,
 }
 
-#[derive(Clone, Copy)]
-pub enum StreamStep {
-    End,
-    Malformed,
-    Stream(NitStream, usize),
-}
-
 #[tactic(auto, using(isdb_tlv::proofs::Numbers::be_drop))]
 fn stream_of(streams: &[u8], e: Entry) -> NitStream
     ensures { result ≡ stream_of streams.now e }
@@ -95,41 +89,41 @@ fn stream_of(streams: &[u8], e: Entry) -> NitStream
 
 // The streams of the loop of streams, by a cursor that starts at 0.
 #[tactic(auto, unfolding(crate::specs::Formats::Nit::stream_step))]
-pub fn next_stream(streams: &[u8], at: usize) -> StreamStep
+pub fn next_stream(streams: &[u8], at: usize) -> WalkStep<NitStream>
     ensures { result ≡ stream_step streams.now at }
 {
     match section::next_entry(streams, 4, at) {
-        EntryStep::End => StreamStep::End,
-        EntryStep::Malformed => StreamStep::Malformed,
-        EntryStep::Entry(e, next) => StreamStep::Stream(stream_of(streams, e), next),
+        WalkStep::End => WalkStep::End,
+        WalkStep::Malformed => WalkStep::Malformed,
+        WalkStep::Entry(e, next) => WalkStep::Entry(stream_of(streams, e), next),
     }
 }
 
-// A TLV-SI descriptor; a loop ends where one does not fit.
+// A TLV-SI descriptor.
 #[derive(Clone, Copy)]
-pub enum TlvStep {
-    End,
-    Descriptor { tag: u8, body: Part, next: usize },
+pub struct TlvDescriptor {
+    pub tag: u8,
+    pub body: Part,
 }
 
-// The descriptors of a TLV-SI loop, by a cursor that starts at 0.
+// The descriptors of a TLV-SI loop, by a cursor that starts at 0. The loop ends where one does not fit.
 #[tactic(auto, using(isdb_tlv::proofs::Fields::be_one), unfolding(crate::specs::Formats::Nit::tlv_step_at))]
-pub fn next_tlv(b: &[u8], at: usize) -> TlvStep
+pub fn next_tlv(b: &[u8], at: usize) -> Option<(TlvDescriptor, usize)>
     ensures { result ≡ tlv_step_at b.now at }
 {
     if part::left(b, at) < 2 {
-        return TlvStep::End;
+        return None;
     }
     let start = at + 2;
     let length = bytes::get_u8(b, at + 1) as usize;
     if b.len() - start < length {
-        return TlvStep::End;
+        return None;
     }
-    TlvStep::Descriptor {
+    let descriptor = TlvDescriptor {
         tag: bytes::get_u8(b, at),
         body: Part { start, length },
-        next: start + length,
-    }
+    };
+    Some((descriptor, start + length))
 }
 
 // The BCD digit i, two a byte.
@@ -142,7 +136,7 @@ fn digit_at(b: &[u8], i: u8) -> u8
 }
 
 // The number of n BCD digits, high digit first, or none where one is above 9.
-#[tactic(auto, using(crate::proofs::Nits::bcd_lt))]
+#[tactic(auto, using(crate::proofs::Nits::bcd_lt, crate::proofs::Nits::bcd_none))]
 fn bcd(b: &[u8], n: u8) -> Option<u64>
     requires { n ≤ 8 }
     ensures { result ≡ bcd_from n b.now }

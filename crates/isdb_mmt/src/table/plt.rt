@@ -48,7 +48,7 @@ fn packages_end(t: &[u8], n: u8, from: usize) -> Option<usize>
     ensures { result ≡ packages_end n t.now from }
 {
     let mut at = from;
-    for i in 0..n {
+    for _ in 0..n {
         let (_, next) = package_at(t, at)?;
         at = next;
     }
@@ -103,12 +103,12 @@ pub fn delivery_at(t: &[u8], at: usize) -> Option<(IpDelivery, usize)>
 }
 
 // Whether n deliveries stand from a place on.
-#[tactic(auto, using(crate::proofs::Packages::whole_none, crate::proofs::Packages::whole_on_lem))]
+#[tactic(auto, using(crate::proofs::Packages::whole_none, crate::proofs::Packages::whole_on_lem), unfolding(crate::specs::Formats::Plt::deliveries_whole))]
 fn deliveries_whole(t: &[u8], n: u8, from: usize) -> bool
     ensures { result ≡ deliveries_whole n t.now from }
 {
     let mut at = from;
-    for i in 0..n {
+    for _ in 0..n {
         let Some((_, next)) = delivery_at(t, at) else {
             return false;
         };

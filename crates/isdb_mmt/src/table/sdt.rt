@@ -9,7 +9,8 @@ use crate::desc;
 use crate::desc::{Descriptor, tag};
 use crate::part::Part;
 use crate::table::section;
-use crate::table::section::{Entry, EntryStep, Parsed, SectionError, SectionHeader};
+use crate::table::section::{Entry, Parsed, SectionError, SectionHeader};
+use crate::walk_step::WalkStep;
 use isdb_tlv::bytes;
 
 // The field of a section's body, and how many services it has.
@@ -41,14 +42,14 @@ pub fn read(header: SectionHeader, body: &[u8]) -> Parsed<(SectionHeader, Sdt)>
     }
 }
 
-// A whole section.
+// A whole section. No trait over what eit, sdt and bit read: its law and its three impls are longer than the three matches.
 #[tactic(auto, unfolding(crate::specs::Formats::Sdt::sdt_of))]
 pub fn parse(b: &[u8]) -> Parsed<(SectionHeader, Sdt)>
     ensures { result ≡ sdt_of b.now }
 {
     match section::long_section(b) {
         Err(e) => section::refused(e, 0),
-        Ok(header) => { read(header, header.body.of(b)) }
+        Ok(header) => read(header, header.body.of(b)),
     }
 }
 
@@ -61,13 +62,6 @@ pub struct SdtService {
     pub running_status: u8,
     pub free_ca: bool,
     pub descriptors: Part,
-}
-
-#[derive(Clone, Copy)]
-pub enum SdtStep {
-    End,
-    Malformed,
-    Service(SdtService, usize),
 }
 
 #[tactic(auto, using(crate::proofs::Fields::first_field, crate::proofs::Fields::byte_field))]
@@ -90,13 +84,13 @@ fn service_of(body: &[u8], e: Entry) -> SdtService
 
 // The services of a body, by a cursor that starts at 3.
 #[tactic(auto, unfolding(crate::specs::Formats::Sdt::service_step))]
-pub fn next_service(body: &[u8], at: usize) -> SdtStep
+pub fn next_service(body: &[u8], at: usize) -> WalkStep<SdtService>
     ensures { result ≡ service_step body.now at }
 {
     match section::next_entry(body, 3, at) {
-        EntryStep::End => SdtStep::End,
-        EntryStep::Malformed => SdtStep::Malformed,
-        EntryStep::Entry(e, next) => SdtStep::Service(service_of(body, e), next),
+        WalkStep::End => WalkStep::End,
+        WalkStep::Malformed => WalkStep::Malformed,
+        WalkStep::Entry(e, next) => WalkStep::Entry(service_of(body, e), next),
     }
 }
 

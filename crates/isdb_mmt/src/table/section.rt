@@ -7,6 +7,7 @@ ghost use Rattle.isdb_mmt.specs.Formats.Section.{header_of, long_section_of, par
 
 use crate::desc;
 use crate::part::Part;
+use crate::walk_step::WalkStep;
 use isdb_tlv::{bytes, crc};
 
 #[derive(Clone, Copy)]
@@ -100,31 +101,24 @@ pub struct Entry {
     pub descriptors: Part,
 }
 
-#[derive(Clone, Copy)]
-pub enum EntryStep {
-    End,
-    Malformed,
-    Entry(Entry, usize),
-}
-
 // The entries of a loop that ends with b, each with so many bytes of fields before the descriptors' length.
 #[tactic(auto, unfolding(crate::specs::Formats::Section::entry_at))]
-pub fn next_entry(b: &[u8], fields: u8, at: usize) -> EntryStep
+pub fn next_entry(b: &[u8], fields: u8, at: usize) -> WalkStep<Entry>
     ensures { result ≡ entry_at b.now fields at }
 {
     if b.len() <= at {
-        return EntryStep::End;
+        return WalkStep::End;
     }
     let k = fields as usize;
     if b.len() - at < k + 2 {
-        return EntryStep::Malformed;
+        return WalkStep::Malformed;
     }
     let start = at + k + 2;
     let length = bytes::get_u12(b, at + k) as usize;
     if b.len() - start < length {
-        return EntryStep::Malformed;
+        return WalkStep::Malformed;
     }
-    EntryStep::Entry(
+    WalkStep::Entry(
         Entry {
             at,
             descriptors: Part { start, length },
@@ -150,7 +144,7 @@ pub fn broken(b: &[u8]) -> usize
     if c.broken { 1 } else { 0 }
 }
 
-#[tactic(auto, using(crate::proofs::Entries::entry_lies, crate::proofs::Entries::broken_le, crate::proofs::Entries::plus_zero))]
+#[tactic(auto, using(crate::proofs::Entries::entry_lies, crate::proofs::Entries::broken_le, crate::proofs::Entries::plus_zero, crate::proofs::Entries::count_end, crate::proofs::Entries::count_malformed, crate::proofs::Entries::count_on))]
 pub fn read_entries(b: &[u8], fields: u8, from: usize) -> Entries
     ensures { result ≡ entries_told (entries_from b.now fields from) }
 {
@@ -160,19 +154,19 @@ pub fn read_entries(b: &[u8], fields: u8, from: usize) -> Entries
     // No iterator: a step has three answers, and the two that end the loop differ.
     loop {
         match next_entry(b, fields, at) {
-            EntryStep::Entry(e, next) => {
+            WalkStep::Entry(e, next) => {
                 count += 1;
                 breaks += broken(e.descriptors.of(b));
                 at = next;
             }
-            EntryStep::Malformed => {
+            WalkStep::Malformed => {
                 return Entries {
                     count,
                     breaks,
                     whole: false,
                 };
             }
-            EntryStep::End => {
+            WalkStep::End => {
                 return Entries {
                     count,
                     breaks,

@@ -17,7 +17,7 @@ returns-in-End c = search (rules, walk_either)
 
 pub loop-preserved : goal.loop-preserved
 loop-preserved c =
-    walk_parts c.loop.invariant _ _ c.next_mpu.ensures c.in-Mpu.is c.loop-test.true (rw (← c.of.ensures) refl) c.comma-p.ensures c.mpu_text-p.ensures
+    walk_parts c.loop.invariant _ _ c.next_mpu.ensures c.in-Entry.is c.loop-test.true (rw (← c.of.ensures) refl) c.comma-p.ensures c.mpu_text-p.ensures
 
 pub returns-after-loop : goal.returns-after-loop
 returns-after-loop c = search (rules, walk_end)

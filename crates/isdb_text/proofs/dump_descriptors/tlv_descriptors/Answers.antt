@@ -12,7 +12,7 @@ returns-in_default c = search (rules, walk_ended)
 
 pub loop-preserved : goal.loop-preserved
 loop-preserved c =
-    walk_turn c.loop.invariant _ _ c.next_tlv.ensures c.in-Descriptor.is c.loop-test.true (rw (← c.of.ensures) refl) c.tlv_line-p.ensures
+    walk_turn c.loop.invariant _ _ c.next_tlv.ensures c.in-Some.is c.loop-test.true (rw (← c.of.ensures) refl) c.tlv_line-p.ensures
 
 pub returns-after-loop : goal.returns-after-loop
 returns-after-loop c = search (rules, walk_end)

@@ -14,4 +14,4 @@ pub returns-in-67 : goal.returns-in-67
 unfolding tlv_text
 returns-in-67 c =
     let f = rw c.in-67.is at c.satellite_frequency_khz.ensures in
-    rw (c.in-67.is, ← f) (wrote_append c.put-p-in-67.ensures c.maybe_u64.ensures)
+    rw (c.in-67.is, ← f) (wrote_append c.put-p-in-67.ensures c.maybe.ensures)

@@ -1,9 +1,9 @@
-use Rattle.std.proofs.Common.{arith}
-use Rattle.isdb_mmt.proofs.Checks.{controls_within}
+use Rattle.isdb_mmt.specs.Memory.Layout.{most_control_ids, control_places, control_size}
+use Rattle.isdb_mmt.specs.Memory.Session.{used_of}
+use Rattle.isdb_mmt.proofs.ReadSteps.{found_in}
 use Rattle.isdb_mmt.proofs.decoder.ids.find_control.Goals as goal
 
-pub find-requires : goal.find-requires
-find-requires c = (omega arith, controls_within _ _ c.load_used-u.ensures c.requires)
-
-pub returns : goal.returns
-returns c = rw (← c.load_used-u.ensures) c.find.ensures
+pub returns-clause-in_use : goal.returns-clause-in_use
+returns-clause-in_use c =
+    let x = c.args in
+    found_in x.state.now control_size (used_of x.state.now).control_ids control_places x.id most_control_ids c.requires.controls c.find.result (rw (← c.load_used-u.ensures) c.find.ensures)

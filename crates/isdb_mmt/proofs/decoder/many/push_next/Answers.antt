@@ -1,9 +1,8 @@
-use Rattle.isdb_mmt.proofs.PushAll.{step_taken, step_refused}
+use Rattle.isdb_mmt.proofs.PushAll.{step_refused}
+use Rattle.isdb_mmt.proofs.Refusals.{refusal_some}
 use Rattle.std.proofs.Common.{rules}
+use Rattle.std.proofs.lemmas.Result.{err_from_is_err_and}
 use Rattle.isdb_mmt.proofs.decoder.many.push_next.Goals as goal
 
-pub returns-then-a-eq0 : goal.returns-then-a-eq0
-returns-then-a-eq0 c = step_taken _ _ _ c.requires _ _ _ _ c.push_behind-a.ensures (search rules) _ (search rules)
-
-pub returns-else-a-eq0 : goal.returns-else-a-eq0
-returns-else-a-eq0 c = step_refused _ _ _ c.requires _ _ _ _ c.push_behind-a.ensures (search rules)
+pub returns-in_err-a : goal.returns-in_err-a
+returns-in_err-a c = let p = err_from_is_err_and c.from_residual.result c.from_residual.ensures.1 in rw (p.1, p.2) (record { same_buffers = search rules; pushed = step_refused _ _ _ c.requires _ _ _ _ (rw c.in_err-a.was at c.push_behind.ensures.pushed) (refusal_some _) })

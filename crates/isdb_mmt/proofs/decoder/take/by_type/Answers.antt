@@ -1,6 +1,7 @@
 use Rattle.isdb_mmt.proofs.Taking.{can_media, may_count, type_media, type_message, type_object, type_fec, type_reserved}
-use Rattle.std.proofs.Common.{rules}
+use Rattle.std.proofs.Common.{rules, refl}
 use Rattle.isdb_mmt.proofs.decoder.take.by_type.Goals as goal
+use Rattle.std.proofs.lemmas.Result.{err_from_is_err_and}
 
 -- src/decoder/take.rt:57:29
 pub push_media-requires : goal.push_media-requires
@@ -23,10 +24,6 @@ pub returns-in-Mpu : goal.returns-in-Mpu
 returns-in-Mpu c = search (rules, type_media)
 
 -- src/decoder/take.rt:41:1
-pub returns-in-Messages : goal.returns-in-Messages
-returns-in-Messages c = search (rules, type_message)
-
--- src/decoder/take.rt:41:1
 pub returns-in-GenericObject : goal.returns-in-GenericObject
 returns-in-GenericObject c = search (rules, type_object)
 
@@ -37,3 +34,9 @@ returns-in-FecRepair c = search (rules, type_fec)
 -- src/decoder/take.rt:41:1
 pub returns-in-Reserved : goal.returns-in-Reserved
 returns-in-Reserved c = search (rules, type_reserved)
+
+pub returns-in_err-push_message-in-Messages : goal.returns-in_err-push_message-in-Messages
+returns-in_err-push_message-in-Messages c = let p = err_from_is_err_and c.from_residual.result c.from_residual.ensures.1 in rw (p.1, p.2) (record { same_buffers = search rules; pushed = type_message _ _ _ _ _ c.requires c.in-Messages.is _ _ (rw c.in_err-push_message-in-Messages.was at c.push_message.ensures.pushed) _ refl })
+
+pub returns-in_ok-push_message-in-Messages : goal.returns-in_ok-push_message-in-Messages
+returns-in_ok-push_message-in-Messages c = record { same_buffers = search rules; pushed = type_message _ _ _ _ _ c.requires c.in-Messages.is _ _ (rw c.in_ok-push_message-in-Messages.was at c.push_message.ensures.pushed) _ c.accepted.ensures }

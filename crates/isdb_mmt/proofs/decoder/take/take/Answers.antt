@@ -1,6 +1,7 @@
 use Rattle.isdb_mmt.proofs.Taking.{may_count, may_count_ip, may_time, can_within, route_ip, route_time, route_mmtp, route_control, route_null, route_other}
-use Rattle.std.proofs.Common.{rules}
+use Rattle.std.proofs.Common.{rules, refl}
 use Rattle.isdb_mmt.proofs.decoder.take.take.Goals as goal
+use Rattle.std.proofs.lemmas.Result.{err_from_is_err_and}
 
 -- src/decoder/take.rt:133:13
 pub count_packet-requires : goal.count_packet-requires
@@ -35,13 +36,15 @@ pub returns-in-Mmtp : goal.returns-in-Mmtp
 returns-in-Mmtp c = search (rules, route_mmtp)
 
 -- src/decoder/take.rt:117:1
-pub returns-in-Control : goal.returns-in-Control
-returns-in-Control c = route_control _ _ _ _ _ c.requires _ c.find_route.ensures c.in-Control.is _ _ c.push_control-n.ensures _ c.refused.ensures
-
--- src/decoder/take.rt:117:1
 pub returns-in-Null : goal.returns-in-Null
 returns-in-Null c = search (rules, route_null)
 
 -- src/decoder/take.rt:117:1
 pub returns-in-Other : goal.returns-in-Other
 returns-in-Other c = search (rules, route_other)
+
+pub returns-in_err-push_control-in-Control : goal.returns-in_err-push_control-in-Control
+returns-in_err-push_control-in-Control c = let p = err_from_is_err_and c.from_residual.result c.from_residual.ensures.1 in rw (p.1, p.2) (record { same_buffers = search rules; pushed = route_control _ _ _ _ _ c.requires _ c.find_route.ensures c.in-Control.is _ _ (rw c.in_err-push_control-in-Control.was at c.push_control.ensures.pushed) _ refl })
+
+pub returns-in_ok-push_control-in-Control : goal.returns-in_ok-push_control-in-Control
+returns-in_ok-push_control-in-Control c = record { same_buffers = search rules; pushed = route_control _ _ _ _ _ c.requires _ c.find_route.ensures c.in-Control.is _ _ (rw c.in_ok-push_control-in-Control.was at c.push_control.ensures.pushed) _ c.accepted-in-Control.ensures }

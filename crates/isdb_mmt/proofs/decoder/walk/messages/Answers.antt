@@ -9,13 +9,13 @@ pub next_message-requires : goal.next_message-requires
 next_message-requires c = let x = c.args in messages_short _ _ _ _ x.a.now x.b.now _ _ _ _ _ _ c.loop-p.invariant
 
 pub message-g-requires : goal.message-g-requires
-message-g-requires c = let x = c.args in messages_can _ _ _ _ x.a.now x.b.now _ _ _ _ _ _ c.loop-p.invariant _ c.next_message.ensures _ _ c.in-Message.is _ c.behind-q.ensures _ _ c.of.ensures c.of-in-Message.ensures
+message-g-requires c = let x = c.args in messages_can _ _ _ _ x.a.now x.b.now _ _ _ _ _ _ c.loop-p.invariant _ c.next_message.ensures _ _ c.in-Entry.is _ c.behind-q.ensures _ _ c.of.ensures c.of-in-Entry.ensures
 
 pub loop-p-smaller : goal.loop-p-smaller
-loop-p-smaller c = let x = c.args in messages_less _ _ _ _ x.a.now x.b.now _ _ _ _ _ _ c.loop-p.invariant _ c.next_message.ensures _ _ c.in-Message.is
+loop-p-smaller c = let x = c.args in messages_less _ _ _ _ x.a.now x.b.now _ _ _ _ _ _ c.loop-p.invariant _ c.next_message.ensures _ _ c.in-Entry.is
 
 pub loop-p-preserved : goal.loop-p-preserved
-loop-p-preserved c = let x = c.args in messages_on _ _ _ _ x.a.now x.b.now _ _ _ _ _ _ c.loop-p.invariant _ c.next_message.ensures _ _ c.in-Message.is _ c.behind-q.ensures _ _ c.of.ensures c.of-in-Message.ensures _ _ _ _ c.message-g.ensures (search rules) (search rules) (search rules)
+loop-p-preserved c = let x = c.args in messages_on _ _ _ _ x.a.now x.b.now _ _ _ _ _ _ c.loop-p.invariant _ c.next_message.ensures _ _ c.in-Entry.is _ c.behind-q.ensures _ _ c.of.ensures c.of-in-Entry.ensures _ _ _ _ c.message-g.ensures (search rules) (search rules) (search rules)
 
 pub cut_short-requires : goal.cut_short-requires
 cut_short-requires c = let x = c.args in messages_cut_can _ _ _ _ x.a.now x.b.now _ _ _ _ _ _ c.loop-p.invariant

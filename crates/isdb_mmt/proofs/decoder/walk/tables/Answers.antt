@@ -10,13 +10,13 @@ pub next_table-requires : goal.next_table-requires
 next_table-requires c = tables_short _ _ _ _ _ _ _ _ _ _ _ _ c.loop-p.invariant
 
 pub table-g-requires : goal.table-g-requires
-table-g-requires c = let x = c.args in tables_can _ _ _ _ _ _ _ _ _ _ _ _ c.loop-p.invariant _ c.next_table.ensures _ _ c.in-Table.is (both_fit x.a.now x.b.now c.shared_slice_known-1.given c.shared_slice_known-2-1.given)
+table-g-requires c = let x = c.args in tables_can _ _ _ _ _ _ _ _ _ _ _ _ c.loop-p.invariant _ c.next_table.ensures _ _ c.in-Entry.is (both_fit x.a.now x.b.now c.shared_slice_known-1.given c.shared_slice_known-2-1.given)
 
 pub loop-p-smaller : goal.loop-p-smaller
-loop-p-smaller c = tables_less _ _ _ _ _ _ _ _ _ _ _ _ c.loop-p.invariant _ c.next_table.ensures _ _ c.in-Table.is
+loop-p-smaller c = tables_less _ _ _ _ _ _ _ _ _ _ _ _ c.loop-p.invariant _ c.next_table.ensures _ _ c.in-Entry.is
 
 pub loop-p-preserved : goal.loop-p-preserved
-loop-p-preserved c = tables_on _ _ _ _ _ _ _ _ _ _ _ _ c.loop-p.invariant _ c.next_table.ensures _ _ c.in-Table.is _ _ _ _ c.table-g.ensures (search rules) (search rules) (search rules)
+loop-p-preserved c = tables_on _ _ _ _ _ _ _ _ _ _ _ _ c.loop-p.invariant _ c.next_table.ensures _ _ c.in-Entry.is _ _ _ _ c.table-g.ensures (search rules) (search rules) (search rules)
 
 pub cut_short-requires : goal.cut_short-requires
 cut_short-requires c = tables_cut_can _ _ _ _ _ _ _ _ _ _ _ _ c.loop-p.invariant

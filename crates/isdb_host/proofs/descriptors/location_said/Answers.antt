@@ -1,4 +1,0 @@
-use Rattle.isdb_host.proofs.descriptors.location_said.Goals as goal
-
-pub returns-in-Some : goal.returns-in-Some
-returns-in-Some c = rw c.in-Some.is c.says_location.ensures

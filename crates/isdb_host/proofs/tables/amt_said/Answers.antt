@@ -1,5 +1,0 @@
-use Rattle.isdb_host.proofs.tables.amt_said.Goals as goal
-
-pub returns-in-Ok : goal.returns-in-Ok
-returns-in-Ok c =
-    rw c.in-Ok.is c.says_section.ensures

@@ -1,6 +1,0 @@
-use Rattle.isdb_mmt.proofs.MediaStores.{stored_old}
-use Rattle.std.proofs.Common.{rules}
-use Rattle.isdb_mmt.proofs.decoder.push_media.store_old.Goals as goal
-
-pub returns : goal.returns
-returns c = search (rules, stored_old)

@@ -1,4 +1,0 @@
-use Rattle.isdb_mmt.proofs.decoder.push_message.aggregated_by.Goals as goal
-
-pub returns : goal.returns
-returns c = rw (c.if-last.false, c.flags_in-x.ensures)

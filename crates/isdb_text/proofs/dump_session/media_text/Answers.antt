@@ -1,6 +1,0 @@
-use Rattle.std.proofs.Common.{rules}
-use Rattle.isdb_text.proofs.Dumped.{wrote_media_text}
-use Rattle.isdb_text.proofs.dump_session.media_text.Goals as goal
-
-pub returns : goal.returns
-returns c = search (rules, wrote_media_text)
