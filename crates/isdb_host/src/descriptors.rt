@@ -111,16 +111,8 @@ impl Told for (Location, usize) {
                 src,
                 dst,
                 port,
-                packet_id,
-            } => says_flow(
-                v,
-                1,
-                Address::V4(src),
-                Address::V4(dst),
-                port,
-                packet_id,
-                size,
-            ),
+                packet_id: id,
+            } => says_flow(v, 1, Address::V4(src), Address::V4(dst), port, id, size),
             Location::Ipv6 {
                 src_high,
                 src_low,
