@@ -73,6 +73,18 @@ pub contains_not : has (record { words = 0 ∷ 0 ∷ 1 ∷ 0 ∷ [] }) 64 ≡ fa
 unfolding has
 contains_not = refl
 
+-- the set of TableIds: of a number that no byte is the last word is asked
+-- wrong: true => false (no word for it)
+pub contains_above : has (record { words = 0 ∷ 0 ∷ 0 ∷ 1 ∷ [] }) 256 ≡ true
+unfolding has
+contains_above = refl
+
+-- the set of TableIds: such a number is put into the last word
+-- wrong: 0x100000000000 => 0 (put nowhere)
+pub insert_above : insert 300 (record { words = 0 ∷ 0 ∷ 0 ∷ 0 ∷ [] }) ≡ record { words = 0 ∷ 0 ∷ 0 ∷ 0x100000000000 ∷ [] }
+unfolding insert with_bit_of
+insert_above = refl
+
 -- mmtp::next_message: a CA message behind a length of 2 bytes
 -- wrong: 0x10 => 0 (no table)
 -- wrong: 10 => 9 (without the length's second byte)

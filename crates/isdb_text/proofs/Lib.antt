@@ -1,5 +1,4 @@
 -- Laws that belong to no one function, a file a subject.
-pub mod PacketLine
 pub mod Written
 pub mod Spelling
 pub mod DigitValues

@@ -41,6 +41,11 @@ abbrev pub turned_down_of : ℕ → Answer
 turned_down_of n = record { number = n; records = 0; bytes = 0 }
 
 -- to packet `k` of a call: those that were taken have a line each, and the one behind them has the number with which the call ended
+unfoldable pub told_by_number : ℕ → ℕ → List ℕ → ℕ → Answer
+told_by_number packets ended lines k =
+    if k <? packets then taken_of (nth_of line_size k lines)
+    else turned_down_of ended
+
 unfoldable pub answer_of : Pushes → List ℕ → ℕ → Answer
 answer_of a lines k =
     if k <? a.progress.packets then taken_of (nth_of line_size k lines)
@@ -89,6 +94,10 @@ cut_line number short_here y = []
 cut_line number bad_here y = []
 
 -- the line of the packet in front of which `x` stands; the first of the call has the number `first`
+unfoldable pub line_by_number : ℕ → List ℕ → ℕ → List ℕ → ℕ → ℕ → Progress → List ℕ
+line_by_number first input most lines packets ended x =
+    cut_line ((first + x.packets) % 2 ^ 64) (cut_at input most x.at) (told_by_number packets ended lines x.packets)
+
 unfoldable pub packet_of : ℕ → List ℕ → ℕ → List ℕ → Pushes → Progress → List ℕ
 packet_of first input most lines a x = cut_line ((first + x.packets) % 2 ^ 64) (cut_at input most x.at) (answer_of a lines x.packets)
 

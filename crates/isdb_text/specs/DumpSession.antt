@@ -18,6 +18,7 @@ use Rattle.isdb_mmt.specs.Memory.Session.{Session, limits_of, used_of, control_p
 use Rattle.isdb_mmt.specs.Pushes.Records.{held_fields}
 use Rattle.isdb_mmt.specs.Answers.Readings.{counters_read, time_read, count_read, next_media_read, media_read, held_read, asset_read, next_control_read, control_read}
 use Rattle.isdb_mmt.specs.Pushes.Answer.{Answer}
+use Rattle.isdb_mmt.specs.declared.decoder.records.HandedOut.{HandedOut}
 use Rattle.isdb_mmt.specs.declared.decoder.counts.AssetStats.{AssetStats}
 use Rattle.isdb_mmt.specs.declared.decoder.counts.Counters.{Counters}
 use Rattle.isdb_mmt.specs.declared.decoder.readings.MediaState.{MediaState}
@@ -29,6 +30,10 @@ use Rattle.isdb_text.specs.Ascending.{ascending_text}
 use Rattle.isdb_mmt.specs.Formats.Maybe.{given}
 
 -- ---- a packet
+
+-- an answer by its number
+abbrev pub answer_by_number : ℕ → HandedOut → Answer
+answer_by_number n h = record { number = n; records = h.records; bytes = h.bytes }
 
 -- what a push answered to the packet with this number: its kind, its length, and what was handed out
 unfoldable pub packet_line : ℕ → ℕ → ℕ → Answer → List ℕ

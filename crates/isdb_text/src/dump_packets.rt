@@ -4,8 +4,10 @@ ghost use Rattle.std.specs.Prelude.{◌≡◌, ◌<◌};
 ghost use Rattle.isdb_mmt.specs.Pushes.PushAll.{nothing_taken};
 ghost use Rattle.isdb_mmt.specs.Pushes.Answer.{answered};
 ghost use Rattle.isdb_text.specs.Text.{Wrote};
-ghost use Rattle.isdb_text.specs.DumpPackets.{nth_of, halt_number, turned_down_of, first_told, answer_of, told_of, next_place, behind_of, packet_of, record_of};
+ghost use Rattle.isdb_text.specs.DumpSession.{answer_by_number};
+ghost use Rattle.isdb_text.specs.DumpPackets.{nth_of, halt_number, turned_down_of, first_told, told_by_number, answer_of, told_of, next_place, behind_of, line_by_number, packet_of, record_of};
 
+use crate::dump_session::NOTHING;
 use crate::{dump_session, text};
 use isdb_mmt::decoder::many::{Halt, Progress, Pushes};
 use isdb_mmt::decoder::records::HandedOut;
@@ -28,10 +30,15 @@ fn nth(list: &[u8], size: usize, i: usize) -> &[u8]
     bytes::part(list, size * i, size)
 }
 
-const NOTHING: HandedOut = HandedOut {
-    records: 0,
-    bytes: 0,
-};
+fn halt_number(h: Halt) -> u8
+    ensures { result ≡ halt_number h }
+{
+    match h {
+        Halt::End | Halt::Short | Halt::Bad => 0,
+        Halt::Full => 10,
+        Halt::Refused(e) => e.number(),
+    }
+}
 
 // To the packet at which a call ended, where one stands there.
 fn last_answer(h: Halt) -> Result<HandedOut, Refusal>
@@ -99,6 +106,24 @@ pub fn answer(lines: &[u8], a: Pushes, k: usize) -> Result<HandedOut, Refusal>
     last_answer(a.halt)
 }
 
+// The same by number, of a call that took so many packets: 0 and what was handed out, or the number with which the call ended.
+#[tactic(auto, unfolding(crate::specs::DumpPackets::told_by_number))]
+pub fn answer_by_number(lines: &[u8], packets: usize, ended: u8, k: usize) -> (u8, HandedOut)
+    ensures { answer_by_number result.0 result.1 ≡ told_by_number packets ended lines.now k }
+{
+    if k < packets {
+        let line = nth(lines, LINE_SIZE, k);
+        return (
+            0,
+            HandedOut {
+                records: bytes::get_u64(line, 0),
+                bytes: bytes::get_u64(line, 8),
+            },
+        );
+    }
+    (ended, NOTHING)
+}
+
 fn next_place(c: Cut, at: usize) -> usize
     ensures { result ≡ next_place at c }
 {
@@ -128,7 +153,7 @@ pub fn behind(input: &[u8], most: usize, lines: &[u8], a: Pushes, x: Progress) -
 }
 
 // A packet's own line. The first of the call has the number first.
-#[tactic(auto, unfolding(crate::specs::DumpPackets::packet_of))]
+#[tactic(auto, unfolding(crate::specs::DumpPackets::packet_of, crate::specs::DumpPackets::line_by_number, crate::specs::DumpPackets::answer_of, crate::specs::DumpPackets::told_by_number))]
 pub fn packet_line(
     out: &mut [u8],
     at: usize,
@@ -141,7 +166,27 @@ pub fn packet_line(
 ) -> usize
     ensures { Wrote out.old at (packet_of first input.now most lines.now a x) out.new result }
 {
-    let y = answer(lines, a, x.packets);
+    let ended = halt_number(a.halt);
+    let packets = a.progress.packets;
+    packet_line_by_number(out, at, first, input, most, lines, packets, ended, x)
+}
+
+// The same by number, of a call that took so many packets and ended with this number: 0, or any other, of the packet behind them.
+#[tactic(auto, unfolding(crate::specs::DumpPackets::line_by_number))]
+pub fn packet_line_by_number(
+    out: &mut [u8],
+    at: usize,
+    first: u64,
+    input: &[u8],
+    most: usize,
+    lines: &[u8],
+    packets: usize,
+    ended: u8,
+    x: Progress,
+) -> usize
+    ensures { Wrote out.old at (line_by_number first input.now most lines.now packets ended x) out.new result }
+{
+    let (answer, h) = answer_by_number(lines, packets, ended, x.packets);
     let number = std::num::wrapping_add_u64(first, x.packets as u64);
     match cut::cut_at(input, most, x.at) {
         Cut::Packet {
@@ -149,7 +194,7 @@ pub fn packet_line(
             start,
             length,
             next,
-        } => dump_session::packet_line(out, at, number, kind, length as u64, y),
+        } => dump_session::packet_line_by_number(out, at, number, kind, length as u64, answer, h),
         Cut::End | Cut::Short | Cut::Bad => text::place(out, at),
     }
 }

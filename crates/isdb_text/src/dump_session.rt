@@ -5,7 +5,7 @@ ghost use Rattle.isdb_mmt.specs.Memory.Lending.{lent_by};
 ghost use Rattle.isdb_mmt.specs.Pushes.Answer.{answered};
 ghost use Rattle.isdb_text.specs.Text.{Wrote, ascii};
 ghost use Rattle.isdb_text.specs.Fill.{filled};
-ghost use Rattle.isdb_text.specs.DumpSession.{data_text, record_text, packet_line, mfu_line, feed_counters, table_counters};
+ghost use Rattle.isdb_text.specs.DumpSession.{data_text, record_text, answer_by_number, packet_line, mfu_line, feed_counters, table_counters};
 ghost use Rattle.isdb_text.specs.DumpSession.{message_counters, counter_lines, unix_bits};
 ghost use Rattle.isdb_text.specs.DumpSession.{ntp_line, stats_line, range_line};
 ghost use Rattle.isdb_text.specs.DumpSession.{state_lines};
@@ -39,17 +39,40 @@ pub fn packet_line(
     ensures { Wrote out.old at (packet_line number kind n (answered a)) out.new result }
 {
     match a {
-        Ok(h) => fill::fill(
+        Ok(h) => packet_line_by_number(out, at, number, kind, n, 0, h),
+        Err(e) => packet_line_by_number(out, at, number, kind, n, e.number(), NOTHING),
+    }
+}
+
+pub(crate) const NOTHING: HandedOut = HandedOut {
+    records: 0,
+    bytes: 0,
+};
+
+// The same by the answer's number: 0 and what was handed out, or any other, of a packet that was turned down.
+#[tactic(auto, unfolding(crate::specs::DumpSession::packet_line))]
+pub fn packet_line_by_number(
+    out: &mut [u8],
+    at: usize,
+    number: u64,
+    kind: u8,
+    n: u64,
+    answer: u8,
+    h: HandedOut,
+) -> usize
+    ensures { Wrote out.old at (packet_line number kind n (answer_by_number answer h)) out.new result }
+{
+    if answer == 0 {
+        let values = [number, kind as u64, n, h.records, h.bytes];
+        return fill::fill(
             out,
             at,
             b"packet # kind %% length # records # bytes #\n",
-            &[number, kind as u64, n, h.records, h.bytes],
-        ),
-        Err(e) => {
-            let values = [number, kind as u64, n, e.number() as u64];
-            fill::fill(out, at, b"packet # kind %% length # refused #\n", &values)
-        }
+            &values,
+        );
     }
+    let values = [number, kind as u64, n, answer as u64];
+    fill::fill(out, at, b"packet # kind %% length # refused #\n", &values)
 }
 
 // The number and the CRC of some bytes, at a line's end.

@@ -1,6 +1,6 @@
 // The line of a kept table as `replay` writes it: which it is, and its bytes.
 ghost use Rattle.isdb_text.specs.Text.{Wrote};
-ghost use Rattle.isdb_text.specs.ReplayKept.{name_text, bytes_line, reading_line};
+ghost use Rattle.isdb_text.specs.ReplayKept.{name_text, bytes_line, reading_line, reading_line_by_number};
 
 use crate::kept_tables::Table;
 use crate::{fill, text};
@@ -38,8 +38,24 @@ pub fn reading_line(
     ensures { Wrote out.old at (reading_line table r tables.now) out.new result }
 {
     match r {
+        Ok(p) => reading_line_by_number(out, at, table, Ok(p), tables),
+        Err(e) => reading_line_by_number(out, at, table, Err(e.number()), tables),
+    }
+}
+
+// The same with any number for a reading that is turned down.
+pub fn reading_line_by_number(
+    out: &mut [u8],
+    at: usize,
+    table: Table,
+    r: Result<Option<Part>, u8>,
+    tables: &[u8],
+) -> usize
+    ensures { Wrote out.old at (reading_line_by_number table r tables.now) out.new result }
+{
+    match r {
         Ok(Some(p)) => bytes_line(out, at, table, p.of(tables)),
         Ok(None) => text::place(out, at),
-        Err(e) => fill::fill(out, at, b"kept refused #\n", &[e.number() as u64]),
+        Err(n) => fill::fill(out, at, b"kept refused #\n", &[n as u64]),
     }
 }

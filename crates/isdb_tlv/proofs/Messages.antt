@@ -15,7 +15,7 @@ use borrow.Author.Tests.{ltb-false, leb-true, eqb-true, eqb-false, eq-eqb, ne_eq
 use Rattle.isdb_tlv.specs.Bytes.{be, with_bit_of}
 use Rattle.isdb_tlv.specs.Walk.{more, turn}
 use Rattle.isdb_tlv.proofs.Walk.{Ahead, walk_at, run_more, plus, one_more as one_more_item}
-use Rattle.isdb_tlv.specs.Messages.{no_table_ids, has, insert, insert_all, set_of, listed_at, listed_from, table_id_at, walked_from, message_of, behind, message_in, prefixed_at, message_at, message_step, item, messages_from}
+use Rattle.isdb_tlv.specs.Messages.{no_table_ids, word_of, has, insert, insert_all, set_of, listed_at, listed_from, table_id_at, walked_from, message_of, behind, message_in, prefixed_at, message_at, message_step, item, messages_from}
 use Rattle.isdb_tlv.specs.Facts.{member, SetIsList}
 use Rattle.isdb_tlv.specs.declared.mmtp.TableIds.{TableIds}
 use Rattle.isdb_tlv.specs.declared.mmtp.Message.{Message}
@@ -54,7 +54,11 @@ zero_word (suc (suc (suc (suc k)))) = refl
 
 length_insert : (id : ℕ) (t : TableIds) → length (insert id t).words ≡ length t.words
 unfolding insert
-length_insert id t = length-set t.words (id / 64) (with_bit_of (get_or t.words (id / 64) 0) (id % 64))
+length_insert id t = length-set t.words (min (id / 64) 3) (with_bit_of (word_of t (id / 64)) (id % 64))
+
+-- the number of a word that there is
+in_words : (k : ℕ) → k < 4 → min k 3 ≡ k
+in_words k h = omega arith
 
 module _ (x : ℕ) (hx : x < 256) where
   -- putting an id in adds that id and no other
@@ -62,18 +66,19 @@ module _ (x : ℕ) (hx : x < 256) where
   unfolding has insert
   has_insert id t h n =
       let w = get_or t.words (id / 64) 0 in
-      either (eqb (x / 64) (id / 64))
+      rw (in_words (id / 64) (omega arith), in_words (x / 64) (omega arith))
+      (either (eqb (x / 64) (id / 64))
       (λ e. let d = eqb-true (x / 64) (id / 64) e in
       rw (d, get_or-set_same t.words (id / 64) (with_bit_of w (id % 64)) 0 (omega arith), bit_set w (id % 64) (x % 64))
       (either (eqb x id)
       (λ a. let b = eqb-true x id a in rw (a, eq-eqb (x % 64) (id % 64) (omega arith)))
       (λ a. rw (a, ne_eqb (x % 64) (id % 64) (λ b. eqb-false x id a (omega arith))))))
       (λ e. let d = eqb-false (x / 64) (id / 64) e in
-      rw (get_or-set_other t.words (id / 64) (x / 64) (with_bit_of w (id % 64)) 0 d, ne_eqb x id (λ b. d (ap (λ n. n / 64) b))))
+      rw (get_or-set_other t.words (id / 64) (x / 64) (with_bit_of w (id % 64)) 0 d, ne_eqb x id (λ b. d (ap (λ n. n / 64) b)))))
 
   has_none : has no_table_ids x ≡ false
   unfolding has
-  has_none = rw (zero_word (x / 64), zero-div)
+  has_none = rw (zero_word (min (x / 64) 3), zero-div)
 
   has_all : (ids : List ℕ) (t : TableIds) → ((i : ℕ) → get_or ids i 0 < 256) → length t.words ≡ 4
       → has (insert_all ids t) x ≡ cond (member x ids) true (has t x)

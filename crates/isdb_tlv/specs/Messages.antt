@@ -1,6 +1,6 @@
 -- The control messages of an undivided payload: their ids and the ids of the tables that they carry.
 -- ARIB STD-B32 Part 3, Figure 2 (the payload) and STD-B60, 4.2 and 7.2.3, Tables 4-6 and 4-8 (the messages).
-use Rattle.std.specs.Prelude.{ℕ, ◌+◌, ◌-◌, ◌*◌, ◌/◌, ◌%◌, ◌^◌, List, [], ◌∷◌, ◌++◌, Bool, length, take, drop, get_or, set, None, Some, Option}
+use Rattle.std.specs.Prelude.{ℕ, ◌+◌, ◌-◌, ◌*◌, ◌/◌, ◌%◌, ◌^◌, List, [], ◌∷◌, ◌++◌, Bool, length, take, drop, get_or, set, min, None, Some, Option}
 use Rattle.isdb_tlv.specs.Guards.{◌<?◌, ◌≤?◌, ◌=?◌, ◌≠?◌}
 use Rattle.std.specs.Prelude.{if◌then◌else◌}
 use Rattle.isdb_tlv.specs.Bytes.{be, with_bit_of}
@@ -14,11 +14,18 @@ use Rattle.isdb_tlv.specs.declared.mmtp.MessageStep.TheVariants.{Refused, End, F
 abbrev pub no_table_ids : TableIds
 no_table_ids = record { words = 0 ∷ 0 ∷ 0 ∷ 0 ∷ [] }
 
+-- word `k`; the last for any number from 3 on
+abbrev pub word_of : TableIds → ℕ → ℕ
+word_of t k = get_or t.words (min k 3) 0
+
 unfoldable pub has : TableIds → ℕ → Bool
-has t id = get_or t.words (id / 64) 0 / 2 ^ (id % 64) % 2 =? 1
+has t id = word_of t (id / 64) / 2 ^ (id % 64) % 2 =? 1
+
+abbrev pub with_word : TableIds → ℕ → ℕ → TableIds
+with_word t k w = record { words = set t.words (min k 3) w }
 
 unfoldable pub insert : ℕ → TableIds → TableIds
-insert id t = record { words = set t.words (id / 64) (with_bit_of (get_or t.words (id / 64) 0) (id % 64)) }
+insert id t = with_word t (id / 64) (with_bit_of (word_of t (id / 64)) (id % 64))
 
 abbrev pub insert_all : List ℕ → TableIds → TableIds
 insert_all [] t = t

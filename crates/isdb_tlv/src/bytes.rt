@@ -133,7 +133,7 @@ pub fn put_u8(s: &mut [u8], at: usize, v: u8)
 pub fn put_u16(s: &mut [u8], at: usize, v: u16)
     ensures { s.new ≡ put_be 2 at v s.old }
 {
-    put_bytes(s, at, v.to_be_bytes());
+    put_bytes::<2>(s, at, v.to_be_bytes());
 }
 
 #[tactic(auto, unfolding(crate::specs::Bytes::be))]

@@ -445,7 +445,8 @@ pub(crate) fn push_media(
         rows.len() as u64,
         out.len() as u64,
     );
-    if a.is_ok() {
+    let taken = a.is_ok();
+    if taken {
         commit_all(state, objects, l, place_for, p, r, h, b, rows, out);
     }
     a

@@ -7,7 +7,7 @@ pub answer_of-a-requires : goal.answer_of-a-requires
 answer_of-a-requires c = let x = c.args in push_small _ _ _ _ _ x.h _ x.rows.now x.out.now c.requires _ c.load_limits-l.ensures _ c.media_place_for-place_for.ensures _ c.place_in-p.ensures _ c.media_outcome-r.ensures
 
 pub commit_all-requires : goal.commit_all-requires
-commit_all-requires c = let x = c.args in can_all _ _ _ _ _ x.h _ x.rows.now x.out.now c.requires _ c.load_limits-l.ensures _ c.media_place_for-place_for.ensures _ c.place_in-p.ensures _ c.media_outcome-r.ensures _ c.answer_of-a.ensures (ok_number _ (sym c.is_ok.ensures.value ∙ c.if-is_ok.true))
+commit_all-requires c = let x = c.args in can_all _ _ _ _ _ x.h _ x.rows.now x.out.now c.requires _ c.load_limits-l.ensures _ c.media_place_for-place_for.ensures _ c.place_in-p.ensures _ c.media_outcome-r.ensures _ c.answer_of-a.ensures (ok_number _ (sym c.is_ok-taken.ensures.value ∙ c.if-taken.true))
 
-pub returns-then-is_ok : goal.returns-then-is_ok
-returns-then-is_ok c = let x = c.args in record { same_buffers = search rules; pushed = pushed_yes _ _ _ _ _ x.h _ x.rows.now x.out.now c.requires _ c.load_limits-l.ensures _ c.media_place_for-place_for.ensures _ c.place_in-p.ensures _ c.media_outcome-r.ensures _ c.answer_of-a.ensures (ok_number _ (sym c.is_ok.ensures.value ∙ c.if-is_ok.true)) _ _ _ _ c.commit_all.ensures }
+pub returns-then-taken : goal.returns-then-taken
+returns-then-taken c = let x = c.args in record { same_buffers = search rules; pushed = pushed_yes _ _ _ _ _ x.h _ x.rows.now x.out.now c.requires _ c.load_limits-l.ensures _ c.media_place_for-place_for.ensures _ c.place_in-p.ensures _ c.media_outcome-r.ensures _ c.answer_of-a.ensures (ok_number _ (sym c.is_ok-taken.ensures.value ∙ c.if-taken.true)) _ _ _ _ c.commit_all.ensures }
