@@ -73,7 +73,7 @@ pub contains_not : has (record { words = 0 ∷ 0 ∷ 1 ∷ 0 ∷ [] }) 64 ≡ fa
 unfolding has
 contains_not = refl
 
--- the set of TableIds: of a number that no byte is the last word is asked
+-- the set of TableIds: of a number that no byte is, the last word is asked
 -- wrong: true => false (no word for it)
 pub contains_above : has (record { words = 0 ∷ 0 ∷ 0 ∷ 1 ∷ [] }) 256 ≡ true
 unfolding has

@@ -40,16 +40,15 @@ taken_of line = record { number = 0; records = be 8 line 0; bytes = be 8 line 8 
 abbrev pub turned_down_of : ℕ → Answer
 turned_down_of n = record { number = n; records = 0; bytes = 0 }
 
--- to packet `k` of a call: those that were taken have a line each, and the one behind them has the number with which the call ended
-unfoldable pub told_by_number : ℕ → ℕ → List ℕ → ℕ → Answer
-told_by_number packets ended lines k =
+-- to packet `k` of a call that took so many: those that were taken have a line each, and the one behind them has the number with which
+-- the call ended
+abbrev pub answer_by_number : ℕ → ℕ → List ℕ → ℕ → Answer
+answer_by_number packets ended lines k =
     if k <? packets then taken_of (nth_of line_size k lines)
     else turned_down_of ended
 
 unfoldable pub answer_of : Pushes → List ℕ → ℕ → Answer
-answer_of a lines k =
-    if k <? a.progress.packets then taken_of (nth_of line_size k lines)
-    else turned_down_of (halt_number a.halt)
+answer_of a lines k = answer_by_number a.progress.packets (halt_number a.halt) lines k
 
 -- how many packets of a call are written: those taken; or the first, where it is turned down. One that is turned down behind others is the
 -- first of the next call, with all of the outputs before it.
@@ -94,12 +93,12 @@ cut_line number short_here y = []
 cut_line number bad_here y = []
 
 -- the line of the packet in front of which `x` stands; the first of the call has the number `first`
-unfoldable pub line_by_number : ℕ → List ℕ → ℕ → List ℕ → ℕ → ℕ → Progress → List ℕ
+abbrev pub line_by_number : ℕ → List ℕ → ℕ → List ℕ → ℕ → ℕ → Progress → List ℕ
 line_by_number first input most lines packets ended x =
-    cut_line ((first + x.packets) % 2 ^ 64) (cut_at input most x.at) (told_by_number packets ended lines x.packets)
+    cut_line ((first + x.packets) % 2 ^ 64) (cut_at input most x.at) (answer_by_number packets ended lines x.packets)
 
 unfoldable pub packet_of : ℕ → List ℕ → ℕ → List ℕ → Pushes → Progress → List ℕ
-packet_of first input most lines a x = cut_line ((first + x.packets) % 2 ^ 64) (cut_at input most x.at) (answer_of a lines x.packets)
+packet_of first input most lines a x = line_by_number first input most lines a.progress.packets (halt_number a.halt) x
 
 -- the line of record `i` of the call, handed out by that packet: a record's data start counts from where its packet's data begin
 unfoldable pub record_of : List ℕ → List ℕ → Progress → ℕ → List ℕ

@@ -32,8 +32,8 @@ use Rattle.isdb_mmt.specs.Formats.Maybe.{given}
 -- ---- a packet
 
 -- an answer by its number
-abbrev pub answer_by_number : ℕ → HandedOut → Answer
-answer_by_number n h = record { number = n; records = h.records; bytes = h.bytes }
+abbrev pub numbered : ℕ → HandedOut → Answer
+numbered n h = record { number = n; records = h.records; bytes = h.bytes }
 
 -- what a push answered to the packet with this number: its kind, its length, and what was handed out
 unfoldable pub packet_line : ℕ → ℕ → ℕ → Answer → List ℕ

@@ -19,12 +19,13 @@ name_text Tot = ascii "kept tot "
 unfoldable pub bytes_line : Table → List ℕ → List ℕ
 bytes_line t s = name_text t ++ (bytes_as_hex s ++ ascii "\n")
 
--- by what is read of it, a part of `s`, or the number for which the reading is turned down; none where it is not kept
+-- by what is read of it: a part of `s`, or the number for which the reading is turned down; no text where it is not kept
 abbrev pub reading_line_by_number : Table → Result (Option Part) ℕ → List ℕ → List ℕ
 reading_line_by_number t (Ok (Some p)) s = bytes_line t (part_of s p)
 reading_line_by_number t (Ok None) s = []
 reading_line_by_number t (Err n) s = filled (ascii "kept refused #\n") (n ∷ [])
 
+-- the same of an answer of the library
 abbrev pub reading_line : Table → Result (Option Part) Refusal → List ℕ → List ℕ
 reading_line t (Ok (Some p)) s = bytes_line t (part_of s p)
 reading_line t (Ok None) s = []

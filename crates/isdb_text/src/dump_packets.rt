@@ -1,11 +1,11 @@
 // What a call for many packets gave, packet by packet, as `feeddump` writes it. A walk goes from packet to packet: `behind` says where the next
 // one stands, and its records are those between the two.
 ghost use Rattle.std.specs.Prelude.{◌≡◌, ◌<◌};
-ghost use Rattle.isdb_mmt.specs.Pushes.PushAll.{nothing_taken};
+ghost use Rattle.isdb_mmt.specs.Pushes.PushAll.{line_size, nothing_taken};
 ghost use Rattle.isdb_mmt.specs.Pushes.Answer.{answered};
 ghost use Rattle.isdb_text.specs.Text.{Wrote};
-ghost use Rattle.isdb_text.specs.DumpSession.{answer_by_number};
-ghost use Rattle.isdb_text.specs.DumpPackets.{nth_of, halt_number, turned_down_of, first_told, told_by_number, answer_of, told_of, next_place, behind_of, line_by_number, packet_of, record_of};
+ghost use Rattle.isdb_text.specs.DumpSession.{numbered};
+ghost use Rattle.isdb_text.specs.DumpPackets.{nth_of, halt_number, turned_down_of, first_told, taken_of, answer_by_number, answer_of, told_of, next_place, behind_of, line_by_number, packet_of, record_of};
 
 use crate::dump_session::NOTHING;
 use crate::{dump_session, text};
@@ -91,35 +91,34 @@ pub fn told(a: Pushes) -> usize
     }
 }
 
+// What a packet that was taken handed out, by its line.
+fn line_of(lines: &[u8], k: usize) -> HandedOut
+    ensures { numbered 0 result ≡ taken_of (nth_of line_size k lines.now) }
+{
+    let line = nth(lines, LINE_SIZE, k);
+    HandedOut {
+        records: bytes::get_u64(line, 0),
+        bytes: bytes::get_u64(line, 8),
+    }
+}
+
 // The answer to a packet of a call.
 #[tactic(auto, unfolding(crate::specs::DumpPackets::answer_of))]
 pub fn answer(lines: &[u8], a: Pushes, k: usize) -> Result<HandedOut, Refusal>
     ensures { answered result ≡ answer_of a lines.now k }
 {
     if k < a.progress.packets {
-        let line = nth(lines, LINE_SIZE, k);
-        return Ok(HandedOut {
-            records: bytes::get_u64(line, 0),
-            bytes: bytes::get_u64(line, 8),
-        });
+        return Ok(line_of(lines, k));
     }
     last_answer(a.halt)
 }
 
 // The same by number, of a call that took so many packets: 0 and what was handed out, or the number with which the call ended.
-#[tactic(auto, unfolding(crate::specs::DumpPackets::told_by_number))]
 pub fn answer_by_number(lines: &[u8], packets: usize, ended: u8, k: usize) -> (u8, HandedOut)
-    ensures { answer_by_number result.0 result.1 ≡ told_by_number packets ended lines.now k }
+    ensures { numbered result.0 result.1 ≡ answer_by_number packets ended lines.now k }
 {
     if k < packets {
-        let line = nth(lines, LINE_SIZE, k);
-        return (
-            0,
-            HandedOut {
-                records: bytes::get_u64(line, 0),
-                bytes: bytes::get_u64(line, 8),
-            },
-        );
+        return (0, line_of(lines, k));
     }
     (ended, NOTHING)
 }
@@ -153,7 +152,7 @@ pub fn behind(input: &[u8], most: usize, lines: &[u8], a: Pushes, x: Progress) -
 }
 
 // A packet's own line. The first of the call has the number first.
-#[tactic(auto, unfolding(crate::specs::DumpPackets::packet_of, crate::specs::DumpPackets::line_by_number, crate::specs::DumpPackets::answer_of, crate::specs::DumpPackets::told_by_number))]
+#[tactic(auto, unfolding(crate::specs::DumpPackets::packet_of))]
 pub fn packet_line(
     out: &mut [u8],
     at: usize,
@@ -172,7 +171,6 @@ pub fn packet_line(
 }
 
 // The same by number, of a call that took so many packets and ended with this number: 0, or any other, of the packet behind them.
-#[tactic(auto, unfolding(crate::specs::DumpPackets::line_by_number))]
 pub fn packet_line_by_number(
     out: &mut [u8],
     at: usize,

@@ -5,7 +5,7 @@ ghost use Rattle.isdb_mmt.specs.Memory.Lending.{lent_by};
 ghost use Rattle.isdb_mmt.specs.Pushes.Answer.{answered};
 ghost use Rattle.isdb_text.specs.Text.{Wrote, ascii};
 ghost use Rattle.isdb_text.specs.Fill.{filled};
-ghost use Rattle.isdb_text.specs.DumpSession.{data_text, record_text, answer_by_number, packet_line, mfu_line, feed_counters, table_counters};
+ghost use Rattle.isdb_text.specs.DumpSession.{data_text, record_text, numbered, packet_line, mfu_line, feed_counters, table_counters};
 ghost use Rattle.isdb_text.specs.DumpSession.{message_counters, counter_lines, unix_bits};
 ghost use Rattle.isdb_text.specs.DumpSession.{ntp_line, stats_line, range_line};
 ghost use Rattle.isdb_text.specs.DumpSession.{state_lines};
@@ -26,6 +26,11 @@ use isdb_mmt::decoder::session::Session;
 use isdb_mmt::{maybe, ntp};
 use isdb_tlv::{bytes, crc};
 
+pub(crate) const NOTHING: HandedOut = HandedOut {
+    records: 0,
+    bytes: 0,
+};
+
 // What a push answered to the packet with this number.
 #[tactic(auto, unfolding(crate::specs::DumpSession::packet_line))]
 pub fn packet_line(
@@ -44,11 +49,6 @@ pub fn packet_line(
     }
 }
 
-pub(crate) const NOTHING: HandedOut = HandedOut {
-    records: 0,
-    bytes: 0,
-};
-
 // The same by the answer's number: 0 and what was handed out, or any other, of a packet that was turned down.
 #[tactic(auto, unfolding(crate::specs::DumpSession::packet_line))]
 pub fn packet_line_by_number(
@@ -60,7 +60,7 @@ pub fn packet_line_by_number(
     answer: u8,
     h: HandedOut,
 ) -> usize
-    ensures { Wrote out.old at (packet_line number kind n (answer_by_number answer h)) out.new result }
+    ensures { Wrote out.old at (packet_line number kind n (numbered answer h)) out.new result }
 {
     if answer == 0 {
         let values = [number, kind as u64, n, h.records, h.bytes];

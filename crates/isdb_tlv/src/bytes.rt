@@ -140,14 +140,14 @@ pub fn put_u16(s: &mut [u8], at: usize, v: u16)
 pub fn put_u32(s: &mut [u8], at: usize, v: u32)
     ensures { s.new ≡ put_be 4 at v s.old }
 {
-    put_bytes(s, at, v.to_be_bytes());
+    put_bytes::<4>(s, at, v.to_be_bytes());
 }
 
 #[tactic(auto, unfolding(crate::specs::Bytes::be))]
 pub fn put_u64(s: &mut [u8], at: usize, v: u64)
     ensures { s.new ≡ put_be 8 at v s.old }
 {
-    put_bytes(s, at, v.to_be_bytes());
+    put_bytes::<8>(s, at, v.to_be_bytes());
 }
 
 // A word with bit i set; of i the low 6 bits count.
