@@ -1,18 +1,17 @@
 // What each reading finds.
-use crate::print::{Hex, OrNone};
+use crate::print::{Hex, HexAddress, HexNumber, field};
 use crate::walk::Walk;
 use crate::{tables, units};
-use isdb_tlv::ip::{Address, Datagram, Flow, IpError};
+use isdb_tlv::ip::{Datagram, Flow, IpError};
 use isdb_tlv::mmtp::{Header, Message, MessageStep, Packet};
 use isdb_tlv::si::Section;
 use isdb_tlv::tlv::PacketType;
 use isdb_tlv::{bytes, crc, ip, mmtp, si};
-use std::fmt::{Display, Formatter, Write};
-use std::{fmt, io};
+use std::io;
 
 pub fn answer(rt: &impl Print, word: &[u8], b: &[u8]) -> io::Result<()> {
     match word {
-        b"crc" => print!(rt; " crc {:08x}", crc::crc32(b)),
+        b"crc" => field(rt, "crc", HexNumber(crc::crc32(b) as u64, 8)),
         b"tlv" => packet_type(rt, PacketType::from(bytes::get_u8(b, 0))),
         b"ipv4" => datagram(rt, ip::ipv4(b), b),
         b"ipv6" => datagram(rt, ip::ipv6(b), b),
@@ -52,7 +51,7 @@ fn packet_type(rt: &impl Print, t: PacketType) -> io::Result<()> {
         PacketType::Compressed => print!(rt; " compressed"),
         PacketType::Control => print!(rt; " control"),
         PacketType::Null => print!(rt; " null"),
-        PacketType::Other(v) => print!(rt; " other {v}"),
+        PacketType::Other(v) => field(rt, "other", v),
     }
 }
 
@@ -67,38 +66,29 @@ fn datagram(rt: &impl Print, r: Result<Datagram, IpError>, b: &[u8]) -> io::Resu
     match r {
         Ok(d) => found(rt, d, b),
         Err(IpError::Truncated) => print!(rt; " truncated"),
-        Err(IpError::NotUdp(p)) => print!(rt; " not_udp {p}"),
-        Err(IpError::HeaderType(t)) => print!(rt; " header_type {t}"),
-        Err(IpError::Version(v)) => print!(rt; " version {v}"),
+        Err(IpError::NotUdp(p)) => field(rt, "not_udp", p),
+        Err(IpError::HeaderType(t)) => field(rt, "header_type", t),
+        Err(IpError::Version(v)) => field(rt, "version", v),
     }
 }
 
 fn found(rt: &impl Print, d: Datagram, b: &[u8]) -> io::Result<()> {
-    print!(rt; " context {}", OrNone(d.context))?;
+    match d.context {
+        None => print!(rt; " context none")?,
+        Some(c) => field(rt, "context", c)?,
+    }
     match d.flow {
         None => print!(rt; " flow none")?,
         Some(f) => ends(rt, f)?,
     }
-    print!(rt; " payload {}", Hex(d.payload(b)))
+    field(rt, "payload", Hex(d.payload(b)))
 }
 
 fn ends(rt: &impl Print, f: Flow) -> io::Result<()> {
-    let src = HexAddress(f.src);
-    let dst = HexAddress(f.dst);
-    print!(rt; " src {src} dst {dst} sport {} dport {}", f.sport, f.dport)
-}
-
-// An address in hexadecimal digits.
-#[derive(Clone, Copy)]
-pub struct HexAddress(pub Address);
-
-impl Display for HexAddress {
-    fn fmt<W: Write>(&self, f: &mut Formatter<W>) -> fmt::Result {
-        match self.0 {
-            Address::V4(n) => write!(f, "{n:08x}"),
-            Address::V6(high, low) => write!(f, "{high:016x}{low:016x}"),
-        }
-    }
+    field(rt, "src", HexAddress(f.src))?;
+    field(rt, "dst", HexAddress(f.dst))?;
+    field(rt, "sport", f.sport)?;
+    field(rt, "dport", f.dport)
 }
 
 fn packet(rt: &impl Print, r: Option<Packet>, b: &[u8]) -> io::Result<()> {
@@ -106,29 +96,27 @@ fn packet(rt: &impl Print, r: Option<Packet>, b: &[u8]) -> io::Result<()> {
         return print!(rt; " none");
     };
     header(rt, p.header)?;
-    print!(rt; " payload {}", Hex(p.payload(b)))
+    field(rt, "payload", Hex(p.payload(b)))
 }
 
 fn header(rt: &impl Print, h: Header) -> io::Result<()> {
-    print!(rt;
-        " fec {} rap {} type {}",
-        u8::from(h.fec_type),
-        h.rap as u8,
-        u8::from(h.payload_type)
-    )?;
-    print!(rt; " id {} sequence {}", h.packet_id, h.sequence)?;
-    print!(rt;
-        " scrambled {} control {}",
-        h.scramble_info as u8,
-        OrNone(h.scramble_control)
-    )
+    field(rt, "fec", u8::from(h.fec_type))?;
+    field(rt, "rap", h.rap as u8)?;
+    field(rt, "type", u8::from(h.payload_type))?;
+    field(rt, "id", h.packet_id)?;
+    field(rt, "sequence", h.sequence)?;
+    field(rt, "scrambled", h.scramble_info as u8)?;
+    match h.scramble_control {
+        None => print!(rt; " control none"),
+        Some(c) => field(rt, "control", c),
+    }
 }
 
 fn messages(rt: &impl Print, b: &[u8]) -> io::Result<()> {
     let Some(n) = mmtp::messages(b) else {
         return print!(rt; " refused");
     };
-    print!(rt; " messages {n}")?;
+    field(rt, "messages", n)?;
     let step = |at| match mmtp::next_message(b, at) {
         MessageStep::Found(m, next) => Some((m, next)),
         _ => None,
@@ -140,10 +128,11 @@ fn messages(rt: &impl Print, b: &[u8]) -> io::Result<()> {
 }
 
 fn message(rt: &impl Print, m: Message) -> io::Result<()> {
-    print!(rt; " id {:04x} tables", m.id)?;
+    field(rt, "id", HexNumber(m.id as u64, 4))?;
+    print!(rt; " tables")?;
     let tables = m.tables;
     for id in (0..=255u8).filter(|id| tables.contains(*id)) {
-        print!(rt; " {id:02x}")?;
+        print!(rt; " {}", HexNumber(id as u64, 2))?;
     }
     Ok(())
 }
@@ -161,7 +150,9 @@ fn sections(rt: &impl Print, b: &[u8]) -> io::Result<()> {
 }
 
 fn section(rt: &impl Print, s: Section, b: &[u8]) -> io::Result<()> {
-    print!(rt; " at {} table {:02x}", s.offset, s.table_id)?;
-    print!(rt; " extension {} version {}", s.extension, s.version)?;
-    print!(rt; " bytes {}", Hex(s.bytes(b)))
+    field(rt, "at", s.offset)?;
+    field(rt, "table", HexNumber(s.table_id as u64, 2))?;
+    field(rt, "extension", s.extension)?;
+    field(rt, "version", s.version)?;
+    field(rt, "bytes", Hex(s.bytes(b)))
 }

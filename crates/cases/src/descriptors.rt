@@ -1,5 +1,5 @@
 // Locations and descriptors as text.
-use crate::print::{Hex, OrNone};
+use crate::print::{Hex, HexAddress, HexNumber, OrNone, field};
 use crate::walk::Walk;
 use isdb_mmt::desc::{Descriptor, Step};
 use isdb_mmt::location::Location;
@@ -7,18 +7,23 @@ use isdb_mmt::timestamp::Extended;
 use isdb_mmt::walk_step::WalkStep;
 use isdb_mmt::{desc, timestamp};
 use isdb_tlv::bytes;
+use isdb_tlv::ip::Address;
 use std::io;
 
 // A location whose first byte is that of b, which a URL's place counts from.
 pub fn location(rt: &impl Print, l: Location, b: &[u8]) -> io::Result<()> {
     match l {
-        Location::SameFlow(id) => print!(rt; " same_flow {id}"),
+        Location::SameFlow(id) => field(rt, "same_flow", id),
         Location::Ipv4 {
             src,
             dst,
             port,
             packet_id,
-        } => print!(rt; " ipv4 {src:08x} {dst:08x} {port} {packet_id}"),
+        } => print!(rt;
+            " ipv4 {} {} {port} {packet_id}",
+            HexNumber(src as u64, 8),
+            HexNumber(dst as u64, 8)
+        ),
         Location::Ipv6 {
             src_high,
             src_low,
@@ -27,16 +32,23 @@ pub fn location(rt: &impl Print, l: Location, b: &[u8]) -> io::Result<()> {
             port,
             packet_id,
         } => {
-            print!(rt; " ipv6 {src_high:016x}{src_low:016x} {dst_high:016x}{dst_low:016x}")?;
-            print!(rt; " {port} {packet_id}")
+            let src = HexAddress(Address::V6(src_high, src_low));
+            let dst = HexAddress(Address::V6(dst_high, dst_low));
+            print!(rt; " ipv6 {src} {dst} {port} {packet_id}")
         }
         Location::Mpeg2Ts {
             network_id,
             ts_id,
             pid,
-        } => print!(rt; " mpeg2_ts {network_id} {ts_id} {pid:04x}"),
-        Location::Mpeg2TsIpv6 { port, pid } => print!(rt; " mpeg2_ts_ipv6 {port} {pid:04x}"),
-        Location::Url(p) => print!(rt; " url {}", Hex(p.of(b))),
+        } => {
+            field(rt, "mpeg2_ts", network_id)?;
+            print!(rt; " {ts_id} {}", HexNumber(pid as u64, 4))
+        }
+        Location::Mpeg2TsIpv6 { port, pid } => {
+            field(rt, "mpeg2_ts_ipv6", port)?;
+            print!(rt; " {}", HexNumber(pid as u64, 4))
+        }
+        Location::Url(p) => field(rt, "url", Hex(p.of(b))),
     }
 }
 
@@ -64,16 +76,26 @@ fn descriptor(rt: &impl Print, d: Descriptor, b: &[u8]) -> io::Result<()> {
         Descriptor::Scrambler {
             layer_type,
             system_id,
-        } => print!(rt; " scrambler {layer_type} {system_id}"),
+        } => {
+            field(rt, "scrambler", layer_type)?;
+            print!(rt; " {system_id}")
+        }
         Descriptor::StreamIdentifier { component_tag } => {
-            print!(rt; " stream_identifier {component_tag}")
+            field(rt, "stream_identifier", component_tag)
         }
         Descriptor::Hevc {
             profile_idc,
             tier,
             level_idc,
-        } => print!(rt; " hevc {profile_idc} {} {level_idc}", tier as u8),
-        Descriptor::Other { tag, body } => print!(rt; " other 0x{tag:04x} {}", Hex(body.of(b))),
+        } => {
+            field(rt, "hevc", profile_idc)?;
+            print!(rt; " {} {level_idc}", tier as u8)
+        }
+        Descriptor::Other { tag, body } => print!(rt;
+            " other 0x{} {}",
+            HexNumber(tag as u64, 4),
+            Hex(body.of(b))
+        ),
         _ => service_descriptor(rt, d, b),
     }
 }
@@ -86,12 +108,9 @@ fn service_descriptor(rt: &impl Print, d: Descriptor, b: &[u8]) -> io::Result<()
             provider,
             name,
         } => {
-            print!(rt; " service {service_type}")?;
-            print!(rt;
-                " provider {} name {}",
-                Hex(provider.of(b)),
-                Hex(name.of(b))
-            )
+            field(rt, "service", service_type)?;
+            field(rt, "provider", Hex(provider.of(b)))?;
+            field(rt, "name", Hex(name.of(b)))
         }
         Descriptor::ServiceList => service_list(rt, b),
         Descriptor::ShortEvent {
@@ -99,14 +118,12 @@ fn service_descriptor(rt: &impl Print, d: Descriptor, b: &[u8]) -> io::Result<()
             name,
             text,
         } => {
-            print!(rt;
-                " short_event {:02x}{:02x}{:02x}",
-                l.first, l.second, l.third
-            )?;
-            print!(rt; " name {} text {}", Hex(name.of(b)), Hex(text.of(b)))
+            print!(rt; " short_event {}", Hex(&[l.first, l.second, l.third]))?;
+            field(rt, "name", Hex(name.of(b)))?;
+            field(rt, "text", Hex(text.of(b)))
         }
         Descriptor::Content => genres(rt, b),
-        Descriptor::BroadcasterName(name) => print!(rt; " broadcaster_name {}", Hex(name.of(b))),
+        Descriptor::BroadcasterName(name) => field(rt, "broadcaster_name", Hex(name.of(b))),
         _ => Ok(()),
     }
 }
@@ -117,7 +134,8 @@ fn access_control(
     l: Option<Location>,
     b: &[u8],
 ) -> io::Result<()> {
-    print!(rt; " access_control {ca_system_id} location")?;
+    field(rt, "access_control", ca_system_id)?;
+    print!(rt; " location")?;
     match l {
         None => print!(rt; " none"),
         Some(l) => location(rt, l, bytes::rest(b, 2)),
@@ -137,10 +155,10 @@ fn timestamps(rt: &impl Print, b: &[u8]) -> io::Result<()> {
     let step = |at| timestamp::next_timestamp(b, at);
     for (i, x) in Walk::new(0, b.len(), step).enumerate() {
         print!(rt;
-            "{}{}:{:016x}",
+            "{}{}:{}",
             comma(i),
             x.mpu_sequence_number,
-            x.presentation_time
+            HexNumber(x.presentation_time, 16)
         )?;
     }
     Ok(())

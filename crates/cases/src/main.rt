@@ -11,7 +11,7 @@ mod walk;
 
 use isdb_text::digits;
 use isdb_text::digits::DecodeError;
-use print::PassingOver;
+use print::{PassingOver, field};
 use std::io;
 
 fn main(rt: HostRuntime) {
@@ -43,8 +43,11 @@ fn answer_input(
 // One case: an empty line, and one that starts with '#', is written as it stands. Its bytes are decoded into data, which is lent for all
 // cases, since an array of its own would be cleared for each. What needs no format is written without.
 fn case(rt: &impl Print, line: &[u8], data: &mut [u8; 65536]) -> io::Result<()> {
+    let Some(first) = line.first() else {
+        return rt.write_all(b"\n");
+    };
     rt.write_all(line)?;
-    if let None | Some(b'#') = line.first() {
+    if *first == b'#' {
         return rt.write_all(b"\n");
     }
     let mut parts = line.splitn(2, |x| *x == b' ');
@@ -53,7 +56,7 @@ fn case(rt: &impl Print, line: &[u8], data: &mut [u8; 65536]) -> io::Result<()> 
     rt.write_all(b" ->")?;
     match digits::decode(data, text) {
         Ok(n) => answer::answer(rt, word, isdb_tlv::bytes::part(data, 0, n))?,
-        Err(DecodeError::Foreign(at)) => print!(rt; " error: no hexadecimal digit, at {at}")?,
+        Err(DecodeError::Foreign(at)) => field(rt, "error: no hexadecimal digit, at", at)?,
         Err(DecodeError::Odd) => rt.write_all(b" error: an odd number of digits")?,
         Err(DecodeError::TooLong) => rt.write_all(b" error: more than 65536 bytes")?,
     }

@@ -1,7 +1,6 @@
 // Tables as text, a fact a line.
-use crate::answer::HexAddress;
 use crate::descriptors::{each, location, service_list};
-use crate::print::{Hex, OrNone};
+use crate::print::{Hex, HexAddress, HexNumber, OrNone, field};
 use crate::walk::Walk;
 use isdb_mmt::desc::Descriptor;
 use isdb_mmt::location::Location;
@@ -25,20 +24,21 @@ pub fn ntp_time(rt: &impl Print, t: u64) -> io::Result<()> {
     if x.is_nan() {
         return print!(rt; " no number");
     }
-    print!(rt; " unix_bits {:016x}", x.to_bits())
+    field(rt, "unix_bits", HexNumber(x.to_bits(), 16))
 }
 
 pub fn located(rt: &impl Print, b: &[u8]) -> io::Result<()> {
     let Some((l, n)) = Location::parse(b) else {
         return print!(rt; " none");
     };
-    print!(rt; " took {n}")?;
+    field(rt, "took", n)?;
     location(rt, l, b)
 }
 
 pub fn descriptor_loop(rt: &impl Print, b: &[u8]) -> io::Result<()> {
     let c = desc::decode_all(b);
-    print!(rt; " descriptors {} broken {}", c.count, c.broken as u8)?;
+    field(rt, "descriptors", c.count)?;
+    field(rt, "broken", c.broken as u8)?;
     each(rt, "  ", b)
 }
 
@@ -70,16 +70,19 @@ fn section<T: Drop, F: FnOnce(T, &[u8]) -> io::Result<()>>(
 
 fn header(rt: &impl Print, h: SectionHeader) -> io::Result<()> {
     print!(rt;
-        " header 0x{:02x} {} {}",
-        h.table_id, h.extension, h.section_number
+        " header 0x{} {} {}",
+        HexNumber(h.table_id as u64, 2),
+        h.extension,
+        h.section_number
     )?;
-    print!(rt; " last_section_number {}", h.last_section_number)?;
-    print!(rt; " version {} current {}", h.version, h.current as u8)
+    field(rt, "last_section_number", h.last_section_number)?;
+    field(rt, "version", h.version)?;
+    field(rt, "current", h.current as u8)
 }
 
 pub fn mpt_table(rt: &impl Print, b: &[u8]) -> io::Result<()> {
     let p = mpt::parse(b);
-    print!(rt; " breaks {}", p.breaks)?;
+    field(rt, "breaks", p.breaks)?;
     let Some(t) = p.mpt else {
         return print!(rt; " none");
     };
@@ -92,11 +95,10 @@ pub fn mpt_table(rt: &impl Print, b: &[u8]) -> io::Result<()> {
 }
 
 fn mpt_head(rt: &impl Print, t: Mpt, b: &[u8]) -> io::Result<()> {
-    print!(rt;
-        " table_id 0x{:02x} version {} mode {}",
-        t.table_id, t.version, t.mode
-    )?;
-    print!(rt; " package_id {}", Hex(t.package_id.of(b)))?;
+    print!(rt; " table_id 0x{}", HexNumber(t.table_id as u64, 2))?;
+    field(rt, "version", t.version)?;
+    field(rt, "mode", t.mode)?;
+    field(rt, "package_id", Hex(t.package_id.of(b)))?;
     print!(rt; " service_id {}", OrNone(t.service_id(b)))
 }
 
@@ -116,23 +118,19 @@ fn asset(rt: &impl Print, a: Asset, b: &[u8]) -> io::Result<()> {
 }
 
 fn asset_head(rt: &impl Print, a: Asset, b: &[u8]) -> io::Result<()> {
-    print!(rt; "\n  asset identifier_type {}", a.identifier_type)?;
-    print!(rt;
-        " scheme {} id {}",
-        a.asset_id_scheme,
-        Hex(a.asset_id.of(b))
-    )?;
-    print!(rt;
-        " type {:08x} clock_relation {}",
-        a.asset_type, a.clock_relation as u8
-    )
+    print!(rt; "\n  asset")?;
+    field(rt, "identifier_type", a.identifier_type)?;
+    field(rt, "scheme", a.asset_id_scheme)?;
+    field(rt, "id", Hex(a.asset_id.of(b)))?;
+    field(rt, "type", HexNumber(a.asset_type as u64, 8))?;
+    field(rt, "clock_relation", a.clock_relation as u8)
 }
 
 pub fn plt_table(rt: &impl Print, b: &[u8]) -> io::Result<()> {
     let Some(t) = plt::parse(b) else {
         return print!(rt; " none");
     };
-    print!(rt; " version {}", t.version)?;
+    field(rt, "version", t.version)?;
     packages(rt, t, b)?;
     deliveries(rt, t, b)
 }
@@ -148,28 +146,27 @@ fn packages(rt: &impl Print, t: Plt, b: &[u8]) -> io::Result<()> {
 fn deliveries(rt: &impl Print, t: Plt, b: &[u8]) -> io::Result<()> {
     let step = |at| plt::delivery_at(b, at);
     for d in Walk::new(t.deliveries_start, t.ip_deliveries as usize, step) {
-        print!(rt;
-            "\n  ip_delivery {} location_type {}",
-            d.transport_file_id, d.location_type
-        )?;
+        print!(rt; "\n  ip_delivery {}", d.transport_file_id)?;
+        field(rt, "location_type", d.location_type)?;
     }
     Ok(())
 }
 
 pub fn eit_section(rt: &impl Print, b: &[u8]) -> io::Result<()> {
     let p = eit::parse(b);
-    print!(rt; " breaks {}", p.breaks)?;
+    field(rt, "breaks", p.breaks)?;
     section(rt, p.result, b, |t, s| eit_table(rt, t, s))
 }
 
 fn eit_table(rt: &impl Print, t: Eit, s: &[u8]) -> io::Result<()> {
-    print!(rt; " tlv_stream_id {}", t.tlv_stream_id)?;
-    print!(rt; " original_network_id {}", t.original_network_id)?;
-    print!(rt;
-        " segment_last_section_number {}",
-        t.segment_last_section_number
+    field(rt, "tlv_stream_id", t.tlv_stream_id)?;
+    field(rt, "original_network_id", t.original_network_id)?;
+    field(
+        rt,
+        "segment_last_section_number",
+        t.segment_last_section_number,
     )?;
-    print!(rt; " last_table_id {}", t.last_table_id)?;
+    field(rt, "last_table_id", t.last_table_id)?;
     let step = |at| match eit::next_event(s, at) {
         WalkStep::Entry(e, next) => Some((e, next)),
         _ => None,
@@ -182,10 +179,9 @@ fn eit_table(rt: &impl Print, t: Eit, s: &[u8]) -> io::Result<()> {
 
 fn event(rt: &impl Print, e: Event, s: &[u8]) -> io::Result<()> {
     let d = e.descriptors.of(s);
-    print!(rt;
-        "\n  event {} start {:010x} duration {:06x}",
-        e.event_id, e.start, e.duration
-    )?;
+    print!(rt; "\n  event {}", e.event_id)?;
+    field(rt, "start", HexNumber(e.start, 10))?;
+    field(rt, "duration", HexNumber(e.duration as u64, 6))?;
     status(rt, e.running_status, e.free_ca)?;
     print!(rt; " short_event")?;
     names(rt, eit::short_event(d).map(|(x, p)| (x, p.of(d))))?;
@@ -193,10 +189,8 @@ fn event(rt: &impl Print, e: Event, s: &[u8]) -> io::Result<()> {
 }
 
 fn status(rt: &impl Print, running_status: u8, free_ca: bool) -> io::Result<()> {
-    print!(rt;
-        " running_status {running_status} free_ca {}",
-        free_ca as u8
-    )
+    field(rt, "running_status", running_status)?;
+    field(rt, "free_ca", free_ca as u8)
 }
 
 // The texts of a short event or a service, the latter behind its type.
@@ -225,12 +219,12 @@ fn names(rt: &impl Print, found: Option<(Descriptor, &[u8])>) -> io::Result<()> 
 
 pub fn sdt_section(rt: &impl Print, b: &[u8]) -> io::Result<()> {
     let p = sdt::parse(b);
-    print!(rt; " breaks {}", p.breaks)?;
+    field(rt, "breaks", p.breaks)?;
     section(rt, p.result, b, |t, s| sdt_table(rt, t, s))
 }
 
 fn sdt_table(rt: &impl Print, t: Sdt, s: &[u8]) -> io::Result<()> {
-    print!(rt; " original_network_id {}", t.original_network_id)?;
+    field(rt, "original_network_id", t.original_network_id)?;
     let step = |at| match sdt::next_service(s, at) {
         WalkStep::Entry(e, next) => Some((e, next)),
         _ => None,
@@ -244,9 +238,9 @@ fn sdt_table(rt: &impl Print, t: Sdt, s: &[u8]) -> io::Result<()> {
 fn service(rt: &impl Print, e: SdtService, s: &[u8]) -> io::Result<()> {
     let d = e.descriptors.of(s);
     print!(rt; "\n  service {}", e.service_id)?;
-    print!(rt; " eit_user_defined_flags {}", e.eit_user_defined_flags)?;
-    print!(rt; " eit_schedule {}", e.eit_schedule as u8)?;
-    print!(rt; " eit_present_following {}", e.eit_present_following as u8)?;
+    field(rt, "eit_user_defined_flags", e.eit_user_defined_flags)?;
+    field(rt, "eit_schedule", e.eit_schedule as u8)?;
+    field(rt, "eit_present_following", e.eit_present_following as u8)?;
     status(rt, e.running_status, e.free_ca)?;
     print!(rt; " service")?;
     names(rt, sdt::service_descriptor(d).map(|(x, p)| (x, p.of(d))))?;
@@ -255,11 +249,11 @@ fn service(rt: &impl Print, e: SdtService, s: &[u8]) -> io::Result<()> {
 
 pub fn tot_section(rt: &impl Print, b: &[u8]) -> io::Result<()> {
     let p = tot::parse(b);
-    print!(rt; " breaks {}", p.breaks)?;
+    field(rt, "breaks", p.breaks)?;
     match p.result {
         Err(e) => failed(rt, e),
         Ok(t) => {
-            print!(rt; " jst {:010x}", t.jst)?;
+            field(rt, "jst", HexNumber(t.jst, 10))?;
             each(rt, "  ", t.descriptors.of(b))
         }
     }
@@ -267,15 +261,16 @@ pub fn tot_section(rt: &impl Print, b: &[u8]) -> io::Result<()> {
 
 pub fn bit_section(rt: &impl Print, b: &[u8]) -> io::Result<()> {
     let p = bit::parse(b);
-    print!(rt; " breaks {}", p.breaks)?;
+    field(rt, "breaks", p.breaks)?;
     section(rt, p.result, b, |t, s| bit_table(rt, t, s))
 }
 
 fn bit_table(rt: &impl Print, t: Bit, s: &[u8]) -> io::Result<()> {
     let d = t.descriptors;
-    print!(rt;
-        " broadcast_view_propriety {}",
-        t.broadcast_view_propriety as u8
+    field(
+        rt,
+        "broadcast_view_propriety",
+        t.broadcast_view_propriety as u8,
     )?;
     each(rt, "  ", d.of(s))?;
     let step = |at| match bit::next_broadcaster(s, at) {
@@ -302,7 +297,7 @@ fn nit_table(rt: &impl Print, t: Nit, s: &[u8]) -> io::Result<()> {
     };
     for e in Walk::new(0, t.streams, step) {
         print!(rt; "\n  stream {}", e.tlv_stream_id)?;
-        print!(rt; " original_network_id {}", e.original_network_id)?;
+        field(rt, "original_network_id", e.original_network_id)?;
         tlv_each(rt, "    ", e.descriptors.of(streams))?;
     }
     Ok(())
@@ -312,7 +307,11 @@ fn tlv_each(rt: &impl Print, pad: &str, b: &[u8]) -> io::Result<()> {
     let step = |at| nit::next_tlv(b, at);
     for d in Walk::new(0, b.len(), step) {
         let body = d.body.of(b);
-        print!(rt; "\n{pad}descriptor 0x{:02x} {}", d.tag, Hex(body))?;
+        print!(rt;
+            "\n{pad}descriptor 0x{} {}",
+            HexNumber(d.tag as u64, 2),
+            Hex(body)
+        )?;
         tlv_descriptor(rt, d.tag, body)?;
     }
     Ok(())
@@ -324,7 +323,7 @@ fn tlv_descriptor(rt: &impl Print, tag: u8, b: &[u8]) -> io::Result<()> {
         service_list(rt, p.of(b))?;
     }
     if let Some(p) = nit::network_name(tag, b) {
-        print!(rt; " network_name {}", Hex(p.of(b)))?;
+        field(rt, "network_name", Hex(p.of(b)))?;
     }
     if tag == 0x43 {
         print!(rt;
@@ -342,8 +341,10 @@ pub fn amt_section(rt: &impl Print, b: &[u8]) -> io::Result<()> {
 fn amt_table(rt: &impl Print, t: Amt, s: &[u8]) -> io::Result<()> {
     for e in Walk::new(2, t.services as usize, |at| amt::service_at(s, at)) {
         print!(rt; "\n  service {}", e.service_id)?;
-        print!(rt; " src {} mask {}", HexAddress(e.src), e.src_mask)?;
-        print!(rt; " dst {} mask {}", HexAddress(e.dst), e.dst_mask)?;
+        print!(rt; " src {}", HexAddress(e.src))?;
+        field(rt, "mask", e.src_mask)?;
+        print!(rt; " dst {}", HexAddress(e.dst))?;
+        field(rt, "mask", e.dst_mask)?;
     }
     Ok(())
 }

@@ -1,5 +1,5 @@
 // Units of an MPU payload, tables of a control payload, and what is lost between two packet numbers.
-use crate::print::Hex;
+use crate::print::{Hex, field};
 use crate::walk::Walk;
 use isdb_mmt::message::{Content, Division, Fragment};
 use isdb_mmt::mpu::{FragmentType, PayloadHeader, Unit};
@@ -10,9 +10,9 @@ use std::io;
 
 pub fn lost(rt: &impl Print, old: u32, new: u32) -> io::Result<()> {
     if mpu::follows_on(old, new) {
-        return print!(rt; " lost 0");
+        return field(rt, "lost", 0u32);
     }
-    print!(rt; " lost {}", mpu::lost(old, new))
+    field(rt, "lost", mpu::lost(old, new))
 }
 
 pub fn payload(rt: &impl Print, b: &[u8]) -> io::Result<()> {
@@ -22,32 +22,24 @@ pub fn payload(rt: &impl Print, b: &[u8]) -> io::Result<()> {
     header(rt, h)?;
     match h.fragment_type {
         FragmentType::Mfu => units(rt, mpu::declared(b), h.timed, h.aggregated),
-        _ => print!(rt; " units 0"),
+        _ => field(rt, "units", 0u32),
     }
 }
 
 fn header(rt: &impl Print, h: PayloadHeader) -> io::Result<()> {
-    print!(rt;
-        " type {} timed {}",
-        u8::from(h.fragment_type),
-        h.timed as u8
-    )?;
-    print!(rt;
-        " fragmentation {} aggregated {}",
-        u8::from(h.fragmentation),
-        h.aggregated as u8
-    )?;
-    print!(rt;
-        " counter {} mpu {}",
-        h.fragment_counter, h.mpu_sequence_number
-    )
+    field(rt, "type", u8::from(h.fragment_type))?;
+    field(rt, "timed", h.timed as u8)?;
+    field(rt, "fragmentation", u8::from(h.fragmentation))?;
+    field(rt, "aggregated", h.aggregated as u8)?;
+    field(rt, "counter", h.fragment_counter)?;
+    field(rt, "mpu", h.mpu_sequence_number)
 }
 
 fn units(rt: &impl Print, q: &[u8], timed: bool, aggregated: bool) -> io::Result<()> {
     let Some(n) = mpu::count_units(q, timed, aggregated) else {
         return print!(rt; " malformed");
     };
-    print!(rt; " units {n}")?;
+    field(rt, "units", n)?;
     let step = |at| match mpu::next_unit(q, timed, aggregated, at) {
         WalkStep::Entry(u, next) => Some((u, next)),
         _ => None,
@@ -62,17 +54,16 @@ fn unit(rt: &impl Print, u: Unit, q: &[u8]) -> io::Result<()> {
     print!(rt; "\n  unit")?;
     match (u.mfu, u.item_id) {
         (Some(h), _) => {
-            print!(rt; " movie_fragment {}", h.movie_fragment_sequence_number)?;
-            print!(rt; " sample {} offset {}", h.sample_number, h.offset)?;
-            print!(rt;
-                " priority {} dependency {}",
-                h.priority, h.dependency_counter
-            )?;
+            field(rt, "movie_fragment", h.movie_fragment_sequence_number)?;
+            field(rt, "sample", h.sample_number)?;
+            field(rt, "offset", h.offset)?;
+            field(rt, "priority", h.priority)?;
+            field(rt, "dependency", h.dependency_counter)?;
         }
-        (None, Some(n)) => print!(rt; " item {n}")?,
+        (None, Some(n)) => field(rt, "item", n)?,
         (None, None) => print!(rt; " plain")?,
     }
-    print!(rt; " data {}", Hex(u.data.of(q)))
+    field(rt, "data", Hex(u.data.of(q)))
 }
 
 // The tables of an undivided payload, and how many messages and tables do not fit; of a divided one which part it is.
@@ -139,5 +130,6 @@ fn tables(rt: &impl Print, b: &[u8], from: usize) -> io::Result<u64> {
 }
 
 fn table(rt: &impl Print, b: &[u8]) -> io::Result<()> {
-    print!(rt; "\n  table {}", Hex(b))
+    print!(rt; "\n ")?;
+    field(rt, "table", Hex(b))
 }
